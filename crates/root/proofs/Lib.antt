@@ -1,0 +1,6 @@
+pub mod Whole
+pub mod Rounded
+pub mod Steps
+pub mod Patterns
+pub mod Nearest
+pub mod Examples

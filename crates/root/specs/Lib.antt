@@ -1,0 +1,3 @@
+pub mod Root
+pub mod Steps
+pub mod Nearest
