@@ -1,0 +1,50 @@
+// The float tests and choices that document 01 names, one function each. Contracts: specs/Floats.antt.
+ghost use mathlib.Core.Path.{_≡_};
+ghost use Rattle.floats.specs.Floats.{tableFloat, bookFloat, gap, smaller};
+
+const INFINITY: u64 = 0x7ff0_0000_0000_0000;
+
+// Whether a lent table may hold x (row 4).
+pub fn is_table_float(x: f64) -> bool
+    ensures { λ r. ⌜ r ≡ tableFloat x ⌝ }
+{
+    if x <= 1000000000.0 {
+        -1000000000.0 <= x
+    } else {
+        false
+    }
+}
+
+// Whether a book may hold this bit pattern (row 4). Every pattern whose sign bit is set lies above the infinity's, as every NaN's does.
+pub fn is_book_float(bits: u64) -> bool
+    ensures { λ r. ⌜ r ≡ bookFloat bits ⌝ }
+{
+    if INFINITY < bits {
+        return false;
+    }
+    is_table_float(f64::from_bits(bits))
+}
+
+// The gap of two speeds: the size of their difference.
+pub fn speed_gap(a: f64, b: f64) -> f64
+    ensures { λ r. ⌜ r ≡ gap a b ⌝ }
+{
+    let d = a - b;
+    if d < 0.0 {
+        return -d;
+    }
+    if d == 0.0 {
+        return 0.0;
+    }
+    d
+}
+
+// The smaller of two offsets.
+pub fn smaller_offset(a: f64, b: f64) -> f64
+    ensures { λ r. ⌜ r ≡ smaller a b ⌝ }
+{
+    if a != a {
+        return b;
+    }
+    if b < a { b } else { a }
+}

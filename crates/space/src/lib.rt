@@ -1,0 +1,47 @@
+// The lent slices: their places and units, and making them zero. Contracts: specs/Space.antt.
+ghost use mathlib.Core.Path.{_≡_};
+ghost use Prim.Native.Nat.{min};
+ghost use lib.ListN.{length};
+ghost use Rattle.space.specs.Space.{placesOf, unitsOf, zeros, zeroFloats};
+
+fn smaller(a: usize, b: usize) -> usize
+    ensures { λ r. ⌜ r ≡ min a b ⌝ }
+{
+    if a <= b { a } else { b }
+}
+
+// How many nodes both slices of a table have places for.
+pub fn places(floats: usize, numbers: usize) -> usize
+    ensures { λ r. ⌜ r ≡ placesOf floats numbers ⌝ }
+{
+    smaller(smaller(floats / 4, numbers / 6), 65535)
+}
+
+// How many whole units of work space the three slices have.
+pub fn units(reals: usize, cells: usize, marks: usize) -> usize
+    ensures { λ r. ⌜ r ≡ unitsOf reals cells marks ⌝ }
+{
+    smaller(smaller(reals / 2, cells / 8), marks / 4)
+}
+
+// Makes a slice of numbers zero.
+pub fn clear_numbers(s: &mut [u32])
+    ensures { λ _. ⌜ now (s .exit) ≡ zeros (length (now (s .entry))) ⌝ }
+{
+    let mut i = 0;
+    while i < s.len() {
+        s[i] = 0;
+        i += 1;
+    }
+}
+
+// Makes a slice of floats zero.
+pub fn clear_floats(s: &mut [f64])
+    ensures { λ _. ⌜ now (s .exit) ≡ zeroFloats (length (now (s .entry))) ⌝ }
+{
+    let mut i = 0;
+    while i < s.len() {
+        s[i] = 0.0;
+        i += 1;
+    }
+}
