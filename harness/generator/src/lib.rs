@@ -1,0 +1,22 @@
+//! Random books, tables, event lists and roots: mostly accepted, damaged, and on every limit.
+//!
+//! Every item is a function of a seed and its number, so any item can be made again by itself.
+
+mod book;
+mod books;
+mod damage;
+mod driving;
+mod events;
+mod limits;
+mod networks;
+mod random;
+mod roots;
+mod tables;
+
+pub use book::{work_asked, Book, Leg, Link, Origin, Sample};
+pub use books::{book, BookItem};
+pub use events::events;
+pub use limits::{limits, Limit};
+pub use random::Random;
+pub use roots::root;
+pub use tables::{Node, Tables};

@@ -1,0 +1,429 @@
+//! Single books on each limit of rows 3 and 12, from both sides.
+
+use crate::book::{work_asked, Book, Leg, Link, Origin, Sample};
+use crate::books::BookItem;
+use crate::random::Random;
+use crate::{events, tables};
+
+/// A named case, with the answer that its construction leads one to expect (how it begins).
+pub struct Limit {
+    /// What kind of item it is: books, tables or events.
+    pub kind: &'static str,
+    pub name: String,
+    pub item: BookItem,
+    pub expected: &'static str,
+    /// Whether it takes more than a moment.
+    pub is_slow: bool,
+}
+
+fn link(length: f64, next: usize, next_alt: usize, prev: usize) -> Link {
+    let [next, next_alt, prev] = [next, next_alt, prev].map(|index| index as u32);
+    Link { length, next, next_alt, prev, prev_alt: 0 }
+}
+
+fn origins(links: impl Iterator<Item = usize>) -> Vec<Origin> {
+    links.map(|link| Origin { link: link as u32, ..Origin::default() }).collect()
+}
+
+/// A book under way: legs are appended by link and parent.
+struct Writer(Book);
+
+impl Writer {
+    /// A new leg that begins where its parent ended and takes these samples; its number.
+    fn leg(&mut self, link: usize, parent: usize, samples: &[Sample]) -> usize {
+        let mut all: Vec<Sample> =
+            self.0.legs[..parent].last().iter().map(|leg| leg.samples[leg.samples.len() - 1]).collect();
+        all.extend(samples);
+        self.0.legs.push(Leg { link: link as u32, parent: parent as u32, samples: all });
+        self.0.legs.len()
+    }
+
+    /// A new leg on which the front goes on to `offset` at `speed`, from its first moment.
+    fn run(&mut self, link: usize, parent: usize, offset: f64, speed: f64) -> usize {
+        let [time, from, before] = *self.0.legs[parent - 1].samples.last().unwrap();
+        let mut samples = vec![];
+        let mut start = time;
+        if before != speed {
+            start += 1.0;
+            samples.push([start, from, speed]);
+        }
+        samples.push([start + (offset - from) / speed, offset, speed]);
+        self.leg(link, parent, &samples)
+    }
+}
+
+/// The book of document 01.
+pub fn example() -> Book {
+    let mut book = Writer(Book {
+        gap: 1.0,
+        length: 10.0,
+        links: vec![Link::default(), link(12.0, 2, 0, 0), link(100.0, 0, 0, 1)],
+        origins: origins(1..2),
+        destinations: vec![2],
+        ..Book::default()
+    });
+    book.leg(1, 0, &[[0.0, 10.0, 0.0]]);
+    book.leg(2, 1, &[[4.0, 18.0, 4.0], [8.0, 34.0, 4.0]]);
+    book.0
+}
+
+/// A link that follows itself, taken `turns` times at speeds of their own, then once more at the
+/// first speed, which joins. Each turn lets an alternative wait; turn i leaves it i − 1 entries,
+/// `turns · (turns − 1) / 2` in all, while there are only `5 · turns + 7` nodes.
+pub fn turns(turns: usize) -> Book {
+    let mut book = Writer(Book {
+        gap: 0.5,
+        length: 1.0,
+        links: vec![Link::default(), link(10.0, 2, 0, 0), link(10.0, 2, 3, 1), link(10.0, 0, 0, 2)],
+        origins: origins(1..2),
+        destinations: vec![3],
+        ..Book::default()
+    });
+    let mut at = book.leg(1, 0, &[[0.0, 1.0, 1.0]]);
+    for turn in 1..=turns {
+        at = book.run(2, at, 10.0 * turn as f64 + 5.0, turn as f64);
+        book.run(3, at, 10.0 * turn as f64 + 10.5, turn as f64);
+    }
+    book.run(2, at, 10.0 * turns as f64 + 15.0, 1.0);
+    book.0
+}
+
+/// A link that follows itself, under a train that clears nothing; J is 0. At its n-th Arrive the
+/// run appends n − 1 nodes. There is no way out: the book ends with 10, or with 12 at a list.
+pub fn arrivals(turns: usize) -> Book {
+    let mut book = Writer(Book {
+        length: 1e6,
+        links: vec![Link::default(), link(10.0, 2, 0, 0), link(1.0, 2, 0, 1), link(10.0, 0, 0, 2)],
+        origins: origins(1..2),
+        destinations: vec![3],
+        ..Book::default()
+    });
+    let mut at = book.leg(1, 0, &[[0.0, 9.0, 1.0]]);
+    for turn in 0..turns {
+        at = book.run(2, at, 10.5 + turn as f64, 1.0);
+    }
+    book.0
+}
+
+/// How long the train of a fan is, and where it clears its first link.
+const TRAIN: f64 = 1_000.0;
+pub const FIRST_CLEAR: f64 = 2.0 * TRAIN + 1.0;
+
+/// A train passes `short` links of length 1 and stands in a long link while its path goes on over
+/// `runs - 1` links more; the destination is an alternative to each. So `runs` runs leave one
+/// node, each at a speed of its own, and clear the short links and the long one: `runs` strands of
+/// `short + 1` nexts. With `is_met`, another way from the origin arrives at the long link later and
+/// clears it: its entry's walk reads `runs * (short + 1)` nexts and gives `runs` entries, of which
+/// one is joined. Without, there are `5 + short + runs * (short + 3)` nodes.
+pub fn strands(short: usize, runs: usize, is_met: bool) -> Book {
+    fan(short, runs, is_met, |run| run.max(1) as f64)
+}
+
+/// The same with speeds to choose: of runs 1, 2, .. and, as 0, of the other way.
+pub fn fan(short: usize, runs: usize, is_met: bool, mut speed: impl FnMut(usize) -> f64) -> Book {
+    let train = TRAIN;
+    let long = short + 2;
+    let goal = long + runs;
+    let other = goal + 1;
+    let mut links = vec![Link::default(), link(train + 1.0, 2, if is_met { other } else { 0 }, 0)];
+    for at in 2..goal {
+        let length = if at == long { 10.0 * train } else { 1.0 };
+        let next_alt = if at < long || at + 1 == goal { 0 } else { goal };
+        links.push(link(length, at + 1, next_alt, at - 1));
+    }
+    links.push(link(1.0, 0, 0, goal - 1));
+    links.push(link(1.0, long, 0, 1));
+    links[long].prev_alt = other as u32;
+    let mut book = Writer(Book {
+        gap: 0.5,
+        length: train,
+        links,
+        origins: origins(1..2),
+        destinations: vec![goal as u32],
+        ..Book::default()
+    });
+    let first = book.leg(1, 0, &[[0.0, train, 1.0]]);
+    let mut at = first;
+    for passed in 2..=long {
+        at = book.run(passed, at, train + passed as f64 - 0.5, 1.0);
+    }
+    for run in 1..=runs {
+        if run > 1 {
+            at = book.leg(long + run - 1, at, &[]);
+        }
+        book.run(goal, at, 2.0 * train + short as f64 + 1.5, speed(run));
+    }
+    let second = book.run(other, first, train + 1.5, 1.0);
+    book.run(long, second, 2.0 * train + 2.5, speed(0));
+    book.0
+}
+
+/// As `strands`, but the long link is just as long as the train, so that the other way arrives at the
+/// link behind it before it clears it. No node has that event: nothing is walked, however long the
+/// strands are. The book ends with 10, since the leg after that is missing.
+fn unseen(short: usize, runs: usize) -> Book {
+    let mut book = Writer(strands(short, runs, true));
+    let long = short + 2;
+    book.0.links[long].length = TRAIN;
+    for leg in book.0.legs.iter_mut().filter(|leg| leg.link as usize == long + runs) {
+        leg.samples.last_mut().unwrap()[1] -= 1.0;
+    }
+    let other = book.0.legs.len();
+    book.0.legs[other - 1].samples.last_mut().unwrap()[1] -= 1.0;
+    book.leg(long + runs, other, &[]);
+    book.run(long + 1, other, FIRST_CLEAR + 1.5, 1.0);
+    book.0
+}
+
+/// The example with `count` links, of which only the first three are used.
+fn many_links(count: usize) -> Book {
+    let mut book = example();
+    book.links.resize(count, link(1.0, 0, 0, 0));
+    book
+}
+
+/// The example with legs that nobody asks for, `count` in all: from each link at no parent.
+fn many_legs(count: usize) -> Book {
+    let mut book = many_links(count.min(65_535));
+    let unasked = (2..count.min(65_535) as u32).map(|link| (link, 0)).chain([(1, 1)]);
+    for (link, parent) in unasked.take(count - 2) {
+        let first = [0.0, if parent == 0 { 0.5 } else { 10.0 }, 0.0];
+        book.legs.push(Leg { link, parent, samples: vec![first] });
+    }
+    book
+}
+
+/// `count` origins, each with a way of its own of one link that meets none of the others, if
+/// `are_kept`; else all but the first lead nowhere.
+fn many_origins(count: usize, are_kept: bool) -> Book {
+    let mut book = Writer(example());
+    book.0.links.truncate(1);
+    book.0.destinations.clear();
+    book.0.legs.clear();
+    for way in 0..count {
+        book.0.links.push(link(12.0, 2 * way + 2, 0, 0));
+        book.0.links.push(link(100.0, 0, 0, 2 * way + 1));
+        if way == 0 || are_kept {
+            book.0.destinations.push(2 * way as u32 + 2);
+            let first = book.leg(2 * way + 1, 0, &[[0.0, 10.0, 0.0]]);
+            book.leg(2 * way + 2, first, &[[4.0, 18.0, 4.0], [8.0, 34.0, 4.0]]);
+        }
+    }
+    book.0.origins = origins((0..count).map(|way| 2 * way + 1));
+    book.0
+}
+
+fn many_destinations(count: usize) -> Book {
+    Book { destinations: vec![2; count], ..example() }
+}
+
+/// The example with a last leg that stands for long: `count` samples in all.
+fn many_samples(count: usize) -> Book {
+    let mut book = example();
+    let more = count - 4;
+    book.legs[1].samples.extend((0..more).map(|step| [9.0 + step as f64 / 1_024.0, 34.0, 0.0]));
+    book
+}
+
+fn default_room(book: &Book) -> BookItem {
+    BookItem { bytes: book.bytes(), places: 65_535, work: None }
+}
+
+struct List(Vec<Limit>);
+
+impl List {
+    fn add(&mut self, name: impl Into<String>, item: BookItem, expected: &'static str) {
+        let is_slow = item.bytes.len() > 200_000;
+        self.0.push(Limit { kind: "books", name: name.into(), item, expected, is_slow });
+    }
+
+    /// A table or an event list.
+    fn other(&mut self, kind: &'static str, name: impl Into<String>, bytes: Vec<u8>, expected: &'static str) {
+        let item = BookItem { bytes, places: 65_535, work: None };
+        let is_slow = item.bytes.len() > 200_000;
+        self.0.push(Limit { kind, name: name.into(), item, expected, is_slow });
+    }
+
+    fn book(&mut self, name: impl Into<String>, book: &Book, expected: &'static str) {
+        self.add(name, default_room(book), expected);
+    }
+
+    fn places(&mut self, name: &str, book: &Book, places: usize, expected: &'static str) {
+        let name = format!("{name}, {places} places");
+        self.add(name, BookItem { places, ..default_room(book) }, expected);
+    }
+
+    /// Work space as much as row 3 asks for, and one byte less.
+    fn work(&mut self, name: &str, book: &Book, places: usize, accepted: &'static str) {
+        let asked = work_asked(book, places);
+        for (work, expected) in [(asked, accepted), (asked - 1, "refused 3"), (0, "refused 3")] {
+            let item = BookItem { bytes: book.bytes(), places, work: Some(work) };
+            self.add(format!("{name}, {places} places, {work} bytes of work space"), item, expected);
+        }
+    }
+}
+
+/// All named cases.
+pub fn limits() -> Vec<Limit> {
+    let mut list = List(vec![]);
+    counts(&mut list);
+    rooms(&mut list);
+    lists_and_walks(&mut list);
+    tables_and_events(&mut list);
+    times(&mut list);
+    list.0
+}
+
+fn counts(list: &mut List) {
+    let example = example();
+    let empty = [
+        ("0 links", Book { links: vec![], ..example.clone() }),
+        ("0 origins", Book { origins: vec![], ..example.clone() }),
+        ("0 destinations", Book { destinations: vec![], ..example.clone() }),
+        ("0 legs, 0 samples", Book { legs: vec![], ..example.clone() }),
+    ];
+    for (name, book) in empty {
+        list.book(name, &book, "refused 3");
+    }
+    list.add("no bytes", BookItem { bytes: vec![], places: 65_535, work: None }, "refused 1");
+    list.book("1 leg, 1 sample", &Book { legs: example.legs[..1].to_vec(), ..example.clone() }, "refused 10");
+    list.book("1 link", &Book { links: vec![Link::default()], ..example.clone() }, "refused 5");
+    list.book("65,535 links", &many_links(65_535), "nodes 8 ");
+    list.book("65,536 links", &many_links(65_536), "refused 3");
+    list.book("65,535 legs", &many_legs(65_535), "nodes 8 ");
+    list.book("65,536 legs", &many_legs(65_536), "refused 3");
+    list.book("1,000 origins, one kept", &many_origins(1_000, false), "nodes 8 ");
+    list.book("1,001 origins, one kept", &many_origins(1_001, false), "refused 3");
+    list.book("1,000 origins, all kept", &many_origins(1_000, true), "nodes 6002 ");
+    list.book("1,000 destinations", &many_destinations(1_000), "nodes 8 ");
+    list.book("1,001 destinations", &many_destinations(1_001), "refused 3");
+    list.book("1,000,000 samples", &many_samples(1_000_000), "nodes 8 ");
+    list.book("1,000,001 samples", &many_samples(1_000_001), "refused 3");
+}
+
+fn rooms(list: &mut List) {
+    let example = example();
+    for places in 0..10 {
+        list.places("example", &example, places, if places < 8 { "refused 12" } else { "nodes 8 " });
+    }
+    list.places("example", &example, 65_536, "nodes 8 ");
+    list.work("example", &example, 0, "refused 12");
+    list.work("example", &example, 8, "nodes 8 ");
+    list.work("example", &example, 65_535, "nodes 8 ");
+    list.work("example", &example, 70_000, "nodes 8 ");
+    let full = strands(68, 922, false);
+    list.places("65,535 nodes", &full, 65_535, "nodes 65535 ");
+    list.places("65,535 nodes", &full, 65_534, "refused 12");
+    list.places("65,536 nodes", &strands(148, 433, false), 70_000, "refused 12");
+}
+
+fn lists_and_walks(list: &mut List) {
+    list.book("list of 1,024 appended entries (no way out)", &arrivals(1_025), "refused 10");
+    list.book("list of 1,025 appended entries (no way out)", &arrivals(1_026), "refused 12");
+    list.book("list of 1,024 entries from one walk", &strands(0, 1_024, true), "nodes ");
+    list.book("list of 1,025 entries from one walk", &strands(0, 1_025, true), "refused 12");
+    list.book("walk of 4,096 nexts, 16 strands", &strands(255, 16, true), "nodes ");
+    list.book("walk of 4,097 nexts, 17 strands", &strands(240, 17, true), "refused 12");
+    list.book("walk of 4,096 nexts, 64 strands", &strands(63, 64, true), "nodes ");
+    list.book("walk of 4,097 nexts, 241 strands", &strands(16, 241, true), "refused 12");
+    list.book("no walk of 4,080 nexts for an event that no node has", &unseen(255, 16), "refused 10");
+    list.book("no walk of 4,608 nexts for an event that no node has", &unseen(512, 9), "refused 10");
+    for turning in [13, 16, 40] {
+        let book = turns(turning);
+        let entries = turning * (turning - 1) / 2;
+        list.places("waiting entries as many as places", &book, entries, "nodes ");
+        list.places("waiting entries one more than places", &book, entries - 1, "refused 12");
+    }
+}
+
+/// Tables of 2 and 3, 65,535 and 65,536 nodes; event lists at each of their counts.
+fn tables_and_events(list: &mut List) {
+    for (nodes, expected) in [
+        (0, "refused 3"),
+        (2, "refused 3"),
+        (3, "refused 15"),
+        (4, "nodes 4 "),
+        (65_535, "nodes 65535 "),
+        (65_536, "refused 3"),
+    ] {
+        list.other("tables", format!("table of {nodes} nodes"), tables::chain(nodes), expected);
+    }
+    for (samples, points, places, expected) in [
+        (0, 2, 9, "refused 3"),
+        (1, 0, 9, "refused 3"),
+        (1, 1, 9, "refused 11"),
+        (1, 2, 0, "events 0 "),
+        (1_000_000, 9, 9, "events 7 "),
+        (1_000_001, 9, 9, "refused 3"),
+        (2, 65_536, 65_534, "events 65534 "),
+        (2, 65_536, 65_533, "refused 12"),
+        (2, 65_537, 70_000, "refused 3"),
+    ] {
+        let name = format!("event list of {samples} samples, {points} points, {places} places");
+        list.other("events", name, events::even(samples, points, places), expected);
+    }
+}
+
+/// An event whose time is exactly -1,000,000,000 (no refusal), and one a little below.
+fn times(list: &mut List) {
+    for (metres, expected) in [(976_563.0, "events 1 "), (976_564.0, "refused 11")] {
+        let crawl = 1.0 / 1_024.0;
+        let samples = [[0.0, 0.0, crawl], [512.0, 1.0 + metres, crawl]];
+        let points = [(0.0, 1), (1.0, 2), (2e6, 0)];
+        let name = format!("event of time {}", 512.0 - metres / crawl);
+        list.other("events", name, events::item(1e7, &samples, &points, 9), expected);
+    }
+}
+
+/// A book at or near one of the limits of row 12: lists of about 1,024, walks of 4,095 to 4,097.
+pub fn near_limit(r: &mut Random) -> BookItem {
+    let book = match r.below(6) {
+        0 => arrivals(r.between(1_023, 1_028) as usize),
+        1 => strands(0, r.between(1_022, 1_027) as usize, true),
+        _ => {
+            let (runs, nexts) = r.pick(&[(15, 273), (63, 65), (16, 256), (64, 64), (17, 241), (241, 17)]);
+            strands(nexts - 1, runs, true)
+        }
+    };
+    default_room(&book)
+}
+
+#[cfg(test)]
+mod tests {
+    use super::*;
+
+    /// Document 01's listing of its book.
+    const LISTING: &str = "\
+nodes 8 added 4 splits 0 joined 0 finished 1
+0 F 0 1 0 0 0 0 0 0 0
+1 F 0 2 0 0 0 0 0 0 0
+2 A 1 3 0 1 0 0 0 4024 0
+3 C 1 4 0 2 0 0 4 4 0
+4 A 2 5 0 3 0 4 4008 4024 4
+5 C 2 6 0 4 0 4014 0 0 401
+6 F 0 7 0 5 0 4014 0 0 0
+7 F 0 0 0 6 0 4014 0 0 0
+";
+
+    #[test]
+    fn example_has_its_listing() {
+        assert_eq!(plain::book(&example().bytes(), 192, Some(65_536)), LISTING.as_bytes());
+    }
+
+    #[test]
+    fn bytes_and_fields_agree() {
+        for book in [example(), turns(5), strands(3, 4, true), arrivals(7)] {
+            let bytes = book.bytes();
+            assert_eq!(Book::parse(&bytes).unwrap().bytes(), bytes);
+        }
+    }
+
+    #[test]
+    fn limits_are_as_expected() {
+        for limit in limits().into_iter().filter(|limit| limit.kind == "books" && !limit.is_slow) {
+            let answer = plain::book(&limit.item.bytes, limit.item.places, limit.item.work);
+            let answer = String::from_utf8(answer).unwrap().replace('\n', " ");
+            assert!(answer.starts_with(limit.expected), "{}: {}", limit.name, &answer[..12]);
+        }
+    }
+}
