@@ -1,7 +1,10 @@
 // The entries for other languages. Each is thin: it calls the proved function of its crate and has its contract. include/keldurap.h has the C side.
 ghost use mathlib.Core.Path.{_≡_};
 ghost use lib.Ieee.{binary64};
+ghost use lib.ListN.{length};
 ghost use Rattle.root.specs.Root.{sqrt};
+ghost use Rattle.space.specs.Space.{bytesOf, zeros, zeroFloats};
+ghost use Rattle.reader.specs.Reader.{readNumber};
 
 // The square root of x, rounded to nearest, a tie to even.
 #[no_mangle]
@@ -9,4 +12,21 @@ pub extern "C" fn keldurap_root(x: f64) -> f64
     ensures { λ r. ⌜ r ≡ sqrt binary64 x ⌝ }
 {
     root::root(x)
+}
+
+// The number that a book gets by rows 1 to 8, and 0 where none holds. The work space is zero afterwards.
+#[no_mangle]
+pub extern "C" fn keldurap_check_book(
+    book: &[u8],
+    places: usize,
+    reals: &mut [f64],
+    cells: &mut [u32],
+    marks: &mut [u32],
+) -> u32
+    ensures number { λ r. ⌜ r ≡ readNumber (now (book .entry)) places (bytesOf (length (now (reals .entry))) (length (now (cells .entry))) (length (now (marks .entry)))) ⌝ }
+    ensures reals { λ _. ⌜ now (reals .exit) ≡ zeroFloats (length (now (reals .entry))) ⌝ }
+    ensures cells { λ _. ⌜ now (cells .exit) ≡ zeros (length (now (cells .entry))) ⌝ }
+    ensures marks { λ _. ⌜ now (marks .exit) ≡ zeros (length (now (marks .entry))) ⌝ }
+{
+    reader::check_book(book, places, reals, cells, marks)
 }

@@ -30,7 +30,7 @@ module _ {A : Type 0} where
         ∙ fill-one n v d (subst (λ (k : ℕ). n < k) (f .sized) l)
         ∙ ap (λ (k : ℕ). replicate k v ++ drop k d) (sym (add-one n));
     sized = length-set s n v ∙ f .sized;
-    within = omega (arith, f .sized)
+    within = omega (arith, f .sized);
   }
 
   pub filled-all : {v : A} {d : List A} {n : ℕ} {s : List A} → Filled v d n s → length s ≤ n → s ≡ replicate (length d) v

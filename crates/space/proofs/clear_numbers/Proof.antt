@@ -2,7 +2,6 @@
 use Prim.Native.Nat.{_-_}
 use native.Mathlib.Omega.{arith}
 use lib.ListN.{length, length-set}
-
 use Rattle.space.specs.Space.{zeros}
 use Rattle.space.proofs.Fill.{Filled, filled-none, filled-more, filled-all}
 use Rattle.space.proofs.clear_numbers.Statement.{statement}

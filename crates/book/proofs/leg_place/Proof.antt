@@ -1,0 +1,17 @@
+-- `book::leg_place` meets its contract: the row stands inside the bytes.
+use native.Mathlib.Omega.{arith}
+use Rattle.book.proofs.Places.{sized-legs-at, leg-stands}
+use Rattle.book.proofs.leg_place.Statement.{statement}
+use Rattle.book.proofs.leg_place.Tie as tie
+
+mul-result : tie.Need-mul-result
+mul-result c = omega (arith, leg-stands (c .pre .0) (c .args .i) (c .pre .1))
+
+add-result : tie.Need-add-result
+add-result c = omega (arith, leg-stands (c .before .pre .0) (c .before .args .i) (c .before .pre .1))
+
+returns : tie.Need-returns
+returns c = omega (arith, leg-stands (c .before .pre .0) (c .before .args .i) (c .before .pre .1), sized-legs-at (c .before .pre .0))
+
+pub leg-place-spec : {M : Type 1} → statement M
+leg-place-spec = tie.close (tie.spec mul-result add-result returns)

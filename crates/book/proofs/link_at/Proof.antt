@@ -1,0 +1,18 @@
+-- `book::link_at` meets its contract: each field stands in its row.
+use borrow.Author.Needs.{needs}
+use mathlib.Core.Path.{_∙_, ap}
+use Rattle.floats.specs.Floats.{bookFloat}
+use Rattle.book.proofs.Records.{link-length-of, link-of}
+use Rattle.book.proofs.link_at.Statement.{statement}
+use Rattle.book.proofs.link_at.Tie as tie
+
+float-of-requires : tie.Need-float-of-requires
+float-of-requires c κs = ap bookFloat (link-length-of _ _ (c .before .link-place .ensures .0) (c .u64-at .ensures)) ∙ c .before .before .before .pre .1 .1
+
+returns : tie.Need-returns
+returns c =
+    link-of _ _ (c .before .before .before .before .before .before .link-place .ensures .0) (c .before .before .before .before .before .u64-at .ensures) (c .before .before .before .before .float-of .ensures)
+    (c .before .before .before .u32-at .ensures) (c .before .before .u32-at2 .ensures) (c .before .u32-at3 .ensures) (c .u32-at4 .ensures)
+
+pub link-at-spec : {M : Type 1} → statement M
+link-at-spec = tie.close (tie.spec (λ c κs. search needs) (λ c κs. search needs) float-of-requires (λ c. search needs) (λ c κs. search needs) (λ c. search needs) (λ c κs. search needs) (λ c. search needs) (λ c κs. search needs) (λ c. search needs) (λ c κs. search needs) returns)

@@ -1,0 +1,18 @@
+-- `book::origin_at` meets its contract: each field stands in its row.
+use borrow.Author.Needs.{needs}
+use mathlib.Core.Path.{_∙_, ap}
+use Rattle.floats.specs.Floats.{bookFloat}
+use Rattle.book.proofs.Records.{origin-offset-of, origin-of}
+use Rattle.book.proofs.origin_at.Statement.{statement}
+use Rattle.book.proofs.origin_at.Tie as tie
+
+float-of-requires : tie.Need-float-of-requires
+float-of-requires c κs = ap bookFloat (origin-offset-of _ _ (c .before .before .origin-place .ensures .0) (c .u64-at .ensures)) ∙ c .before .before .before .before .pre .1 .1
+
+returns : tie.Need-returns
+returns c =
+    origin-of _ _ (c .before .before .before .before .origin-place .ensures .0) (c .before .before .before .u32-at .ensures) (c .before .before .u64-at .ensures) (c .before .float-of .ensures)
+    (c .u32-at2 .ensures)
+
+pub origin-at-spec : {M : Type 1} → statement M
+origin-at-spec = tie.close (tie.spec (λ c κs. search needs) (λ c κs. search needs) (λ c. search needs) (λ c κs. search needs) float-of-requires (λ c. search needs) (λ c κs. search needs) returns)

@@ -1,0 +1,4 @@
+pub mod Format
+pub mod Rows
+pub mod Chains
+pub mod Same

@@ -1,0 +1,87 @@
+-- Laws of `someBelow` and `sumBelow`: one number more, and one number below.
+use mathlib.Core.Path.{_≡_, refl, sym, ap, _∙_, subst}
+use mathlib.Core.Logic.{_⊎_, inl, inr}
+use mathlib.Core.Bool.{Bool, true, false, _||_}
+use Prim.Native.Nat.{ℕ, zero, suc, _+_, _≤_, _<_}
+use native.Mathlib.Nat.{not-suc-le-zero, le-of-suc-le-suc, eq-or-lt-of-le}
+use native.Mathlib.Numerals.{add-one}
+use native.Mathlib.Omega.{arith}
+use Rattle.fields.specs.Below.{someBelow, sumBelow}
+
+-- ---- what `||` says
+
+or-left : (a b : Bool) → a ≡ true → (a || b) ≡ true
+or-left true b e = refl
+or-left false b e = absurd (subst T e tt)
+  where
+    T : Bool → Type 0
+    T true = ⊥
+    T false = Unit
+
+or-right : (a b : Bool) → b ≡ true → (a || b) ≡ true
+or-right true b e = refl
+or-right false b e = e
+
+pub none-left : (a b : Bool) → (a || b) ≡ false → a ≡ false
+none-left true b e = e
+none-left false b e = refl
+
+pub none-right : (a b : Bool) → (a || b) ≡ false → b ≡ false
+none-right true true e = e
+none-right true false e = refl
+none-right false b e = e
+
+-- ---- one number more
+
+pub some-more : (n : ℕ) (p : ℕ → Bool) → someBelow (n + 1) p ≡ (someBelow n p || p n)
+unfolding someBelow
+some-more n p = ap (λ (k : ℕ). someBelow k p) (add-one n)
+
+pub none-more : (n : ℕ) (p : ℕ → Bool) → someBelow n p ≡ false → p n ≡ false → someBelow (n + 1) p ≡ false
+none-more n p e f = some-more n p ∙ ap (λ (b : Bool). b || p n) e ∙ f
+
+pub sum-more : (n : ℕ) (f : ℕ → ℕ) → sumBelow (n + 1) f ≡ sumBelow n f + f n
+unfolding sumBelow
+sum-more n f = ap (λ (k : ℕ). sumBelow k f) (add-one n)
+
+-- ---- one number below
+
+pub some-at : (n : ℕ) (p : ℕ → Bool) (i : ℕ) → i < n → p i ≡ true → someBelow n p ≡ true
+unfolding someBelow
+some-at zero p i h e = absurd (not-suc-le-zero h)
+some-at (suc n) p i h e = go (eq-or-lt-of-le (le-of-suc-le-suc h)) (some-at n p i)
+  where
+    go : (i ≡ n) ⊎ (i < n) → (i < n → p i ≡ true → someBelow n p ≡ true) → (someBelow n p || p n) ≡ true
+    go (inl d) ih = or-right (someBelow n p) (p n) (ap p (sym d) ∙ e)
+    go (inr l) ih = or-left (someBelow n p) (p n) (ih l e)
+
+pub none-at : (n : ℕ) (p : ℕ → Bool) (i : ℕ) → i < n → someBelow n p ≡ false → p i ≡ false
+unfolding someBelow
+none-at zero p i h e = absurd (not-suc-le-zero h)
+none-at (suc n) p i h e = go (eq-or-lt-of-le (le-of-suc-le-suc h)) (none-at n p i)
+  where
+    go : (i ≡ n) ⊎ (i < n) → (i < n → someBelow n p ≡ false → p i ≡ false) → p i ≡ false
+    go (inl d) ih = ap p d ∙ none-right (someBelow n p) (p n) e
+    go (inr l) ih = ih l (none-left (someBelow n p) (p n) e)
+
+-- with no such number below n there is none below m
+pub none-fewer : (n m : ℕ) (p : ℕ → Bool) → m ≤ n → someBelow n p ≡ false → someBelow m p ≡ false
+unfolding someBelow
+none-fewer n zero p h e = refl
+none-fewer n (suc m) p h e = go (none-fewer n m p (less m n h) e) (none-at n p m h e)
+  where
+    less : (m n : ℕ) → suc m ≤ n → m ≤ n
+    less m n h = omega arith
+
+    go : someBelow m p ≡ false → p m ≡ false → (someBelow m p || p m) ≡ false
+    go a b = ap (λ (x : Bool). x || p m) a ∙ b
+
+-- a part of the sum
+pub sum-part : (n m : ℕ) (f : ℕ → ℕ) → m ≤ n → sumBelow m f ≤ sumBelow n f
+unfolding sumBelow
+sum-part zero m f h = let e : m ≡ 0 = omega arith in subst (λ (k : ℕ). sumBelow k f ≤ 0) (sym e) (omega arith)
+sum-part (suc n) m f h = go (eq-or-lt-of-le h) (sum-part n m f)
+  where
+    go : (m ≡ suc n) ⊎ (m < suc n) → (m ≤ n → sumBelow m f ≤ sumBelow n f) → sumBelow m f ≤ sumBelow n f + f n
+    go (inl e) ih = subst (λ (k : ℕ). sumBelow k f ≤ sumBelow n f + f n) (sym e) (omega arith)
+    go (inr l) ih = let g = ih (le-of-suc-le-suc l) in omega arith

@@ -1,0 +1,5 @@
+pub mod Samples
+pub mod Chains
+pub mod Counts
+pub mod Linking
+pub mod Walking

@@ -1,0 +1,158 @@
+// A book's legs: their chains in the work space, what row 7 says of their samples, and the search for a leg. Contracts: book's specs/Chains.antt, specs/Legs.antt.
+use book::Sections;
+ghost use mathlib.Core.Path.{_≡_};
+ghost use mathlib.Core.Bool.{true, false, not, _||_};
+ghost use Prim.Native.Nat.{_+_, _*_, _-_, _≤_, _<_};
+ghost use lib.ListN.{length, getD, set};
+ghost use Rattle.fields.specs.Below.{someBelow};
+ghost use Rattle.space.specs.Space.{zeros};
+ghost use Rattle.book.specs.Format.{Sized, legs, samples, legParent, firstSample};
+ghost use Rattle.book.specs.Rows.{falls, sameSample, legFalls, legBegins};
+ghost use Rattle.book.specs.Chains.{Readable, Chained, linked};
+ghost use Rattle.legs.specs.Legs.{legSearch, beginsAt, fallsFrom};
+
+// A leg that was sought: its number, or that there is none.
+pub enum LegSearch {
+    Found(u32),
+    Missing,
+}
+
+// Whether the sample after k is no later, or further back.
+fn sample_falls(book: &[u8], s: Sections, k: usize) -> bool
+    requires { ⌜ Readable (now book) s ⌝ }
+    requires { ⌜ k + 1 < samples (now book) ⌝ }
+    ensures { λ r. ⌜ r ≡ falls (now (book .entry)) k ⌝ }
+{
+    let a = book::sample_at(book, s, k);
+    let b = book::sample_at(book, s, k + 1);
+    if a.time < b.time {
+        b.offset < a.offset
+    } else {
+        true
+    }
+}
+
+// Whether some sample of a leg falls.
+fn leg_falls(book: &[u8], s: Sections, first: usize, count: usize) -> bool
+    requires { ⌜ Readable (now book) s ⌝ }
+    requires { ⌜ first + count ≤ samples (now book) ⌝ }
+    ensures { λ r. ⌜ r ≡ fallsFrom (now (book .entry)) first count ⌝ }
+{
+    let mut k = 0;
+    while k + 1 < count {
+        if sample_falls(book, s, first + k) {
+            return true;
+        }
+        k += 1;
+    }
+    false
+}
+
+// Whether two samples are alike, bit for bit.
+fn same_sample(book: &[u8], s: Sections, j: usize, k: usize) -> bool
+    requires { ⌜ Readable (now book) s ⌝ }
+    requires { ⌜ j < samples (now book) ⌝ }
+    requires { ⌜ k < samples (now book) ⌝ }
+    ensures { λ r. ⌜ r ≡ sameSample (now (book .entry)) j k ⌝ }
+{
+    let a = book::sample_patterns(book, s, j);
+    let b = book::sample_patterns(book, s, k);
+    if a.time != b.time {
+        return false;
+    }
+    if a.offset != b.offset {
+        return false;
+    }
+    a.speed == b.speed
+}
+
+// Whether a leg's first sample is its parent's last, or a starting leg's first time the departure.
+fn leg_begins(book: &[u8], s: Sections, parent: usize, end: usize, first: usize) -> bool
+    requires { ⌜ Readable (now book) s ⌝ }
+    requires { ⌜ end - 1 < samples (now book) ⌝ }
+    requires { ⌜ first < samples (now book) ⌝ }
+    requires { ⌜ (0 < parent → 0 < end) ⌝ }
+    ensures { λ r. ⌜ r ≡ beginsAt (now (book .entry)) parent end first ⌝ }
+{
+    if parent == 0 {
+        let h = book::head_patterns(book, s);
+        let f = book::sample_patterns(book, s, first);
+        return f.time == h.departure;
+    }
+    same_sample(book, s, end - 1, first)
+}
+
+// Puts leg number j in front of its parent's children, and notes where its samples end.
+fn link_leg(cells: &mut [u32], j: usize, parent: usize, end: usize)
+    requires { ⌜ j * 8 + 2 < length (now cells) ⌝ }
+    requires { ⌜ parent * 8 < length (now cells) ⌝ }
+    requires { ⌜ j ≤ 65535 ⌝ }
+    requires { ⌜ end ≤ 1000000 ⌝ }
+    ensures { λ _. ⌜ now (cells .exit) ≡ set (set (set (now (cells .entry)) (j * 8 + 1) (getD (now (cells .entry)) (parent * 8) 0)) (parent * 8) j) (j * 8 + 2) end ⌝ }
+{
+    let before = cells[parent * 8];
+    cells[j * 8 + 1] = before;
+    cells[parent * 8] = j as u32;
+    cells[j * 8 + 2] = end as u32;
+}
+
+// Row 7 for the samples of the leg in row i: whether they fall, or don't begin where they must.
+fn leg_fails(book: &[u8], s: Sections, i: usize, end: usize, first: usize) -> bool
+    requires { ⌜ Readable (now book) s ⌝ }
+    requires { ⌜ i < legs (now book) ⌝ }
+    requires { ⌜ end ≡ firstSample (now book) (legParent (now book) i) ⌝ }
+    requires { ⌜ first ≡ firstSample (now book) i ⌝ }
+    ensures { λ r. ⌜ r ≡ (legFalls (now (book .entry)) i || not (legBegins (now (book .entry)) i)) ⌝ }
+{
+    let leg = book::leg_at(book, s, i);
+    let parent = leg.parent as usize;
+    let count = leg.samples as usize;
+    if leg_begins(book, s, parent, end, first) {
+        leg_falls(book, s, first, count)
+    } else {
+        true
+    }
+}
+
+// Links each leg to its parent in the cells, and tells whether some leg's samples fall or don't begin where they must (row 7).
+pub fn link_legs(book: &[u8], s: Sections, cells: &mut [u32]) -> bool
+    requires { ⌜ Readable (now book) s ⌝ }
+    requires { ⌜ (legs (now book) + 1) * 8 ≤ length (now cells) ⌝ }
+    requires { ⌜ now cells ≡ zeros (length (now cells)) ⌝ }
+    ensures answer { λ r. ⌜ r ≡ (someBelow (legs (now (book .entry))) (legFalls (now (book .entry))) || someBelow (legs (now (book .entry))) (λ i. not (legBegins (now (book .entry)) i))) ⌝ }
+    ensures chains { λ r. ⌜ (r ≡ false → now (cells .exit) ≡ linked (now (book .entry)) (legs (now (book .entry))) (now (cells .entry))) ⌝ }
+{
+    let mut i = 0;
+    let mut first = 0;
+    while i < s.legs {
+        let leg = book::leg_at(book, s, i);
+        let parent = leg.parent as usize;
+        let parent_end = cells[parent * 8 + 2] as usize;
+        if leg_fails(book, s, i, parent_end, first) {
+            return true;
+        }
+        first = first + leg.samples as usize;
+        link_leg(cells, i + 1, parent, first);
+        i += 1;
+    }
+    false
+}
+
+// The leg with this parent and link: a walk along the parent's children.
+pub fn find_leg(book: &[u8], s: Sections, cells: &[u32], parent: u32, link_idx: u32) -> LegSearch
+    requires { ⌜ Sized (now book) s ⌝ }
+    requires { ⌜ Chained (now book) (now cells) ⌝ }
+    requires { ⌜ parent ≤ legs (now book) ⌝ }
+    ensures { λ r. ⌜ r ≡ legSearch (now (book .entry)) parent «link_idx» ⌝ }
+{
+    let mut j = cells[parent as usize * 8];
+    while 0 < j {
+        let at = j as usize;
+        let leg = book::leg_at(book, s, at - 1);
+        if leg.link_idx == link_idx {
+            return LegSearch::Found(j);
+        }
+        j = cells[at * 8 + 1];
+    }
+    LegSearch::Missing
+}

@@ -1,0 +1,7 @@
+pub mod Given
+pub mod Laws
+pub mod Starts
+pub mod Walks
+pub mod Ends
+pub mod Kept
+pub mod Examples

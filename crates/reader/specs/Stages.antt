@@ -1,0 +1,26 @@
+-- What the stages of the reader leave. Only the contracts of private functions use these words.
+use mathlib.Core.Path.{_≡_}
+use mathlib.Core.Bool.{Bool, false}
+use mathlib.Core.List.{List}
+use Prim.Native.Nat.{ℕ}
+use Rattle.fields.specs.Below.{someBelow}
+use Rattle.book.specs.declared.Sections.{Sections}
+use Rattle.book.specs.Format.{Sized, origins, legs}
+use Rattle.book.specs.Rows.{row3, row4, row5, badOriginPlace, badLeg}
+use Rattle.book.specs.Chains.{Counted}
+use Rattle.reader.specs.declared.Tested.{Tested}
+use Rattle.reader.specs.declared.Tested.the-variants.{Left, Stopped}
+use Rattle.reader.specs.Reader.{readNumber}
+
+-- rows 1, 2, 4 and 5 don't hold, nor row 3 but for the work space, nor row 6 of a single origin
+pub record Passed (b : List ℕ) (s : Sections) : Type 0 where
+  pub sized : Sized b s
+  pub counted : Counted b
+  pub row4 : row4 b ≡ false
+  pub row5 : row5 b ≡ false
+  pub places : someBelow (origins b) (badOriginPlace b) ≡ false
+
+-- the first stage: a number, or where the sections stand and whether a single leg gives row 7
+abbrev pub TestedAs : List ℕ → ℕ → ℕ → Tested → Type 0
+TestedAs b places bytes (Stopped n) = n ≡ readNumber b places bytes
+TestedAs b places bytes (Left s late) = Passed b s × (row3 b places bytes ≡ false) × (late ≡ someBelow (legs b) (badLeg b))

@@ -1,0 +1,185 @@
+//! The numbers that books get by rows 1 to 8, against both outside answers.
+use generator::{book, limits, BookItem};
+use std::collections::BTreeMap;
+
+extern "C" {
+    fn keldurap_check_book(
+        book: *const u8,
+        book_len: usize,
+        places: usize,
+        reals: *mut f64,
+        reals_len: usize,
+        cells: *mut u32,
+        cells_len: usize,
+        marks: *mut u32,
+        marks_len: usize,
+    ) -> u32;
+}
+
+/// Work space in its three slices, kept from call to call.
+#[derive(Default)]
+pub struct Work {
+    reals: Vec<f64>,
+    cells: Vec<u32>,
+    marks: Vec<u32>,
+}
+
+impl Work {
+    /// So many bytes of work space, filled with what no call has left there.
+    fn lend(&mut self, bytes: u64) {
+        let units = (bytes / 64) as usize;
+        refill(&mut self.reals, 2 * units, f64::MAX);
+        refill(&mut self.cells, 8 * units, 0xa5a5_a5a5);
+        refill(&mut self.marks, 4 * units, 0x5a5a_5a5a);
+    }
+
+    fn is_zero(&self) -> bool {
+        self.reals.iter().all(|x| x.to_bits() == 0) && self.cells.iter().all(|&x| x == 0) && self.marks.iter().all(|&x| x == 0)
+    }
+}
+
+fn refill<T: Copy>(slice: &mut Vec<T>, len: usize, value: T) {
+    slice.clear();
+    slice.resize(len, value);
+}
+
+/// What row 3 asks for by the counts as they stand, none of them above its limit.
+fn asked(bytes: &[u8], places: usize) -> u64 {
+    let count = |at: usize| bytes.get(at..at + 4).map_or(0, |b| u32::from_le_bytes(b.try_into().unwrap()) as usize);
+    let mut at = 24;
+    let mut rows = 0;
+    for (width, limit) in [(24, 65_535), (16, 1_000), (4, 1_000), (12, 65_535)] {
+        let n = count(at);
+        rows += n.min(limit);
+        at += 4 + n * width;
+    }
+    36_864 + 64 * (rows + places.min(65_535)) as u64
+}
+
+/// The library's number of a book, or the word that it left something in the work space.
+fn ours(work: &mut Work, item: &BookItem) -> Result<u32, &'static str> {
+    work.lend(item.work.unwrap_or_else(|| asked(&item.bytes, item.places)));
+    // Pointers and lengths are those of slices that nothing else uses during the call.
+    let number = unsafe {
+        keldurap_check_book(
+            item.bytes.as_ptr(),
+            item.bytes.len(),
+            item.places,
+            work.reals.as_mut_ptr(),
+            work.reals.len(),
+            work.cells.as_mut_ptr(),
+            work.cells.len(),
+            work.marks.as_mut_ptr(),
+            work.marks.len(),
+        )
+    };
+    if work.is_zero() {
+        Ok(number)
+    } else {
+        Err("not zero")
+    }
+}
+
+/// An outside answer's number as far as rows 1 to 8 give it.
+fn number(answer: &[u8]) -> u32 {
+    let text = std::str::from_utf8(answer).unwrap();
+    match text.strip_prefix("refused ").map(|n| n.trim().parse().unwrap()) {
+        Some(n) if n <= 8 => n,
+        _ => 0,
+    }
+}
+
+/// How often each number came up, and how often an answer differed.
+#[derive(Default)]
+struct Tally {
+    numbers: BTreeMap<u32, u64>,
+    differences: u64,
+}
+
+impl Tally {
+    fn compare(&mut self, work: &mut Work, item: &BookItem, what: &str) {
+        let mine = ours(work, item);
+        let outside = [
+            number(&reference::book(&item.bytes, item.places, item.work)),
+            number(&plain::book(&item.bytes, item.places, item.work)),
+        ];
+        *self.numbers.entry(outside[0]).or_default() += 1;
+        if outside.iter().any(|&n| mine != Ok(n)) {
+            self.differences += 1;
+            if self.differences <= 10 {
+                println!("{what}: {mine:?}, outside {outside:?}");
+            }
+        }
+    }
+
+    fn print(&self, what: &str) -> u64 {
+        let numbers: Vec<String> = self.numbers.iter().map(|(n, k)| format!("{n}: {k}")).collect();
+        println!("{what}: {} ({}), {} differences", self.numbers.values().sum::<u64>(), numbers.join(", "), self.differences);
+        self.differences
+    }
+}
+
+/// The first n random books of a seed.
+pub fn check(n: u64, seed: u64) -> u64 {
+    let (mut tally, mut work) = (Tally::default(), Work::default());
+    for k in 0..n {
+        tally.compare(&mut work, &book(seed, k), &format!("book {k} of seed {seed}"));
+    }
+    tally.print("books")
+}
+
+/// The named limits that are books.
+pub fn check_limits() -> u64 {
+    let (mut tally, mut work) = (Tally::default(), Work::default());
+    for limit in limits().into_iter().filter(|l| l.kind == "books") {
+        tally.compare(&mut work, &limit.item, &limit.name);
+    }
+    tally.print("limits")
+}
+
+/// n accepted books, each damaged in every way: every byte 0, 255 and with one bit changed, every prefix, one byte more,
+/// every count 0, 1, its limit and one more, and the largest number.
+pub fn check_damage(n: u64, seed: u64) -> u64 {
+    let (mut tally, mut work) = (Tally::default(), Work::default());
+    let mut found = 0;
+    for k in 0.. {
+        if found == n {
+            break;
+        }
+        let item = book(seed, k);
+        if item.bytes.len() <= 600 && number(&plain::book(&item.bytes, item.places, item.work)) == 0 {
+            found += 1;
+            for (what, bytes) in damages(&item.bytes) {
+                let damaged = BookItem { bytes, places: item.places, work: item.work };
+                tally.compare(&mut work, &damaged, &format!("book {k} of seed {seed}, {what}"));
+            }
+        }
+    }
+    tally.print("damaged books")
+}
+
+fn damages(good: &[u8]) -> Vec<(String, Vec<u8>)> {
+    let mut all = vec![];
+    for i in 0..good.len() {
+        for value in [0, 255, good[i] ^ 1 << (i % 8)] {
+            let mut bytes = good.to_vec();
+            bytes[i] = value;
+            all.push((format!("byte {i} is {value}"), bytes));
+        }
+        all.push((format!("{i} bytes"), good[..i].to_vec()));
+    }
+    let mut more = good.to_vec();
+    more.push(0);
+    all.push(("one byte more".into(), more));
+    let mut at = 24;
+    for width in [24, 16, 4, 12, 24] {
+        let count = u32::from_le_bytes(good[at..at + 4].try_into().unwrap());
+        for value in [0, 1, 1_000, 1_001, 65_535, 65_536, 1_000_000, 1_000_001, u32::MAX] {
+            let mut bytes = good.to_vec();
+            bytes[at..at + 4].copy_from_slice(&value.to_le_bytes());
+            all.push((format!("count at {at} is {value}"), bytes));
+        }
+        at += 4 + count as usize * width;
+    }
+    all
+}
