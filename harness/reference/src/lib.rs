@@ -41,6 +41,14 @@ pub fn book(bytes: &[u8], places: usize, work: Option<u64>) -> Vec<u8> {
     })
 }
 
+/// The number of a book's bytes by rows 1 to 7, 0 where none holds: the reading alone, for timing.
+pub fn parse(bytes: &[u8], places: usize, work: Option<u64>) -> u32 {
+    match book::Book::read(bytes, places, work) {
+        Ok(_) => 0,
+        Err(number) => number,
+    }
+}
+
 /// The network before the passes, in the same form, or `refused N` with N from 1 to 13.
 pub fn grown(bytes: &[u8], places: usize, work: Option<u64>) -> Vec<u8> {
     answer(|out| {

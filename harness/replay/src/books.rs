@@ -26,7 +26,7 @@ pub struct Work {
 
 impl Work {
     /// So many bytes of work space, filled with what no call has left there.
-    fn lend(&mut self, bytes: u64) {
+    pub fn lend(&mut self, bytes: u64) {
         let units = (bytes / 64) as usize;
         refill(&mut self.reals, 2 * units, f64::MAX);
         refill(&mut self.cells, 8 * units, 0xa5a5_a5a5);
@@ -44,7 +44,7 @@ fn refill<T: Copy>(slice: &mut Vec<T>, len: usize, value: T) {
 }
 
 /// What row 3 asks for by the counts as they stand, none of them above its limit.
-fn asked(bytes: &[u8], places: usize) -> u64 {
+pub fn asked(bytes: &[u8], places: usize) -> u64 {
     let count = |at: usize| bytes.get(at..at + 4).map_or(0, |b| u32::from_le_bytes(b.try_into().unwrap()) as usize);
     let mut at = 24;
     let mut rows = 0;
@@ -56,15 +56,14 @@ fn asked(bytes: &[u8], places: usize) -> u64 {
     36_864 + 64 * (rows + places.min(65_535)) as u64
 }
 
-/// The library's number of a book, or the word that it left something in the work space.
-fn ours(work: &mut Work, item: &BookItem) -> Result<u32, &'static str> {
-    work.lend(item.work.unwrap_or_else(|| asked(&item.bytes, item.places)));
+/// The library's number of a book, in work space that is lent already.
+pub fn number_in(work: &mut Work, bytes: &[u8], places: usize) -> u32 {
     // Pointers and lengths are those of slices that nothing else uses during the call.
-    let number = unsafe {
+    unsafe {
         keldurap_check_book(
-            item.bytes.as_ptr(),
-            item.bytes.len(),
-            item.places,
+            bytes.as_ptr(),
+            bytes.len(),
+            places,
             work.reals.as_mut_ptr(),
             work.reals.len(),
             work.cells.as_mut_ptr(),
@@ -72,7 +71,13 @@ fn ours(work: &mut Work, item: &BookItem) -> Result<u32, &'static str> {
             work.marks.as_mut_ptr(),
             work.marks.len(),
         )
-    };
+    }
+}
+
+/// The library's number of a book, or the word that it left something in the work space.
+fn ours(work: &mut Work, item: &BookItem) -> Result<u32, &'static str> {
+    work.lend(item.work.unwrap_or_else(|| asked(&item.bytes, item.places)));
+    let number = number_in(work, &item.bytes, item.places);
     if work.is_zero() {
         Ok(number)
     } else {

@@ -1,7 +1,5 @@
-//! Drives the proved static library from streams, and holds it to outside answers.
-mod books;
-mod roots;
-
+//! The programs over the proved static library.
+use replay::{books, roots};
 use std::process::ExitCode;
 
 const USAGE: &str = "replay roots | check-roots [N [SEED]] | check-books [N [SEED]] | check-damage [N [SEED]] | check-limits";

@@ -1,0 +1,37 @@
+//! Times of the proved library against the reference, on the same inputs in one run.
+mod large;
+
+use std::hint::black_box;
+use std::time::Instant;
+
+/// The best of several runs, in milliseconds.
+fn best(runs: usize, mut run: impl FnMut() -> u32) -> f64 {
+    let mut least = f64::INFINITY;
+    for _ in 0..runs {
+        let start = Instant::now();
+        black_box(run());
+        least = least.min(start.elapsed().as_secs_f64() * 1e3);
+    }
+    least
+}
+
+/// Reading: ours is rows 1 to 8 with the work space made zero before and after; the reference's is rows 1 to 7 into its own vectors.
+fn reading(name: &str, bytes: &[u8], places: usize) {
+    let mut work = replay::books::Work::default();
+    work.lend(replay::books::asked(bytes, places));
+    let number = replay::books::number_in(&mut work, bytes, places);
+    assert_eq!(number, reference::parse(bytes, places, None), "{name}");
+    let ours = best(9, || replay::books::number_in(&mut work, bytes, places));
+    let theirs = best(9, || reference::parse(bytes, places, None));
+    println!("{name:<44} {ours:>9.3} {theirs:>9.3} {:>7.2}", ours / theirs);
+}
+
+fn main() {
+    println!("{:<44} {:>9} {:>9} {:>7}", "reading a book", "ours, ms", "ref., ms", "ratio");
+    for places in [192, 65_535] {
+        reading(&format!("largest, legs in a chain, {places} places"), &large::chain(), places);
+        reading(&format!("largest, legs under one parent, {places} places"), &large::fan(), places);
+    }
+    reading("1,000 legs in a chain, 192 places", &large::book(1_000, 15, true), 192);
+    reading("10,000 legs in a chain, 192 places", &large::book(10_000, 15, true), 192);
+}

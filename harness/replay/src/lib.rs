@@ -1,0 +1,3 @@
+//! Drives the proved static library, and holds it to outside answers.
+pub mod books;
+pub mod roots;
