@@ -1,0 +1,14 @@
+-- `readable::number` meets its contract: 1,024 units of work space are 65,536 bytes.
+use borrow.Author.Needs.{needs}
+use mathlib.Core.Path.{_≡_, refl, _∙_}
+use Rattle.space.specs.Space.{bytesOf, unitsOf}
+use Rattle.reader.proofs.Rooms.{number-moved}
+use Rattle.readable.proofs.number.Statement.{statement}
+use Rattle.readable.proofs.number.Tie as tie
+
+returns : tie.Need-returns
+unfolding bytesOf unitsOf
+returns c = c .before .before .before .check-book .ensures .0 ∙ number-moved _ _ _ _ _ 2048 8192 4096 refl refl refl
+
+pub number-spec : {M : Type 1} → statement M
+number-spec = tie.close (tie.spec (λ c. search needs) (λ c. search needs) (λ c. search needs) (λ c κs. search needs) returns)
