@@ -2,5 +2,6 @@ pub mod Floats
 pub mod Places
 pub mod Records
 pub mod Measures
+pub mod Given
 mod Same
 pub mod Theorems

@@ -165,8 +165,3 @@ unfoldable pub lowest : ℕ → List Bool → ℕ
 lowest n [] = 0
 lowest n (true ∷ rows) = n
 lowest n (false ∷ rows) = lowest (suc n) rows
-
--- the number of a book's bytes by rows 1 to 7, for a table of so many places and so many bytes of work space
-unfoldable pub bookNumber : List ℕ → ℕ → ℕ → ℕ
-unfolding lowest row1 row2 row3 row4 row5 row6 row7
-bookNumber b places bytes = lowest 1 (row1 b ∷ row2 b ∷ row3 b places bytes ∷ row4 b ∷ row5 b ∷ row6 b ∷ row7 b ∷ [])

@@ -3,14 +3,14 @@ use mathlib.Core.Path.{_≡_, refl, sym, ap, _∙_, subst}
 use mathlib.Core.Logic.{_⊎_, inl, inr}
 use mathlib.Core.Bool.{Bool, true, false, _||_}
 use Prim.Native.Nat.{ℕ, zero, suc, _+_, _≤_, _<_}
-use native.Mathlib.Nat.{not-suc-le-zero, le-of-suc-le-suc, eq-or-lt-of-le}
+use native.Mathlib.Nat.{le-refl, not-suc-le-zero, le-of-suc-le-suc, eq-or-lt-of-le}
 use native.Mathlib.Numerals.{add-one}
 use native.Mathlib.Omega.{arith}
 use Rattle.fields.specs.Below.{someBelow, sumBelow}
 
 -- ---- what `||` says
 
-or-left : (a b : Bool) → a ≡ true → (a || b) ≡ true
+pub or-left : (a b : Bool) → a ≡ true → (a || b) ≡ true
 or-left true b e = refl
 or-left false b e = absurd (subst T e tt)
   where
@@ -18,7 +18,7 @@ or-left false b e = absurd (subst T e tt)
     T true = ⊥
     T false = Unit
 
-or-right : (a b : Bool) → b ≡ true → (a || b) ≡ true
+pub or-right : (a b : Bool) → b ≡ true → (a || b) ≡ true
 or-right true b e = refl
 or-right false b e = e
 
@@ -63,6 +63,15 @@ none-at (suc n) p i h e = go (eq-or-lt-of-le (le-of-suc-le-suc h)) (none-at n p 
     go : (i ≡ n) ⊎ (i < n) → (i < n → someBelow n p ≡ false → p i ≡ false) → p i ≡ false
     go (inl d) ih = ap p d ∙ none-right (someBelow n p) (p n) e
     go (inr l) ih = ih l (none-left (someBelow n p) (p n) e)
+
+-- no number below n has a property that each of them lacks
+pub none-all : (n : ℕ) (q : ℕ → Bool) → ((i : ℕ) → i < n → q i ≡ false) → someBelow n q ≡ false
+unfolding someBelow
+none-all zero q f = refl
+none-all (suc n) q f = ap (λ (t : Bool). t || q n) (none-all n q (λ i h. f i (more i n h))) ∙ f n (le-refl (suc n))
+  where
+    more : (i n : ℕ) → i < n → i < suc n
+    more i n h = omega arith
 
 -- with no such number below n there is none below m
 pub none-fewer : (n m : ℕ) (p : ℕ → Bool) → m ≤ n → someBelow n p ≡ false → someBelow m p ≡ false

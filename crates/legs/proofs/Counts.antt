@@ -14,6 +14,7 @@ use Rattle.book.specs.declared.Leg.{Leg}
 use Rattle.book.specs.Format.{Sized, links, origins, legs, destinations, samples, legLink, legParent, legSamples, firstSample, legAt}
 use Rattle.book.specs.Rows.{outside, badCount, badLeg, begins, legBegins, legFalls, sameSample, falls}
 use Rattle.book.specs.Chains.{Counted, Readable}
+use Rattle.book.proofs.Given.{limits, leg-above, leg-parent, leg-samples}
 use Rattle.book.proofs.Places.{sized-legs}
 use Rattle.legs.specs.Legs.{beginsAt, fallsFrom}
 
@@ -26,18 +27,6 @@ first-next b i = sum-more i (legSamples b)
 first-part : (b : List ℕ) (i j : ℕ) → i ≤ j → firstSample b i ≤ firstSample b j
 unfolding firstSample
 first-part b i j h = sum-part j i (legSamples b) h
-
-bad-parent : (b : List ℕ) (i : ℕ) → badLeg b i ≡ false → legParent b i ≤ i
-unfolding badLeg
-bad-parent b i e = ltb-false i (legParent b i) (none-right (eqb (legLink b i) 0) (ltb i (legParent b i)) e)
-
--- limits: 65,535 legs and 1,000,000 samples
-counts-in : (b : List ℕ) → badCount b ≡ false → (legs b ≤ 65535) × (samples b ≤ 1000000)
-unfolding badCount
-counts-in b e =
-    let s = none-right (outside 65535 (links b) || outside 65535 (legs b) || outside 1000 (origins b) || outside 1000 (destinations b)) (outside 1000000 (samples b)) e in
-    let l = none-right (outside 65535 (links b)) (outside 65535 (legs b)) (none-left (outside 65535 (links b) || outside 65535 (legs b)) (outside 1000 (origins b)) (none-left (outside 65535 (links b) || outside 65535 (legs b) || outside 1000 (origins b)) (outside 1000 (destinations b)) (none-left (outside 65535 (links b) || outside 65535 (legs b) || outside 1000 (origins b) || outside 1000 (destinations b)) (outside 1000000 (samples b)) e))) in
-    (ltb-false 65535 (legs b) (none-right (eqb (legs b) 0) (ltb 65535 (legs b)) l), ltb-false 1000000 (samples b) (none-right (eqb (samples b) 0) (ltb 1000000 (samples b)) s))
 
 -- all that is wanted of the leg in row i
 pub record LegIn (b : List ℕ) (i : ℕ) : Type 0 where
@@ -67,18 +56,18 @@ module _ {b : List ℕ} {s : Sections} (r : Readable b s) where
 
   pub leg-in : (i : ℕ) → i < legs b → LegIn b i
   leg-in i h =
-      let p : legParent b i ≤ i = bad-parent b i (none-at (legs b) (badLeg b) i h (r .single)) in
+      let p : legParent b i ≤ i = leg-above b (r .single) i h in
       let n = first-next b i in
       let w : firstSample b (i + 1) ≤ firstSample b (legs b) = first-part b (i + 1) (legs b) (omega arith) in
-      let z = counts-in b (r .counted .counts) in
+      let z = limits b (r .counted .counts) in
       record {
         parent = p;
         some = some-sample i h;
         within = omega (arith, total);
         end = first-part b (legParent b i) i p;
         begun = λ (g : 0 < legParent b i). above (legParent b i) g (omega arith);
-        limit = z .1;
-        number = omega (arith, z .0);
+        limit = z .samples-most;
+        number = omega (arith, z .legs-most);
       }
     where
       above : (q : ℕ) → 0 < q → q ≤ legs b → 0 < firstSample b q
@@ -91,19 +80,6 @@ module _ {b : List ℕ} {s : Sections} (r : Readable b s) where
           one q = omega arith
 
 -- ---- row 7's two questions, by where the samples stand
-
-leg-is : (b : List ℕ) (i : ℕ) (l : Leg) → l ≡ legAt b i → (l .«link_idx» ≡ legLink b i) × (l .parent ≡ legParent b i) × (l .samples ≡ legSamples b i)
-unfolding legAt
-leg-is b i l e = (ap (λ (x : Leg). x .«link_idx») e, ap (λ (x : Leg). x .parent) e, ap (λ (x : Leg). x .samples) e)
-
-pub leg-link : (b : List ℕ) (i : ℕ) (l : Leg) → l ≡ legAt b i → l .«link_idx» ≡ legLink b i
-leg-link b i l e = leg-is b i l e .0
-
-pub leg-parent : (b : List ℕ) (i : ℕ) (l : Leg) → l ≡ legAt b i → l .parent ≡ legParent b i
-leg-parent b i l e = leg-is b i l e .1
-
-pub leg-samples : (b : List ℕ) (i : ℕ) (l : Leg) → l ≡ legAt b i → l .samples ≡ legSamples b i
-leg-samples b i l e = leg-is b i l e .2
 
 begins-same : (b : List ℕ) (i p : ℕ) → beginsAt b p (firstSample b p) (firstSample b i) ≡ begins b i p
 unfolding beginsAt

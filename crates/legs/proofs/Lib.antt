@@ -3,3 +3,4 @@ pub mod Chains
 pub mod Counts
 pub mod Linking
 pub mod Walking
+pub mod Takes

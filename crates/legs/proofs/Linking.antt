@@ -16,7 +16,8 @@ use Rattle.book.specs.declared.Leg.{Leg}
 use Rattle.book.specs.Format.{legs, legParent, legSamples, firstSample, legAt}
 use Rattle.book.specs.Rows.{legFalls, legBegins}
 use Rattle.book.specs.Chains.{linked, Readable}
-use Rattle.legs.proofs.Counts.{LegIn, leg-in, leg-parent, leg-samples, first-next}
+use Rattle.book.proofs.Given.{leg-parent, leg-samples}
+use Rattle.legs.proofs.Counts.{LegIn, leg-in, first-next}
 use Rattle.legs.proofs.Chains.{Room, linked-length, linked-ends}
 
 pub record Linking (b : List ℕ) (len : ℕ) (cells : List ℕ) (i first : ℕ) : Type 0 where

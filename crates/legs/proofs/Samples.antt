@@ -23,17 +23,7 @@ use Rattle.legs.specs.Legs.{beginsAt, fallsFrom}
 
 -- ---- one sample of a readable book
 
-row4-samples : (b : List ℕ) → row4 b ≡ false → someBelow (samples b) (badSample b) ≡ false
-unfolding row4
-row4-samples b e =
-    none-right
-    (not (bookFloat (joinBits b)) || not (bookFloat (departureBits b)) || not (bookFloat (lengthBits b)) || someBelow (links b) (λ i. not (bookFloat (linkLength b i))) || someBelow (origins b) (badOriginValue b))
-    (someBelow (samples b) (badSample b)) e
-
 module _ {b : List ℕ} {s : Sections} (r : Readable b s) where
-  pub sample-good : (k : ℕ) → k < samples b → badSample b k ≡ false
-  sample-good k h = none-at (samples b) (badSample b) k h (row4-samples b (r .floats))
-
   pub sample-within : (k : ℕ) → k < samples b → k < s .samples
   sample-within k h = subst (λ (n : ℕ). k < n) (sym (sized-samples (r .sized))) h
 

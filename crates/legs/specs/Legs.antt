@@ -1,14 +1,17 @@
--- The leg search: what it answers, and document 01's number for each answer. And what is asked of one leg's samples, by where they stand.
+-- The leg search: what it answers, document 01's number for each answer, and what the driver takes of it. And what is asked of one leg's samples, by where they stand.
 use mathlib.Core.Bool.{Bool, not, _||_}
 use mathlib.Core.List.{List}
 use Prim.Native.Nat.{ℕ, zero, suc, _+_, _-_}
 use lib.Dec.{eqb}
 use Rattle.fields.specs.Below.{someBelow}
-use Rattle.book.specs.Format.{legs, departureBits, sampleTime}
+use Rattle.book.specs.Format.{legs, departureBits, sampleTime, firstSample}
 use Rattle.book.specs.Rows.{falls, sameSample}
 use Rattle.book.specs.Chains.{legBelow}
 use Rattle.legs.specs.declared.LegSearch.{LegSearch}
 use Rattle.legs.specs.declared.LegSearch.the-variants.{Found, Missing}
+use Rattle.legs.specs.declared.TakenLeg.{TakenLeg}
+use Rattle.legs.specs.declared.Taken.{Taken}
+use Rattle.legs.specs.declared.Taken.the-variants.{Leg, Refused}
 
 -- a leg number, 0 being none
 abbrev pub searchOf : ℕ → LegSearch
@@ -23,6 +26,14 @@ legSearch b parent link = searchOf (legBelow b (legs b) parent link)
 abbrev pub searchNumber : LegSearch → ℕ
 searchNumber (Found j) = 0
 searchNumber Missing = 10
+
+-- What the driver takes: the leg's number and where its samples begin and end, or the refusal.
+abbrev pub takenBy : List ℕ → LegSearch → Taken
+takenBy b (Found j) = Leg (record { number = j; first = firstSample b (j - 1); end = firstSample b j })
+takenBy b Missing = Refused 10
+
+unfoldable pub takenLeg : List ℕ → ℕ → ℕ → Taken
+takenLeg b parent link = takenBy b (legSearch b parent link)
 
 -- ---- row 7, for the leg whose samples begin at `first`, count as many as `count`, and whose parent's end at `end`
 

@@ -9,12 +9,25 @@ ghost use Rattle.space.specs.Space.{zeros};
 ghost use Rattle.book.specs.Format.{Sized, legs, samples, legParent, firstSample};
 ghost use Rattle.book.specs.Rows.{falls, sameSample, legFalls, legBegins};
 ghost use Rattle.book.specs.Chains.{Readable, Chained, linked};
-ghost use Rattle.legs.specs.Legs.{legSearch, beginsAt, fallsFrom};
+ghost use Rattle.legs.specs.Legs.{legSearch, takenLeg, beginsAt, fallsFrom};
 
 // A leg that was sought: its number, or that there is none.
 pub enum LegSearch {
     Found(u32),
     Missing,
+}
+
+// A leg that is taken: its number, and its samples from the first up to where they end.
+pub struct TakenLeg {
+    pub number: u32,
+    pub first: usize,
+    pub end: usize,
+}
+
+// What the driver gets for a leg that it needs: the leg, or a refusal's number.
+pub enum Taken {
+    Leg(TakenLeg),
+    Refused(u32),
 }
 
 // Whether the sample after k is no later, or further back.
@@ -155,4 +168,21 @@ pub fn find_leg(book: &[u8], s: Sections, cells: &[u32], parent: u32, link_idx: 
         j = cells[at * 8 + 1];
     }
     LegSearch::Missing
+}
+
+// The leg with this parent and link, to be taken: "The leg is found or the book is refused with 10".
+pub fn take_leg(book: &[u8], s: Sections, cells: &[u32], parent: u32, link_idx: u32) -> Taken
+    requires { ⌜ Sized (now book) s ⌝ }
+    requires { ⌜ Chained (now book) (now cells) ⌝ }
+    requires { ⌜ parent ≤ legs (now book) ⌝ }
+    ensures { λ r. ⌜ r ≡ takenLeg (now (book .entry)) parent «link_idx» ⌝ }
+{
+    let found = find_leg(book, s, cells, parent, link_idx);
+    let LegSearch::Found(number) = found else {
+        return Taken::Refused(10);
+    };
+    let at = number as usize;
+    let first = cells[(at - 1) * 8 + 2] as usize;
+    let end = cells[at * 8 + 2] as usize;
+    Taken::Leg(TakenLeg { number, first, end })
 }

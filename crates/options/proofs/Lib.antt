@@ -1,4 +1,3 @@
-pub mod Given
 pub mod Laws
 pub mod Starts
 pub mod Walks

@@ -17,7 +17,7 @@ use Rattle.book.specs.Format.{links, origins, destinations, originLink, destina
 use Rattle.book.specs.Rows.{row5}
 use Rattle.options.specs.Options.{member, originBelow, stacked, search, optionsOf}
 use Rattle.options.specs.Turns.{Pushed, Numbered, stackAt, outside, unseen, unmet, Walking}
-use Rattle.options.proofs.Given.{destination-named}
+use Rattle.book.proofs.Given.{destination-named}
 use Rattle.options.proofs.Laws.{either, kept-at, stored-at}
 
 -- ---- the destinations

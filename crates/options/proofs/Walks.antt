@@ -12,7 +12,7 @@ use Rattle.book.specs.Rows.{row5}
 use Rattle.options.specs.Options.{member, originBelow, pushed, enter, search, optionsOf}
 use Rattle.options.specs.Turns.{stackAt, outside, Holds, unseen, unmet, Walking, even, popsLeft, Turned}
 use Rattle.options.specs.declared.Walk.{Walk}
-use Rattle.options.proofs.Given.{prev-named, prev-alt-named}
+use Rattle.book.proofs.Given.{prev-named, prev-alt-named}
 use Rattle.options.proofs.Laws.{outside-itself, outside-most, outside-less, in-set, not-in-set, sum-same, sum-most, sum-falls, stack-one, stack-pushed, stack-same, kept-at, mark-even, holds-fewer, holds-enter, holds-push, holds-keep}
 
 -- ---- the definition's turn

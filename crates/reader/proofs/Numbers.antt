@@ -9,7 +9,7 @@ use lib.Dec.{T, ltb}
 use lib.ListN.{length}
 use borrow.Author.Tests.{le-ltb}
 use Rattle.fields.specs.Below.{someBelow}
-use Rattle.fields.proofs.Below.{none-left, none-right}
+use Rattle.fields.proofs.Below.{or-left, none-left, none-right}
 use Rattle.book.specs.declared.Sections.{Sections}
 use Rattle.book.specs.Format.{Sized, endOf, origins, legs}
 use Rattle.book.specs.Rows.{row1, row2, row3, row4, row5, row6, row7, badOriginPlace, originRepeats, badLeg, legRepeats, legFalls, legBegins, lowest}
@@ -126,13 +126,6 @@ from-6 b s p y z e f g =
 -- row 6 where no single origin gives it
 pub row6-repeats : (b : List ℕ) (t : Bool) → someBelow (origins b) (badOriginPlace b) ≡ false → t ≡ someBelow (origins b) (originRepeats b) → row6 b ≡ t
 row6-repeats b t e d = row6-is b ∙ ap (λ (x : Bool). x || someBelow (origins b) (originRepeats b)) e ∙ sym d
-
-or-left : (a b : Bool) → a ≡ true → (a || b) ≡ true
-or-left a b e = ap (λ (x : Bool). x || b) e
-
-or-right : (a b : Bool) → b ≡ true → (a || b) ≡ true
-or-right true b e = refl
-or-right false b e = e
 
 -- row 7, by which of its parts holds
 pub row7-single : (b : List ℕ) → someBelow (legs b) (badLeg b) ≡ true → row7 b ≡ true

@@ -13,6 +13,7 @@ use Rattle.book.specs.declared.Sections.{Sections}
 use Rattle.book.specs.Format.{Sized, links, origins, destinations, legs, samples, legSamples}
 use Rattle.book.specs.Rows.{outside, badCount, workBytes, row1, row2, row3, row4, row5, row6, row7, lowest}
 use Rattle.book.specs.Chains.{Counted}
+use Rattle.book.proofs.Given.{limits}
 use Rattle.book.proofs.Places.{sized-links}
 use Rattle.options.specs.Options.{row8}
 use Rattle.reader.specs.Reader.{readNumber}
@@ -71,25 +72,9 @@ some-link b s p y z e =
 
 -- ---- capped bytes
 
-inside : (limit n : ℕ) → outside limit n ≡ false → n ≤ limit
-inside limit n e = ltb-false limit n (none-right (eqb n 0) (ltb limit n) e)
-
 asked-most : (b : List ℕ) (p : ℕ) → badCount b ≡ false → workBytes b p ≤ 64000000
-unfolding badCount workBytes
-asked-most b p e =
-    let L = outside 65535 (links b) in
-    let G = outside 65535 (legs b) in
-    let O = outside 1000 (origins b) in
-    let D = outside 1000 (destinations b) in
-    let S = outside 1000000 (samples b) in
-    let e4 = none-left (L || G || O || D) S e in
-    let e3 = none-left (L || G || O) D e4 in
-    let e2 = none-left (L || G) O e3 in
-    let l = inside 65535 (links b) (none-left L G e2) in
-    let g = inside 65535 (legs b) (none-right L G e2) in
-    let o = inside 1000 (origins b) (none-right (L || G) O e3) in
-    let d = inside 1000 (destinations b) (none-right (L || G || O) D e4) in
-    omega arith
+unfolding workBytes
+asked-most b p e = omega (arith, limits b e)
 
 same-test : (y w : ℕ) → w ≤ 64000000 → ltb (min y 64000000) w ≡ ltb y w
 same-test y w h = go (ltb y w) refl

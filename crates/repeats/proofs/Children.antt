@@ -1,4 +1,4 @@
--- Laws of the walks over the legs' children: a leg's link and parent, each way a turn of a walk can end, and each way a parent's walk can.
+-- Laws of the walks over the legs' children: each way a turn of a walk can end, and each way a parent's walk can.
 use mathlib.Core.Path.{_≡_, refl, sym, ap, _∙_, subst}
 use mathlib.Core.Logic.{_⊎_, inl, inr}
 use mathlib.Core.Bool.{Bool, true, false, _&&_, cond, or-true}
@@ -10,37 +10,17 @@ use lib.Dec.{eqb, leb, ltb}
 use lib.ListN.{length, getD, set, length-set}
 use borrow.Author.Tests.{eq-eqb, eqb-true, eqb-false, leb-false, ltb-false}
 use Rattle.fields.specs.Below.{someBelow}
-use Rattle.fields.proofs.Below.{none-at, some-at}
+use Rattle.fields.proofs.Below.{none-at, none-all, some-at}
 use Rattle.space.specs.Space.{zeros}
 use Rattle.book.specs.declared.Sections.{Sections}
 use Rattle.book.specs.declared.Leg.{Leg}
 use Rattle.book.specs.Format.{links, legs, legLink, legParent, legAt}
 use Rattle.book.specs.Rows.{row5, badCount, badLegIndex, badLeg, legRepeats}
 use Rattle.book.specs.Chains.{lastChild, Chained, Readable}
+use Rattle.book.proofs.Given.{leg-named, leg-above, leg-link}
 use Rattle.legs.proofs.Chains.{last-is}
 use Rattle.repeats.specs.Repeats.{Under, childRepeats}
-use Rattle.repeats.proofs.Marks.{part-false, equal-or-not, none-all, Marked, mark-none, mark-more, zero-under, under-more}
-
--- ---- the legs of a readable book
-
-module _ {b : List ℕ} {s : Sections} (r : Readable b s) where
-  pub few-legs : legs b ≤ 65535
-  unfolding badCount
-  few-legs = let e = r .counted .counts in ltb-false 65535 (legs b) (part-false (ltb 65535 (legs b)) (λ d. simp (d, or-true) at e))
-
-  has-link : (i : ℕ) → i < legs b → legLink b i < links b
-  unfolding row5 badLegIndex
-  has-link i h =
-      let e = r .indices in
-      let o = part-false (someBelow (legs b) (badLegIndex b)) (λ d. simp (d, or-true) at e) in
-      let f : badLegIndex b i ≡ false = none-at (legs b) (badLegIndex b) i h o in
-      leb-false (links b) (legLink b i) (part-false (leb (links b) (legLink b i)) (λ d. simp d at f))
-
-  parent-above : (i : ℕ) → i < legs b → legParent b i ≤ i
-  unfolding badLeg
-  parent-above i h =
-      let f : badLeg b i ≡ false = none-at (legs b) (badLeg b) i h (r .single) in
-      ltb-false i (legParent b i) (part-false (ltb i (legParent b i)) (λ d. simp (d, or-true) at f))
+use Rattle.repeats.proofs.Marks.{equal-or-not, Marked, mark-none, mark-more, zero-under, under-more}
 
 -- ---- the last child of the first n legs
 
@@ -123,11 +103,10 @@ next-less {b} {cells} {m₀} {m} {p} {j} ch w h = omega (arith, next-child ch w 
 -- a turn, in which the leg g was read
 module _ {b m₀ m : List ℕ} {p j : ℕ} (w : Walk b m₀ m p j) (h : 0 < j) (g : Leg) (e : g ≡ legAt b (j - 1)) where
   link-is : g .«link_idx» ≡ legLink b (j - 1)
-  unfolding legAt
-  link-is = ap (λ (x : Leg). x .«link_idx») e
+  link-is = leg-link b (j - 1) g e
 
   pub walk-link : {s : Sections} → Readable b s → links b ≤ length m₀ → g .«link_idx» < length m
-  walk-link r l = omega (arith, link-is, has-link r (j - 1) (omega (arith, w .within)), w .kept)
+  walk-link r l = omega (arith, link-is, leg-named b (r .indices) (j - 1) (omega (arith, w .within)), w .kept)
 
   -- a link that has the mark is a repeat: the child that left it has this child above it
   pub walk-found : getD m (g .«link_idx») 0 ≡ p + 1 → true ≡ someBelow (legs b) (childRepeats b p)
@@ -256,4 +235,4 @@ parents-on {b} {m₀} {m} {n} {p} w k u e = record { kept = k ∙ w .kept; under
         less a c l d = omega arith
 
 pub parents-all : {b m₀ m : List ℕ} {s : Sections} {p : ℕ} → Readable b s → Parents b m₀ m p → legs b ≤ p → false ≡ someBelow (legs b) (legRepeats b)
-parents-all {b} {m₀} {m} {s} {p} r w h = sym (none-all (legs b) (legRepeats b) (λ i l. w .none i l (omega (arith, parent-above r i l))))
+parents-all {b} {m₀} {m} {s} {p} r w h = sym (none-all (legs b) (legRepeats b) (λ i l. w .none i l (omega (arith, leg-above b (r .single) i l))))

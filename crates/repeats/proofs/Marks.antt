@@ -1,4 +1,4 @@
--- Laws of the marks, and the parts of a test that is false.
+-- Laws of the marks.
 use mathlib.Core.Path.{_≡_, refl, sym, ap, _∙_, subst}
 use mathlib.Core.Logic.{_⊎_, inl, inr}
 use mathlib.Core.Bool.{Bool, true, false, _||_}
@@ -17,26 +17,12 @@ use Rattle.repeats.specs.Repeats.{Under}
 
 -- ---- tests
 
--- a part of a test that is false: were it true, the test would be
-pub part-false : (t : Bool) → (t ≡ true → true ≡ false) → t ≡ false
-part-false true f = f refl
-part-false false f = refl
-
 pub equal-or-not : (m n : ℕ) → (m ≡ n) ⊎ (m ≡ n → ⊥)
 equal-or-not m n = go (eqb m n) refl
   where
     go : (t : Bool) → eqb m n ≡ t → (m ≡ n) ⊎ (m ≡ n → ⊥)
     go true e = inl (eqb-true m n e)
     go false e = inr (eqb-false m n e)
-
--- no number below n has a property that each of them lacks
-pub none-all : (n : ℕ) (q : ℕ → Bool) → ((i : ℕ) → i < n → q i ≡ false) → someBelow n q ≡ false
-unfolding someBelow
-none-all zero q f = refl
-none-all (suc n) q f = ap (λ (t : Bool). t || q n) (none-all n q (λ i h. f i (more i n h))) ∙ f n (le-refl (suc n))
-  where
-    more : (i n : ℕ) → i < n → i < suc n
-    more i n h = omega arith
 
 -- ---- marks: a link has the stamp exactly where it was seen
 

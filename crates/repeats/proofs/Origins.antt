@@ -16,27 +16,15 @@ use Rattle.book.specs.declared.Sections.{Sections}
 use Rattle.book.specs.declared.Origin.{Origin}
 use Rattle.book.specs.Format.{Sized, links, origins, originLink, originOffset, originAt}
 use Rattle.book.specs.Rows.{row4, row5, badOriginValue, originRepeats, noLink}
+use Rattle.book.proofs.Given.{origin-named, origin-link}
 use Rattle.book.proofs.Places.{sized-origins}
-use Rattle.repeats.proofs.Marks.{part-false, Marked, mark-none, mark-more, zero-under}
+use Rattle.repeats.proofs.Marks.{Marked, mark-none, mark-more, zero-under}
 
 -- ---- one origin
 
 module _ {b : List ℕ} {s : Sections} {i : ℕ} (z : Sized b s) (h : i < s .origins) where
-  within : i < origins b
+  pub within : i < origins b
   within = subst (λ (n : ℕ). i < n) (sized-origins z) h
-
-  pub origin-float : row4 b ≡ false → bookFloat (originOffset b i) ≡ true
-  unfolding row4 badOriginValue
-  origin-float e =
-      let o = part-false (someBelow (origins b) (badOriginValue b)) (λ d. simp (d, or-true) at e) in
-      let f : badOriginValue b i ≡ false = none-at (origins b) (badOriginValue b) i within o in
-      not-false (bookFloat (originOffset b i)) (part-false (not (bookFloat (originOffset b i))) (λ d. simp d at f))
-
-  has-link : row5 b ≡ false → originLink b i < links b
-  unfolding row5
-  has-link e =
-      let o = part-false (someBelow (origins b) (λ k. noLink b (originLink b k))) (λ d. simp (d, or-true) at e) in
-      leb-false (links b) (originLink b i) (none-at (origins b) (λ k. noLink b (originLink b k)) i within o)
 
 -- ---- the sweep
 
@@ -58,11 +46,10 @@ swept-start b m z = record { kept = refl; none = refl; marks = mark-none (zero-u
 -- a turn, in which the origin o was read
 module _ {b m₀ m : List ℕ} {s : Sections} {i : ℕ} (w : Swept b m₀ m i) (z : Sized b s) (h : i < s .origins) (o : Origin) (r : o ≡ originAt b i) where
   link-is : o .«link_idx» ≡ originLink b i
-  unfolding originAt
-  link-is = ap (λ (x : Origin). x .«link_idx») r
+  link-is = origin-link b i r
 
   pub swept-link : row5 b ≡ false → links b ≤ length m₀ → o .«link_idx» < length m
-  swept-link e l = omega (arith, link-is, has-link z h e, w .kept)
+  swept-link e l = omega (arith, link-is, origin-named b e i (within z h), w .kept)
 
   -- a link that was seen is a repeat
   pub swept-found : getD m (o .«link_idx») 0 ≡ 1 → true ≡ someBelow (origins b) (originRepeats b)

@@ -1,4 +1,4 @@
--- Row 3: the limits that counts keep, and the legs' pass.
+-- Row 3: its parts by the sections, and the legs' pass.
 -- Assumes nothing.
 use mathlib.Core.Path.{_≡_, refl, sym, subst}
 use mathlib.Core.Bool.{Bool, true, false, not, _||_}
@@ -13,36 +13,7 @@ use Rattle.book.specs.declared.Sections.{Sections}
 use Rattle.book.specs.Format.{Sized, sectionsOf, links, origins, destinations, legs, samples, legSamples}
 use Rattle.book.specs.Rows.{outside, badCount, workBytes, row3}
 
--- ---- the limits
-
--- a count that is not outside
-within : (limit n : ℕ) → outside limit n ≡ false → n ≤ limit
-within limit n e = ltb-false limit n (none-right (eqb n 0) (ltb limit n) e)
-
-pub record Limits (b : List ℕ) : Type 0 where
-  pub links-most : links b ≤ 65535
-  pub legs-most : legs b ≤ 65535
-  pub origins-most : origins b ≤ 1000
-  pub destinations-most : destinations b ≤ 1000
-  pub samples-most : samples b ≤ 1000000
-
-pub limits : (b : List ℕ) → badCount b ≡ false → Limits b
-unfolding badCount
-limits b e =
-    let p = outside 65535 (links b) in
-    let q = p || outside 65535 (legs b) in
-    let r = q || outside 1000 (origins b) in
-    let t = r || outside 1000 (destinations b) in
-    let et : t ≡ false = none-left t (outside 1000000 (samples b)) e in
-    let er : r ≡ false = none-left r (outside 1000 (destinations b)) et in
-    let eq : q ≡ false = none-left q (outside 1000 (origins b)) er in
-    record {
-      links-most = within 65535 (links b) (none-left p (outside 65535 (legs b)) eq);
-      legs-most = within 65535 (legs b) (none-right p (outside 65535 (legs b)) eq);
-      origins-most = within 1000 (origins b) (none-right q (outside 1000 (origins b)) er);
-      destinations-most = within 1000 (destinations b) (none-right r (outside 1000 (destinations b)) et);
-      samples-most = within 1000000 (samples b) (none-right t (outside 1000000 (samples b)) e);
-    }
+-- ---- the counts and the work space, by the sections
 
 pub counts-is : {b : List ℕ} {s : Sections} → Sized b s
     → (outside 65535 (s .links) || outside 65535 (s .legs) || outside 1000 (s .origins) || outside 1000 (s .destinations) || outside 1000000 (s .samples)) ≡ badCount b

@@ -3,7 +3,7 @@ use mathlib.Core.Path.{_≡_, sym, ap, _∙_, subst}
 use Prim.Native.Nat.{ℕ, _*_, _+_, _-_, _<_}
 use native.Mathlib.Omega.{arith}
 use Rattle.book.proofs.Places.{sized-legs}
-use Rattle.legs.proofs.Counts.{leg-link}
+use Rattle.book.proofs.Given.{leg-link}
 use Rattle.legs.proofs.Walking.{Walking, walking-start, walking-row, walking-on, walking-less, walking-found, walking-end}
 use Rattle.legs.proofs.find_leg.Statement.{statement}
 use Rattle.legs.proofs.find_leg.Tie as tie

@@ -2,7 +2,8 @@
 use mathlib.Core.Path.{_≡_, subst, sym}
 use Prim.Native.Nat.{ℕ, _<_}
 use native.Mathlib.Omega.{arith}
-use Rattle.legs.proofs.Counts.{leg-in, leg-within, leg-parent, leg-samples, fails-begun, fails-elsewhere}
+use Rattle.book.proofs.Given.{leg-parent, leg-samples}
+use Rattle.legs.proofs.Counts.{leg-in, leg-within, fails-begun, fails-elsewhere}
 use Rattle.legs.proofs.leg_fails.Statement.{statement}
 use Rattle.legs.proofs.leg_fails.Tie as tie
 

@@ -6,7 +6,8 @@ use native.Mathlib.Omega.{arith}
 use lib.ListN.{length}
 use Rattle.book.specs.Format.{legs}
 use Rattle.book.proofs.Places.{sized-legs}
-use Rattle.legs.proofs.Counts.{leg-in, leg-under, leg-within, leg-parent, leg-samples}
+use Rattle.book.proofs.Given.{leg-parent, leg-samples}
+use Rattle.legs.proofs.Counts.{leg-in, leg-under, leg-within}
 use Rattle.legs.proofs.Linking.{Linking, linking-start, linking-length, room-of, linking-end, linking-found, linking-on, linking-done, not-both}
 use Rattle.legs.proofs.link_legs.Statement.{statement}
 use Rattle.legs.proofs.link_legs.Tie as tie

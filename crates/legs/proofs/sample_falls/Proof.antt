@@ -1,14 +1,15 @@
 -- `legs::sample_falls` meets its contract.
 use native.Mathlib.Omega.{arith}
+use Rattle.book.proofs.Given.{sample-good}
 use Rattle.book.proofs.Places.{sized-samples}
-use Rattle.legs.proofs.Samples.{sample-good, sample-within, falls-later, falls-early}
+use Rattle.legs.proofs.Samples.{sample-within, falls-later, falls-early}
 use Rattle.legs.proofs.sample_falls.Statement.{statement}
 use Rattle.legs.proofs.sample_falls.Tie as tie
 
 sample-at-requires : tie.Need-sample-at-requires
 sample-at-requires c κs =
     let r = c .before .pre .0 in
-    (r .sized, (sample-within r _ (omega (arith, c .before .pre .1)), sample-good r _ (omega (arith, c .before .pre .1))))
+    (r .sized, (sample-within r _ (omega (arith, c .before .pre .1)), sample-good _ (r .floats) _ (omega (arith, c .before .pre .1))))
 
 add-sample-at : tie.Need-add-sample-at
 add-sample-at c = omega (arith, c .before .before .pre .1, sized-samples (c .before .before .pre .0 .sized))
@@ -16,7 +17,7 @@ add-sample-at c = omega (arith, c .before .before .pre .1, sized-samples (c .bef
 sample-at-requires-2 : tie.Need-sample-at-requires-2
 sample-at-requires-2 c κs =
     let r = c .before .before .pre .0 in
-    (r .sized, (sample-within r _ (c .before .before .pre .1), sample-good r _ (c .before .before .pre .1)))
+    (r .sized, (sample-within r _ (c .before .before .pre .1), sample-good _ (r .floats) _ (c .before .before .pre .1)))
 
 returns : tie.Need-returns
 returns c =

@@ -6,7 +6,7 @@ use lib.ListN.{length, length-set}
 use Rattle.book.specs.Format.{links, origins}
 use Rattle.book.proofs.Places.{sized-origins}
 use Rattle.options.specs.Turns.{Numbered}
-use Rattle.options.proofs.Given.{few-origins, origin-float, origin-named, origin-link}
+use Rattle.book.proofs.Given.{limits, origin-float, origin-named, origin-link}
 use Rattle.options.proofs.Starts.{numbered-none, numbered-more}
 use Rattle.options.proofs.mark_origins.Statement.{statement}
 use Rattle.options.proofs.mark_origins.Tie as tie
@@ -38,7 +38,7 @@ link c =
 few : (c : tie.After-struct-known Inv-loop μ-loop) → c .before .before .before .loop .i < 1000
 few c =
     let a = c .before .before .before .before .before .before in
-    omega (arith, row (c .before .before), few-origins (a .args .book .now) (a .pre .1 .0))
+    omega (arith, row (c .before .before), limits (a .args .book .now) (a .pre .1 .0) .origins-most)
 
 room : (c : tie.After-struct-known Inv-loop μ-loop) → links (c .before .before .before .before .before .before .args .book .now) ≤ length (c .before .before .before .loop .marks)
 room c = omega (arith, c .before .before .before .before .before .before .pre .1 .1 .1 .1 .0, c .before .before .before .loop .inv .1)

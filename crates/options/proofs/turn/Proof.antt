@@ -7,7 +7,7 @@ use lib.ListN.{length, getD, set, length-set}
 use Rattle.book.specs.Format.{links, origins, destinations}
 use Rattle.book.proofs.Places.{sized-links, sized-destinations}
 use Rattle.options.specs.Turns.{Walking}
-use Rattle.options.proofs.Given.{link-float, link-prev, link-prev-alt}
+use Rattle.book.proofs.Given.{link-float, link-prev, link-prev-alt}
 use Rattle.options.proofs.Walks.{popped-link, stack-room, kept-room, turn-seen, turn-kept, turn-first, turn-one, turn-two}
 use Rattle.options.proofs.turn.Statement.{statement}
 use Rattle.options.proofs.turn.Tie as tie

@@ -3,7 +3,8 @@ use Prim.Native.Nat.{_+_, _*_}
 use native.Mathlib.Omega.{arith}
 use borrow.Author.Needs.{needs}
 use Rattle.book.proofs.Places.{sized-legs}
-use Rattle.repeats.proofs.Children.{Walk, few-legs, walk-start, next-child, next-less, walk-link, walk-found, walk-on, walk-none}
+use Rattle.book.proofs.Given.{limits}
+use Rattle.repeats.proofs.Children.{Walk, walk-start, next-child, next-less, walk-link, walk-found, walk-on, walk-none}
 use Rattle.repeats.proofs.children_repeat.Statement.{statement}
 use Rattle.repeats.proofs.children_repeat.Tie as tie
 
@@ -14,16 +15,16 @@ abbrev μ-loop : tie.MeasureT-loop
 μ-loop book s cells marks₀ p mark j₀ marks j = j
 
 add-mark : tie.Need-add-mark Inv-loop μ-loop
-add-mark c = omega (arith, few-legs (c .before .before .before .pre .0), c .before .before .before .pre .1 .1 .1 .0)
+add-mark c = omega (arith, limits _ (c .before .before .before .pre .0 .counted .counts) .legs-most, c .before .before .before .pre .1 .1 .1 .0)
 
 cast-mark : tie.Need-cast-mark Inv-loop μ-loop
-cast-mark c = omega (arith, few-legs (c .before .before .before .pre .0), c .before .before .before .pre .1 .1 .1 .0)
+cast-mark c = omega (arith, limits _ (c .before .before .before .pre .0 .counted .counts) .legs-most, c .before .before .before .pre .1 .1 .1 .0)
 
 mul-j : tie.Need-mul-j Inv-loop μ-loop
-mul-j c = omega (arith, few-legs (c .before .before .before .pre .0), c .before .before .before .pre .1 .1 .1 .0)
+mul-j c = omega (arith, limits _ (c .before .before .before .pre .0 .counted .counts) .legs-most, c .before .before .before .pre .1 .1 .1 .0)
 
 mul-j-2 : tie.Need-mul-j-2 Inv-loop μ-loop
-mul-j-2 c = omega (arith, few-legs (c .before .before .before .pre .0), c .before .before .before .pre .1 .1 .1 .0)
+mul-j-2 c = omega (arith, limits _ (c .before .before .before .pre .0 .counted .counts) .legs-most, c .before .before .before .pre .1 .1 .1 .0)
 
 shared-slice-read-j : tie.Need-shared-slice-read-j Inv-loop μ-loop
 shared-slice-read-j c = omega (arith, c .before .before .before .before .pre .1 .0 .room, c .before .before .before .before .pre .1 .1 .1 .0)
@@ -52,13 +53,13 @@ slice-write-marks : tie.Need-slice-write-marks Inv-loop μ-loop
 slice-write-marks c = slice-read-if1 (c .before)
 
 mul-j-3 : tie.Need-mul-j-3 Inv-loop μ-loop
-mul-j-3 c = omega (arith, few-legs (c .before .before .before .before .before .before .before .before .before .before .pre .0), c .before .before .before .before .before .loop .inv .within)
+mul-j-3 c = omega (arith, limits _ (c .before .before .before .before .before .before .before .before .before .before .pre .0 .counted .counts) .legs-most, c .before .before .before .before .before .loop .inv .within)
 
 add-j : tie.Need-add-j Inv-loop μ-loop
-add-j c = omega (arith, few-legs (c .before .before .before .before .before .before .before .before .before .before .pre .0), c .before .before .before .before .before .loop .inv .within)
+add-j c = omega (arith, limits _ (c .before .before .before .before .before .before .before .before .before .before .pre .0 .counted .counts) .legs-most, c .before .before .before .before .before .loop .inv .within)
 
 mul-j-4 : tie.Need-mul-j-4 Inv-loop μ-loop
-mul-j-4 c = omega (arith, few-legs (c .before .before .before .before .before .before .before .before .before .before .pre .0), c .before .before .before .before .before .loop .inv .within)
+mul-j-4 c = omega (arith, limits _ (c .before .before .before .before .before .before .before .before .before .before .pre .0 .counted .counts) .legs-most, c .before .before .before .before .before .loop .inv .within)
 
 shared-slice-read-j-2 : tie.Need-shared-slice-read-j-2 Inv-loop μ-loop
 shared-slice-read-j-2 c = omega (arith, c .before .before .before .before .before .before .before .before .before .before .before .pre .1 .0 .room, c .before .before .before .before .before .before .loop .inv .within)

@@ -3,7 +3,8 @@ use Prim.Native.Nat.{_-_}
 use native.Mathlib.Omega.{arith}
 use borrow.Author.Needs.{needs}
 use Rattle.book.proofs.Places.{sized-origins}
-use Rattle.repeats.proofs.Origins.{Swept, origin-float, swept-start, swept-link, swept-found, swept-on, swept-all}
+use Rattle.book.proofs.Given.{origin-float}
+use Rattle.repeats.proofs.Origins.{within, Swept, swept-start, swept-link, swept-found, swept-on, swept-all}
 use Rattle.repeats.proofs.origins_repeat.Statement.{statement}
 use Rattle.repeats.proofs.origins_repeat.Tie as tie
 
@@ -17,7 +18,7 @@ loop-holds : tie.Need-loop-holds Inv-loop μ-loop
 loop-holds c = swept-start _ _ (c .before .before .pre .1 .1 .1 .1)
 
 origin-at-requires : tie.Need-origin-at-requires Inv-loop μ-loop
-origin-at-requires c κs = let q = c .before .before .before .before .before .pre in (q .0, (c .if1 .taken, origin-float (q .0) (c .if1 .taken) (q .1 .0)))
+origin-at-requires c κs = let q = c .before .before .before .before .before .pre in (q .0, (c .if1 .taken, origin-float _ (q .1 .0) _ (within (q .0) (c .if1 .taken))))
 
 slice-read-if2 : tie.Need-slice-read-if2 Inv-loop μ-loop
 slice-read-if2 c =

@@ -5,7 +5,8 @@ use mathlib.Core.Bool.{false}
 use native.Mathlib.Omega.{arith}
 use Rattle.book.specs.Rows.{badCount}
 use Rattle.book.proofs.Places.{sized-links, sized-origins, sized-destinations, sized-legs, sized-samples}
-use Rattle.rows.proofs.Counts.{limits, row-3-counts, row-3-rest}
+use Rattle.book.proofs.Given.{limits}
+use Rattle.rows.proofs.Counts.{row-3-counts, row-3-rest}
 use Rattle.rows.proofs.counts_refused.Statement.{statement}
 use Rattle.rows.proofs.counts_refused.Tie as tie
 

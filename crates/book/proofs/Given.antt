@@ -1,4 +1,5 @@
--- What rows 3 to 5 leave of a book: few origins, floats that can be read, and indices that name links.
+-- What rows 3 to 7 leave of a book: counts within their limits, floats that can be read, indices that name links, parents above their children.
+-- And the fields of a row that was read as a record.
 use mathlib.Core.Path.{_≡_, ap}
 use mathlib.Core.Bool.{Bool, true, false, not, _||_, _&&_}
 use mathlib.Core.List.{List}
@@ -8,19 +9,42 @@ use lib.Dec.{ltb, eqb}
 use Rattle.fields.specs.Below.{someBelow}
 use Rattle.fields.proofs.Below.{none-at, none-left, none-right}
 use Rattle.floats.specs.Floats.{bookFloat}
 use Rattle.book.specs.declared.Link.{Link}
 use Rattle.book.specs.declared.Origin.{Origin}
-use Rattle.book.specs.Format.{linkAt, originAt, links, origins, destinations, legs, samples, linkLength, linkNext, linkNextAlt, linkPrev, linkPrevAlt, originLink, originOffset, originFront, destinationLink, joinBits, departureBits, lengthBits}
-use Rattle.book.specs.Rows.{outside, badCount, badOriginValue, badSample, row4, noLink, linkZero, badLink, badLegIndex, row5}
+use Rattle.book.specs.declared.Leg.{Leg}
+use Rattle.book.specs.Format.{linkAt, originAt, legAt, links, origins, destinations, legs, samples, linkLength, linkNext, linkNextAlt, linkPrev, linkPrevAlt, originLink, originOffset, originFront, destinationLink, legLink, legParent, legSamples, joinBits, departureBits, lengthBits}
+use Rattle.book.specs.Rows.{outside, badCount, badOriginValue, badSample, row4, noLink, linkZero, badLink, badLegIndex, row5, badLeg}
 
-module _ (b : List ℕ) where
-  pub few-origins : badCount b ≡ false → origins b ≤ 1000
-  unfolding badCount
-  few-origins h =
-      let l = outside 65535 (links b) || outside 65535 (legs b) in
-      let o = outside 1000 (origins b) in
-      let d = outside 1000 (destinations b) in
-      ltb-false 1000 (origins b) (none-right (eqb (origins b) 0) (ltb 1000 (origins b)) (none-right l o (none-left (l || o) d (none-left (l || o || d) (outside 1000000 (samples b)) h))))
+-- ---- the limits
+
+-- a count that is not outside
+within : (limit n : ℕ) → outside limit n ≡ false → n ≤ limit
+within limit n e = ltb-false limit n (none-right (eqb n 0) (ltb limit n) e)
+
+pub record Limits (b : List ℕ) : Type 0 where
+  pub links-most : links b ≤ 65535
+  pub legs-most : legs b ≤ 65535
+  pub origins-most : origins b ≤ 1000
+  pub destinations-most : destinations b ≤ 1000
+  pub samples-most : samples b ≤ 1000000
+
+pub limits : (b : List ℕ) → badCount b ≡ false → Limits b
+unfolding badCount
+limits b e =
+    let p = outside 65535 (links b) in
+    let q = p || outside 65535 (legs b) in
+    let r = q || outside 1000 (origins b) in
+    let t = r || outside 1000 (destinations b) in
+    let et : t ≡ false = none-left t (outside 1000000 (samples b)) e in
+    let er : r ≡ false = none-left r (outside 1000 (destinations b)) et in
+    let eq : q ≡ false = none-left q (outside 1000 (origins b)) er in
+    record {
+      links-most = within 65535 (links b) (none-left p (outside 65535 (legs b)) eq);
+      legs-most = within 65535 (legs b) (none-right p (outside 65535 (legs b)) eq);
+      origins-most = within 1000 (origins b) (none-right q (outside 1000 (origins b)) er);
+      destinations-most = within 1000 (destinations b) (none-right r (outside 1000 (destinations b)) et);
+      samples-most = within 1000000 (samples b) (none-right t (outside 1000000 (samples b)) e);
+    }
 
 -- ---- row 4
 
@@ -47,6 +71,10 @@ module _ (b : List ℕ) (h : row4 b ≡ false) where
   origin-float i g =
       not-false (bookFloat (originOffset b i))
       (none-left (not (bookFloat (originOffset b i))) (ltb 1 (originFront b i)) (none-at (origins b) (badOriginValue b) i g (none-right (heads || some-links) some-origins floats)))
+
+  pub sample-good : (k : ℕ) → k < samples b → badSample b k ≡ false
+  unfolding row4
+  sample-good k g = none-at (samples b) (badSample b) k g (none-right (heads || some-links || some-origins) (someBelow (samples b) (badSample b)) h)
 
 -- ---- row 5
 
@@ -97,6 +125,20 @@ module _ (b : List ℕ) (h : row5 b ≡ false) where
   pub prev-alt-named : (l : ℕ) → l < links b → linkPrevAlt b l < links b
   prev-alt-named l g = named (linkPrevAlt b l) (none-right (nexts l || noLink b (linkPrev b l)) (noLink b (linkPrevAlt b l)) (fours l g))
 
+  pub leg-named : (i : ℕ) → i < legs b → legLink b i < links b
+  unfolding row5 badLegIndex
+  leg-named i g =
+      named (legLink b i)
+      (none-left (noLink b (legLink b i)) (ltb (legs b) (legParent b i))
+      (none-at (legs b) (badLegIndex b) i g (none-right (zero-or-links || some-origin || some-destination) (someBelow (legs b) (badLegIndex b)) h)))
+
+-- ---- row 7
+
+-- a parent stands above its child
+pub leg-above : (b : List ℕ) → someBelow (legs b) (badLeg b) ≡ false → (i : ℕ) → i < legs b → legParent b i ≤ i
+unfolding badLeg
+leg-above b h i g = ltb-false i (legParent b i) (none-right (eqb (legLink b i) 0) (ltb i (legParent b i)) (none-at (legs b) (badLeg b) i g h))
+
 -- ---- what is read of a row
 
 pub origin-link : (b : List ℕ) (i : ℕ) {o : Origin} → o ≡ originAt b i → o .«link_idx» ≡ originLink b i
@@ -110,3 +152,15 @@ link-prev b l e = ap (λ (r : Link). r .«idx_prev») e
 pub link-prev-alt : (b : List ℕ) (l : ℕ) {r : Link} → r ≡ linkAt b l → r .«idx_prev_alt» ≡ linkPrevAlt b l
 unfolding linkAt
 link-prev-alt b l e = ap (λ (r : Link). r .«idx_prev_alt») e
+
+pub leg-link : (b : List ℕ) (i : ℕ) (l : Leg) → l ≡ legAt b i → l .«link_idx» ≡ legLink b i
+unfolding legAt
+leg-link b i l e = ap (λ (x : Leg). x .«link_idx») e
+
+pub leg-parent : (b : List ℕ) (i : ℕ) (l : Leg) → l ≡ legAt b i → l .parent ≡ legParent b i
+unfolding legAt
+leg-parent b i l e = ap (λ (x : Leg). x .parent) e
+
+pub leg-samples : (b : List ℕ) (i : ℕ) (l : Leg) → l ≡ legAt b i → l .samples ≡ legSamples b i
+unfolding legAt
+leg-samples b i l e = ap (λ (x : Leg). x .samples) e
