@@ -101,3 +101,7 @@ module _ {b : List ℕ} {s : Sections} (z : Sized b s) (i : ℕ) where
 
   pub sample-stands : i < s .samples → s .«samples_at» + i * sampleWidth + sampleWidth ≤ length b
   sample-stands h = omega (arith, sized-samples-at z, sample-inside b (z .whole) i (omega (arith, sized-samples z)))
+
+-- a row's place, by where the definition has its section
+pub from-section : {at start defined : ℕ} (rows : ℕ) → at ≡ start + rows → start ≡ defined → at ≡ defined + rows
+from-section rows e d = omega arith

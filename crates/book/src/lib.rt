@@ -5,7 +5,7 @@ ghost use Prim.Native.Nat.{_+_, _*_, _≤_, _<_};
 ghost use lib.ListN.{length};
 ghost use Rattle.fields.specs.Fields.{u32At};
 ghost use Rattle.floats.specs.Floats.{bookFloat};
-ghost use Rattle.book.specs.Format.{Sized, linkWidth, originWidth, destinationWidth, legWidth, sampleWidth, linksAt, originsAt, destinationsAt, legsAt, samplesAt};
+ghost use Rattle.book.specs.Format.{Sized};
 ghost use Rattle.book.specs.Format.{linkLength, originOffset, destinationLink, linkAt, originAt, legAt, sampleAt, samplePatterns, headPatterns, floatOf};
 ghost use Rattle.book.specs.Rows.{measuredOf, badSample};
 
@@ -149,54 +149,13 @@ pub fn measure(book: &[u8]) -> Measured
     })
 }
 
-// Where a link stands.
-fn link_place(book: &[u8], s: Sections, i: usize) -> usize
-    requires { ⌜ Sized (now book) s ⌝ }
-    requires { ⌜ i < s .links ⌝ }
-    ensures is { λ r. ⌜ r ≡ linksAt + i * linkWidth ⌝ }
-    ensures inside { λ r. ⌜ r + linkWidth ≤ length (now (book .entry)) ⌝ }
+// Where row i of a section stands, whose first row stands at `at`.
+fn row_place(book: &[u8], at: usize, width: usize, i: usize) -> usize
+    requires { ⌜ at + i * width + width ≤ length (now book) ⌝ }
+    ensures is { λ r. ⌜ r ≡ at + i * width ⌝ }
+    ensures inside { λ r. ⌜ r + width ≤ length (now (book .entry)) ⌝ }
 {
-    LINKS_AT + i * LINK_WIDTH
-}
-
-// Where an origin stands.
-fn origin_place(book: &[u8], s: Sections, i: usize) -> usize
-    requires { ⌜ Sized (now book) s ⌝ }
-    requires { ⌜ i < s .origins ⌝ }
-    ensures is { λ r. ⌜ r ≡ originsAt (now (book .entry)) + i * originWidth ⌝ }
-    ensures inside { λ r. ⌜ r + originWidth ≤ length (now (book .entry)) ⌝ }
-{
-    s.origins_at + i * ORIGIN_WIDTH
-}
-
-// Where a destination stands.
-fn destination_place(book: &[u8], s: Sections, i: usize) -> usize
-    requires { ⌜ Sized (now book) s ⌝ }
-    requires { ⌜ i < s .destinations ⌝ }
-    ensures is { λ r. ⌜ r ≡ destinationsAt (now (book .entry)) + i * destinationWidth ⌝ }
-    ensures inside { λ r. ⌜ r + destinationWidth ≤ length (now (book .entry)) ⌝ }
-{
-    s.destinations_at + i * DESTINATION_WIDTH
-}
-
-// Where the leg in a row stands.
-fn leg_place(book: &[u8], s: Sections, i: usize) -> usize
-    requires { ⌜ Sized (now book) s ⌝ }
-    requires { ⌜ i < s .legs ⌝ }
-    ensures is { λ r. ⌜ r ≡ legsAt (now (book .entry)) + i * legWidth ⌝ }
-    ensures inside { λ r. ⌜ r + legWidth ≤ length (now (book .entry)) ⌝ }
-{
-    s.legs_at + i * LEG_WIDTH
-}
-
-// Where a sample stands.
-fn sample_place(book: &[u8], s: Sections, i: usize) -> usize
-    requires { ⌜ Sized (now book) s ⌝ }
-    requires { ⌜ i < s .samples ⌝ }
-    ensures is { λ r. ⌜ r ≡ samplesAt (now (book .entry)) + i * sampleWidth ⌝ }
-    ensures inside { λ r. ⌜ r + sampleWidth ≤ length (now (book .entry)) ⌝ }
-{
-    s.samples_at + i * SAMPLE_WIDTH
+    at + i * width
 }
 
 // The pattern of a link's length.
@@ -205,7 +164,7 @@ pub fn link_length(book: &[u8], s: Sections, i: usize) -> u64
     requires { ⌜ i < s .links ⌝ }
     ensures { λ r. ⌜ r ≡ linkLength (now (book .entry)) i ⌝ }
 {
-    let at = link_place(book, s, i);
+    let at = row_place(book, LINKS_AT, LINK_WIDTH, i);
     fields::u64_at(book, at)
 }
 
@@ -216,7 +175,7 @@ pub fn link_at(book: &[u8], s: Sections, i: usize) -> Link
     requires { ⌜ bookFloat (linkLength (now book) i) ≡ true ⌝ }
     ensures { λ r. ⌜ r ≡ linkAt (now (book .entry)) i ⌝ }
 {
-    let at = link_place(book, s, i);
+    let at = row_place(book, LINKS_AT, LINK_WIDTH, i);
     let length = float_of(fields::u64_at(book, at));
     let idx_next = fields::u32_at(book, at + 8);
     let idx_next_alt = fields::u32_at(book, at + 12);
@@ -237,7 +196,7 @@ pub fn origin_offset(book: &[u8], s: Sections, i: usize) -> u64
     requires { ⌜ i < s .origins ⌝ }
     ensures { λ r. ⌜ r ≡ originOffset (now (book .entry)) i ⌝ }
 {
-    let at = origin_place(book, s, i);
+    let at = row_place(book, s.origins_at, ORIGIN_WIDTH, i);
     fields::u64_at(book, at + 4)
 }
 
@@ -248,7 +207,7 @@ pub fn origin_at(book: &[u8], s: Sections, i: usize) -> Origin
     requires { ⌜ bookFloat (originOffset (now book) i) ≡ true ⌝ }
     ensures { λ r. ⌜ r ≡ originAt (now (book .entry)) i ⌝ }
 {
-    let at = origin_place(book, s, i);
+    let at = row_place(book, s.origins_at, ORIGIN_WIDTH, i);
     let link_idx = fields::u32_at(book, at);
     let offset = float_of(fields::u64_at(book, at + 4));
     let is_front_end = fields::u32_at(book, at + 12);
@@ -265,7 +224,7 @@ pub fn destination_link(book: &[u8], s: Sections, i: usize) -> u32
     requires { ⌜ i < s .destinations ⌝ }
     ensures { λ r. ⌜ r ≡ destinationLink (now (book .entry)) i ⌝ }
 {
-    let at = destination_place(book, s, i);
+    let at = row_place(book, s.destinations_at, DESTINATION_WIDTH, i);
     fields::u32_at(book, at)
 }
 
@@ -275,7 +234,7 @@ pub fn leg_at(book: &[u8], s: Sections, i: usize) -> Leg
     requires { ⌜ i < s .legs ⌝ }
     ensures { λ r. ⌜ r ≡ legAt (now (book .entry)) i ⌝ }
 {
-    let at = leg_place(book, s, i);
+    let at = row_place(book, s.legs_at, LEG_WIDTH, i);
     let link_idx = fields::u32_at(book, at);
     let parent = fields::u32_at(book, at + 4);
     let samples = fields::u32_at(book, at + 8);
@@ -292,7 +251,7 @@ pub fn sample_patterns(book: &[u8], s: Sections, i: usize) -> SamplePatterns
     requires { ⌜ i < s .samples ⌝ }
     ensures { λ r. ⌜ r ≡ samplePatterns (now (book .entry)) i ⌝ }
 {
-    let at = sample_place(book, s, i);
+    let at = row_place(book, s.samples_at, SAMPLE_WIDTH, i);
     let time = fields::u64_at(book, at);
     let offset = fields::u64_at(book, at + 8);
     let speed = fields::u64_at(book, at + 16);
