@@ -1,0 +1,12 @@
+-- `network::blank_node` meets its contract.
+use mathlib.Core.Path.{refl}
+use Rattle.network.specs.Table.{blank, noLink}
+use Rattle.network.proofs.blank_node.Statement.{statement}
+use Rattle.network.proofs.blank_node.Tie as tie
+
+returns : tie.Need-returns
+unfolding blank noLink
+returns c = refl
+
+pub blank-node-spec : {M : Type 1} → statement M
+blank-node-spec = tie.close (tie.spec returns)
