@@ -1,15 +1,21 @@
 // The square root of an f64, worked out in whole numbers. Contract: specs/Root.antt.
 ghost use mathlib.Core.Path.{_≡_};
+ghost use mathlib.Core.Bool.{true};
 ghost use Prim.Native.Nat.{_≤_, _<_, compare};
 ghost use lib.Ieee.{binary64, nearest, ofBits};
 ghost use Rattle.root.specs.Root.{sqrt};
-ghost use Rattle.root.specs.Steps.{Significant, Scales, Rooted};
+ghost use Rattle.root.specs.Steps.{Significant, Scales, Rooted, RoundedRoot};
 
 const SIGN: u64 = 0x8000_0000_0000_0000;
 
 const INFINITY: u64 = 0x7ff0_0000_0000_0000;
 // The weight of the exponent's field, which is also that of a significand's leading digit.
 const HID: u64 = 0x0010_0000_0000_0000;
+
+// START less half of x's pattern is the pattern of about 0.63 / √x.
+const START: u64 = 0x5fdb_f102_0000_0000;
+// Added and taken off again, it leaves a number below 4 with 25 binary places.
+const CUT: f64 = 201326592.0;
 
 // A magnitude of m * 2 ^ y.
 struct Significand {
@@ -114,6 +120,84 @@ fn nearest_even(q: u64, part: u64, half: u64) -> u64
     if q % 2 == 0 { q } else { q + 1 }
 }
 
+// The root of a * 2 ^ 52, rounded, by way of its digits.
+fn digit_root(a: u64) -> u64
+    requires { ⌜ 4503599627370496 ≤ a ⌝ }
+    requires { ⌜ a < 18014398509481984 ⌝ }
+    ensures { λ r. ⌜ RoundedRoot a r ⌝ }
+{
+    let w = digits(a);
+    nearest_even(w.q, w.r * 4, w.q * 4 + 1)
+}
+
+// What the root of a * 2 ^ 52, rounded, very likely is: nothing rests on it. x is a / 2 ^ 52, and z is 1 / √x but for 2 ^ -21.
+// t is near the root of x and short, so that t * t and r are exact, and the root is t + r / (t + the root).
+fn guess(a: u64) -> u64
+    requires { ⌜ a < 18014398509481984 ⌝ }
+    ensures { λ r. ⌜ r < 9007199254740992 ⌝ }
+{
+    let p = if a < 2 * HID { a + 1022 * HID } else { a / 2 + 1023 * HID };
+    let x = f64::from_bits(p);
+    let s = f64::from_bits(START - p / 2);
+    let y = 1.188925 * s - x * s * (s * s);
+    let z = 3.008115 * y - 4.032544 * x * y * (y * y);
+    let t = x * z + CUT - CUT;
+    let r = x - t * t;
+    let g = t + r / (2.0 * t + 0.5 * z * r);
+    if g != g {
+        return HID;
+    }
+    HID + f64::to_bits(g) % HID
+}
+
+// Whether n is the root of a * 2 ^ 52, rounded: whether a * 2 ^ 52 + n - n * n lies from 1 to 2 * n.
+// n is h * 2 ^ 27 + l. The squares' parts are taken off one by one, with 2 ^ 54 lent, and what is left stays small if n is right.
+fn is_nearest(a: u64, n: u64) -> bool
+    requires { ⌜ 4503599627370496 ≤ a ⌝ }
+    requires { ⌜ a < 18014398509481984 ⌝ }
+    requires { ⌜ n < 9007199254740992 ⌝ }
+    ensures { λ r. ⌜ (r ≡ true → RoundedRoot a n) ⌝ }
+{
+    let h = n / 134217728;
+    let l = n % 134217728;
+    let top = h * h * 4;
+    if a < top {
+        return false;
+    }
+    let d = a - top;
+    if 274877906944 <= d {
+        return false;
+    }
+    let rest = d * 33554432 + 134217728;
+    let cross = h * l * 2;
+    if rest < cross {
+        return false;
+    }
+    let e = rest - cross;
+    if 68719476736 <= e {
+        return false;
+    }
+    let have = e * 134217728 + n;
+    let take = l * l + 18014398509481984;
+    if have <= take {
+        return false;
+    }
+    have - take <= n * 2
+}
+
+// The root of a * 2 ^ 52, rounded: the guess, where it is right.
+fn rounded_root(a: u64) -> u64
+    requires { ⌜ 4503599627370496 ≤ a ⌝ }
+    requires { ⌜ a < 18014398509481984 ⌝ }
+    ensures { λ r. ⌜ RoundedRoot a r ⌝ }
+{
+    let n = guess(a);
+    if is_nearest(a, n) {
+        return n;
+    }
+    digit_root(a)
+}
+
 // The root of a positive number, from its pattern.
 fn positive_root(bits: u64) -> f64
     requires { ⌜ 0 < bits ⌝ }
@@ -121,8 +205,7 @@ fn positive_root(bits: u64) -> f64
     ensures { λ r. ⌜ r ≡ sqrt binary64 (ofBits binary64 bits) ⌝ }
 {
     let s = scale(bits);
-    let w = digits(s.a);
-    let n = nearest_even(w.q, w.r * 4, w.q * 4 + 1);
+    let n = rounded_root(s.a);
     f64::from_bits(s.k * HID + n)
 }
 
