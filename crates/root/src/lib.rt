@@ -14,8 +14,8 @@ const HID: u64 = 0x0010_0000_0000_0000;
 
 // START less half of x's pattern is the pattern of about 0.63 / √x.
 const START: u64 = 0x5fdb_f102_0000_0000;
-// Added and taken off again, it leaves a number below 4 with 25 binary places.
-const CUT: f64 = 201326592.0;
+// Added to a number near 1 and taken off again, it leaves 26 binary places of it.
+const CUT: f64 = 100663296.0;
 
 // A magnitude of m * 2 ^ y.
 struct Significand {
@@ -130,13 +130,13 @@ fn digit_root(a: u64) -> u64
     nearest_even(w.q, w.r * 4, w.q * 4 + 1)
 }
 
-// What the root of a * 2 ^ 52, rounded, very likely is: nothing rests on it. x is a / 2 ^ 52, and z is 1 / √x but for 2 ^ -21.
-// t is near the root of x and short, so that t * t and r are exact, and the root is t + r / (t + the root).
-fn guess(a: u64) -> u64
-    requires { ⌜ a < 18014398509481984 ⌝ }
+// The 53 leading digits of a root, nearly always the right ones for a normal number's pattern: nothing rests on them.
+// x has these digits and an exponent of the same parity, and z is 1 / √x but for 2 ^ -21. t is near the root of x and so short
+// that t * t and r are exact. The root is t + r / (t + root), and the root below the line needs few digits.
+fn guess(bits: u64) -> u64
     ensures { λ r. ⌜ r < 9007199254740992 ⌝ }
 {
-    let p = if a < 2 * HID { a + 1022 * HID } else { a / 2 + 1023 * HID };
+    let p = bits % (2 * HID) + 1022 * HID;
     let x = f64::from_bits(p);
     let s = f64::from_bits(START - p / 2);
     let y = 1.188925 * s - x * s * (s * s);
@@ -150,8 +150,9 @@ fn guess(a: u64) -> u64
     HID + f64::to_bits(g) % HID
 }
 
-// Whether n is the root of a * 2 ^ 52, rounded: whether a * 2 ^ 52 + n - n * n lies from 1 to 2 * n.
-// n is h * 2 ^ 27 + l. The squares' parts are taken off one by one, with 2 ^ 54 lent, and what is left stays small if n is right.
+// Whether n is the root of a * 2 ^ 52, rounded: whether a * 2 ^ 52 + n is above n * n, by 2 * n at most.
+// n is h * 2 ^ 27 + l, and the three parts of n * n are taken off one by one. 2 ^ 54 is lent before the second and given back with the third.
+// Where n is right all that is left is small, so a number too large to go on with is no root.
 fn is_nearest(a: u64, n: u64) -> bool
     requires { ⌜ 4503599627370496 ≤ a ⌝ }
     requires { ⌜ a < 18014398509481984 ⌝ }
@@ -185,13 +186,13 @@ fn is_nearest(a: u64, n: u64) -> bool
     have - take <= n * 2
 }
 
-// The root of a * 2 ^ 52, rounded: the guess, where it is right.
-fn rounded_root(a: u64) -> u64
+// The root of a * 2 ^ 52, rounded: n, where it is that, and otherwise by way of the digits.
+fn rounded_root(a: u64, n: u64) -> u64
     requires { ⌜ 4503599627370496 ≤ a ⌝ }
     requires { ⌜ a < 18014398509481984 ⌝ }
+    requires { ⌜ n < 9007199254740992 ⌝ }
     ensures { λ r. ⌜ RoundedRoot a r ⌝ }
 {
-    let n = guess(a);
     if is_nearest(a, n) {
         return n;
     }
@@ -205,7 +206,7 @@ fn positive_root(bits: u64) -> f64
     ensures { λ r. ⌜ r ≡ sqrt binary64 (ofBits binary64 bits) ⌝ }
 {
     let s = scale(bits);
-    let n = rounded_root(s.a);
+    let n = rounded_root(s.a, guess(bits));
     f64::from_bits(s.k * HID + n)
 }
 

@@ -1,27 +1,18 @@
 -- `root::guess` meets its contract: a pattern below the infinity's is a number's, and the digits of any pattern are few enough.
 use borrow.Author.Needs.{needs}
-use Prim.Native.Nat.{_<_}
-use mathlib.Core.Logic.{⊎-elim}
 use native.Mathlib.Omega.{arith}
 use Rattle.root.proofs.Patterns.{number-pattern, not-nan}
 use Rattle.root.proofs.guess.Statement.{statement}
 use Rattle.root.proofs.guess.Tie as tie
 
--- the pattern of a number below 4
-small : (c : tie.Joined1) → c .if1 .p < 4616189618054758400
-small c = ⊎-elim (λ w. omega (arith, w, c .before .pre)) (λ w. omega (arith, w, c .before .pre)) (c .if1 .came)
-
 float-from-bits-x : tie.Need-float-from-bits-x
-float-from-bits-x c = number-pattern _ (omega (arith, small c))
-
-sub-s : tie.Need-sub-s
-sub-s c = omega (arith, small (c .before))
+float-from-bits-x c = number-pattern _ (omega arith)
 
 float-from-bits-s : tie.Need-float-from-bits-s
-float-from-bits-s c = number-pattern _ (omega (arith, small (c .before)))
+float-from-bits-s c = number-pattern _ (omega arith)
 
 float-to-bits-result : tie.Need-float-to-bits-result
-float-to-bits-result c = not-nan _ (c .if2 .left)
+float-to-bits-result c = not-nan _ (c .if1 .left)
 
 pub guess-spec : {M : Type 1} → statement M
 guess-spec =
@@ -31,9 +22,8 @@ guess-spec =
     (λ c. search needs)
     (λ c. search needs)
     (λ c. search needs)
-    (λ c. search needs)
     float-from-bits-x
-    sub-s
+    (λ c. search needs)
     float-from-bits-s
     (λ c. search needs)
     float-to-bits-result
