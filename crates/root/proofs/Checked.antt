@@ -2,7 +2,6 @@
 use mathlib.Core.Path.{_≡_, refl, sym, ap, _∙_, subst}
 use mathlib.Core.Bool.{Bool, true, false, not}
 use Prim.Native.Nat.{ℕ, zero, suc, _+_, _-_, _*_, _/_, _%_, _≤_, _<_, compare, Ordering·lt, Ordering·gt}
-use native.Mathlib.Nat.{mul-le-mul}
 use native.Mathlib.Numerals.{add-one}
 use native.Mathlib.Omega.{arith}
 use lib.Dec.{T, leb, leb→le, nleb→lt}
@@ -43,28 +42,31 @@ near-rounded a n l s above below = go n s above below (leb (n * n) A) (leb→le 
         (just-below a q A refl l (subst (λ (x : ℕ). x < 9007199254740992) (sym (add-one q)) s)
         (subst (λ (x : ℕ). A < x * x) (sym (add-one q)) (k tt)) (subst (λ (x : ℕ). x * x < A + x) (sym (add-one q)) above))
 
--- the parts of n * n, n being h * 2 ^ 27 + l, taken off a * 2 ^ 52 one by one
-parts : (a n h l d e : ℕ) → n ≡ h * 134217728 + l → d + h * h * 4 ≡ a → e + h * l * 2 ≡ d * 33554432 + 134217728
-    → a * 4503599627370496 + n + (l * l + 18014398509481984) ≡ n * n + (e * 134217728 + n)
+-- the parts of n * n, n being h * 2 ^ 27 + l, taken off (a + 4) * 2 ^ 52 one by one
+parts : (a n h l d e : ℕ) → n ≡ h * 134217728 + l → d + h * 2 * (h * 2) ≡ a + 4 → e + h * 2 * l ≡ d * 33554432
+    → a * 4503599627370496 + 18014398509481984 + l * l ≡ n * n + e * 134217728
 parts a n h l d e i j k =
     let s : n * n ≡ (h * 134217728 + l) * (h * 134217728 + l) = ap (λ (x : ℕ). x * x) i in
     omega arith
 
--- what the test looked at: a - top, what is left of it with the cross part off, and both sides of the last step
-pub checked : (a n h l : ℕ) → 4503599627370496 ≤ a → n < 9007199254740992 → n ≡ h * 134217728 + l → h * h * 4 ≤ a
-    → h * l * 2 ≤ (a - h * h * 4) * 33554432 + 134217728
-    → l * l + 18014398509481984 < ((a - h * h * 4) * 33554432 + 134217728 - h * l * 2) * 134217728 + n
-    → ((a - h * h * 4) * 33554432 + 134217728 - h * l * 2) * 134217728 + n - (l * l + 18014398509481984) ≤ n * 2 → RoundedRoot a n
+-- what is left is `have`, of which l * l and the rest of what was lent are still to be taken
+pub checked : (a n h l : ℕ) → 4503599627370496 ≤ a → n < 9007199254740992 → n ≡ h * 134217728 + l → h * 2 * (h * 2) ≤ a + 4
+    → h * 2 * l ≤ (a + 4 - h * 2 * (h * 2)) * 33554432
+    → l * l + (18014398509481984 - n) < ((a + 4 - h * 2 * (h * 2)) * 33554432 - h * 2 * l) * 134217728
+    → ((a + 4 - h * 2 * (h * 2)) * 33554432 - h * 2 * l) * 134217728 - (l * l + (18014398509481984 - n)) ≤ n * 2 → RoundedRoot a n
 checked a n h l lo s i top cross over most =
-    let d = a - h * h * 4 in
-    let e = d * 33554432 + 134217728 - h * l * 2 in
-    let take = l * l + 18014398509481984 in
-    let have = e * 134217728 + n in
-    let p : a * 4503599627370496 + n + take ≡ n * n + have = parts a n h l d e i (omega arith) (omega arith) in
-    near-rounded a n lo s (before (a * 4503599627370496) n (n * n) take have p over) (after (a * 4503599627370496) n (n * n) take have p most)
+    let d = a + 4 - h * 2 * (h * 2) in
+    let e = d * 33554432 - h * 2 * l in
+    let take = l * l + (18014398509481984 - n) in
+    let p : a * 4503599627370496 + 18014398509481984 + l * l ≡ n * n + e * 134217728 = parts a n h l d e i (omega arith) (omega arith) in
+    let b : a * 4503599627370496 + n + take ≡ n * n + e * 134217728 = back (a * 4503599627370496) n (l * l) (n * n + e * 134217728) s p in
+    near-rounded a n lo s (above (a * 4503599627370496) n (n * n) take (e * 134217728) b over) (within (a * 4503599627370496) n (n * n) take (e * 134217728) b most)
   where
-    before : (A n s t v : ℕ) → A + n + t ≡ s + v → t < v → s < A + n
-    before A n s t v e h = omega arith
+    back : (A n s t : ℕ) → n < 9007199254740992 → A + 18014398509481984 + s ≡ t → A + n + (s + (18014398509481984 - n)) ≡ t
+    back A n s t h e = omega arith
 
-    after : (A n s t v : ℕ) → A + n + t ≡ s + v → v - t ≤ n * 2 → A ≤ s + n
-    after A n s t v e h = omega arith
+    above : (A n s t v : ℕ) → A + n + t ≡ s + v → t < v → s < A + n
+    above A n s t v e h = omega arith
+
+    within : (A n s t v : ℕ) → A + n + t ≡ s + v → v - t ≤ n * 2 → A ≤ s + n
+    within A n s t v e h = omega arith

@@ -151,35 +151,36 @@ fn guess(bits: u64) -> u64
 }
 
 // Whether n is the root of a * 2 ^ 52, rounded: whether a * 2 ^ 52 + n is above n * n, by 2 * n at most.
-// n is h * 2 ^ 27 + l, and the three parts of n * n are taken off one by one. 2 ^ 54 is lent before the second and given back with the third.
-// Where n is right all that is left is small, so a number too large to go on with is no root.
+// n is h / 2 * 2 ^ 27 + l, and the three parts of n * n are taken off one by one, with 4 * 2 ^ 52 lent.
+// Where n is right little is left each time, so a rest that is too large to go on with says no.
 fn is_nearest(a: u64, n: u64) -> bool
     requires { ⌜ 4503599627370496 ≤ a ⌝ }
     requires { ⌜ a < 18014398509481984 ⌝ }
     requires { ⌜ n < 9007199254740992 ⌝ }
     ensures { λ r. ⌜ (r ≡ true → RoundedRoot a n) ⌝ }
 {
-    let h = n / 134217728;
+    let h = n / 134217728 * 2;
     let l = n % 134217728;
-    let top = h * h * 4;
-    if a < top {
+    let lent = a + 4;
+    let top = h * h;
+    if lent < top {
         return false;
     }
-    let d = a - top;
-    if 274877906944 <= d {
+    let d = lent - top;
+    if 1073741824 <= d {
         return false;
     }
-    let rest = d * 33554432 + 134217728;
-    let cross = h * l * 2;
+    let rest = d * 33554432;
+    let cross = h * l;
     if rest < cross {
         return false;
     }
     let e = rest - cross;
-    if 68719476736 <= e {
+    if 1073741824 <= e {
         return false;
     }
-    let have = e * 134217728 + n;
-    let take = l * l + 18014398509481984;
+    let have = e * 134217728;
+    let take = l * l + (4 * HID - n);
     if have <= take {
         return false;
     }

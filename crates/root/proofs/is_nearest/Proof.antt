@@ -11,11 +11,11 @@ use Rattle.root.proofs.Checked.{checked}
 use Rattle.root.proofs.is_nearest.Statement.{statement}
 use Rattle.root.proofs.is_nearest.Tie as tie
 
-high-high : (n : ℕ) → n < 9007199254740992 → n / 134217728 * (n / 134217728) ≤ 67108863 * 67108863
-high-high n s = let h : n / 134217728 ≤ 67108863 = omega arith in mul-le-mul h h
+high-high : (n : ℕ) → n < 9007199254740992 → n / 134217728 * 2 * (n / 134217728 * 2) ≤ 134217726 * 134217726
+high-high n s = let h : n / 134217728 * 2 ≤ 134217726 = omega arith in mul-le-mul h h
 
-high-low : (n : ℕ) → n < 9007199254740992 → n / 134217728 * (n % 134217728) ≤ 67108863 * 134217727
-high-low n s = let h : n / 134217728 ≤ 67108863 = omega arith in let l : n % 134217728 ≤ 134217727 = omega arith in mul-le-mul h l
+high-low : (n : ℕ) → n < 9007199254740992 → n / 134217728 * 2 * (n % 134217728) ≤ 134217726 * 134217727
+high-low n s = let h : n / 134217728 * 2 ≤ 134217726 = omega arith in let l : n % 134217728 ≤ 134217727 = omega arith in mul-le-mul h l
 
 low-low : (n : ℕ) → n % 134217728 * (n % 134217728) ≤ 134217727 * 134217727
 low-low n = let l : n % 134217728 ≤ 134217727 = omega arith in mul-le-mul l l
@@ -34,19 +34,19 @@ pub is-nearest-spec : {M : Type 1} → statement M
 is-nearest-spec =
     tie.close
     (tie.spec
-    (λ c. omega (arith, high-high (c .args .n) (c .pre .1 .1)))
-    (λ c. omega (arith, high-high (c .args .n) (c .pre .1 .1)))
-    (λ c. refused _ _)
-    (λ c. refused _ _)
     (λ c. search needs)
+    (λ c. search needs)
+    (λ c. omega (arith, high-high (c .args .n) (c .pre .1 .1)))
+    (λ c. refused _ _)
+    (λ c. refused _ _)
     (λ c. search needs)
     (λ c. omega (arith, high-low (c .before .before .args .n) (c .before .before .pre .1 .1)))
-    (λ c. omega (arith, high-low (c .before .before .args .n) (c .before .before .pre .1 .1)))
     (λ c. refused _ _)
     (λ c. refused _ _)
-    (λ c. search needs)
     (λ c. search needs)
     (λ c. omega (arith, low-low (c .before .before .before .before .args .n)))
+    (λ c. search needs)
+    (λ c. search needs)
     (λ c. omega (arith, low-low (c .before .before .before .before .args .n)))
     (λ c. refused _ _)
     (λ c. search needs)
