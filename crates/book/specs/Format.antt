@@ -177,7 +177,8 @@ unfoldable pub sampleFrom : List ℕ → ℕ → Sample
 sampleFrom b at = record { time = floatOf (u64At b at); offset = floatOf (u64At b (at + 8)); speed = floatOf (u64At b (at + 16)) }
 
 unfoldable pub sampleAt : List ℕ → ℕ → Sample
-sampleAt b k = record { time = floatOf (sampleTime b k); offset = floatOf (sampleOffset b k); speed = floatOf (sampleSpeed b k) }
+unfolding sampleFrom
+sampleAt b k = sampleFrom b (samplesAt b + k * sampleWidth)
 
 -- ---- patterns alone
 

@@ -11,7 +11,7 @@ use Rattle.fields.specs.Below.{someBelow, sumBelow}
 use Rattle.floats.specs.Floats.{bookFloat}
 use Rattle.book.specs.declared.Measured.{Measured}
 use Rattle.book.specs.declared.Measured.the-variants.{Whole, Short, Long}
-use Rattle.book.specs.Format.{sectionsOf, links, origins, destinations, legs, samples, endOf, joinBits, departureBits, lengthBits, linkLength, linkNext, linkNextAlt, linkPrev, linkPrevAlt, originLink, originOffset, originFront, destinationLink, legLink, legParent, legSamples, sampleTime, sampleOffset, sampleSpeed, firstSample, floatOf}
+use Rattle.book.specs.Format.{sectionsOf, links, origins, destinations, legs, samples, endOf, joinBits, departureBits, lengthBits, linkLength, linkNext, linkNextAlt, linkPrev, linkPrevAlt, originLink, originOffset, originFront, destinationLink, legLink, legParent, legSamples, sampleTime, sampleOffset, sampleSpeed, samplesAt, sampleWidth, firstSample, floatOf}
 
 -- Row 1: bytes end before the last field does.
 unfoldable pub row1 : List ℕ → Bool
@@ -68,7 +68,8 @@ unfoldable pub badSampleFrom : List ℕ → ℕ → Bool
 badSampleFrom b at = not (bookFloat (u64At b at)) || not (bookFloat (u64At b (at + 8))) || not (bookFloat (u64At b (at + 16)))
 
 unfoldable pub badSample : List ℕ → ℕ → Bool
-badSample b k = not (bookFloat (sampleTime b k)) || not (bookFloat (sampleOffset b k)) || not (bookFloat (sampleSpeed b k))
+unfolding badSampleFrom
+badSample b k = badSampleFrom b (samplesAt b + k * sampleWidth)
 
 unfoldable pub row4 : List ℕ → Bool
 unfolding badOriginValue badSample

@@ -36,14 +36,17 @@ pub record Held (b : List ℕ) (offsets : List Float) (m : Movement) : Type 0 wh
   pub points : m .points ≤ length offsets
   pub floats : (i : ℕ) → i < m .samples → badSampleFrom b (m .at + i * sampleWidth) ≡ false
 
--- What rows 3, 4 and 7 and the first part of row 11 leave: the points rise, and no sample reaches the last.
+-- "7 if one falls": points whose offsets are sizes and never fall
+pub record Rises (offset : ℕ → Float) (points : ℕ) : Type 0 where
+  pub sized : (k : ℕ) → k < points → Size (offset k)
+  pub rising : (k : ℕ) → suc k < points → le (offset k) (offset (suc k)) ≡ true
+
+-- What rows 3, 4 and 7 and the first part of row 11 leave: a sample, a point, and no sample that reaches the last point
 pub record Walkable (c : Course) : Type 0 where
   pub some : 0 < c .samples
-  pub sized : (k : ℕ) → k < c .points → Size (c .offset k)
-  pub rising : (k : ℕ) → suc k < c .points → le (c .offset k) (c .offset (suc k)) ≡ true
-  pub length-sized : Size (c .length)
-  pub length-finite : finite (c .length) ≡ true
-  pub samples-sized : (i : ℕ) → i < c .samples → Size (c .sample i .offset)
-  pub first-finite : finite (c .sample 0 .offset) ≡ true
-  pub before-last : (i : ℕ) → i < c .samples → lt (c .sample i .offset) (c .offset (c .points - 1)) ≡ true
   pub some-points : 0 < c .points
+  pub rises : Rises (c .offset) (c .points)
+  pub sizes : (i : ℕ) → i < c .samples → Size (c .sample i .offset)
+  pub train : Size (c .length)
+  pub bounded : finite (c .length) ≡ true
+  pub before-last : (i : ℕ) → i < c .samples → lt (c .sample i .offset) (c .offset (c .points - 1)) ≡ true

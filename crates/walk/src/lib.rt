@@ -1,14 +1,13 @@
 // The walk along a path's points: where it begins, and the next point that is passed. Contracts: specs/Walk.antt.
-use book::Sample;
-use events::Passing;
 use network::EstType;
 ghost use mathlib.Core.Path.{_≡_};
 ghost use mathlib.Core.Bool.{true, false};
 ghost use Prim.Native.Nat.{_≤_, _<_};
 ghost use lib.ListN.{length, getD};
 ghost use lib.Ieee.{nan, isNan};
-ghost use Rattle.walk.specs.Course.{courseOf, Held, Walkable};
-ghost use Rattle.walk.specs.Walk.{firstBeyond, start, reachesLast, badPoint, Within, NextOf};
+ghost use Rattle.walk.specs.Course.{courseOf, Held, Rises, Walkable};
+ghost use Rattle.walk.specs.Search.{Between};
+ghost use Rattle.walk.specs.Walk.{firstBeyond, start, reachesLast, Within, NextOf};
 
 // A train's samples, which stand in bytes from `at` on, its path's points, and its length.
 pub struct Movement {
@@ -56,6 +55,53 @@ pub fn reaches_last(book: &[u8], offsets: &[f64], m: Movement) -> bool
         i += 1;
     }
     false
+}
+
+// The points from `low` on and below `high`: the first that lies beyond an offset is among them, or it is `high`.
+struct Span {
+    low: usize,
+    high: usize,
+}
+
+// From the last point back by steps that double, until a point is not beyond x: the cost doesn't grow with the points behind it.
+fn gallop(offsets: &[f64], points: usize, x: f64) -> Span
+    requires { ⌜ points ≤ length (now offsets) ⌝ }
+    requires { ⌜ Rises (λ k. getD (now offsets) k nan) points ⌝ }
+    requires { ⌜ isNan x ≡ false ⌝ }
+    ensures { λ r. ⌜ Between (λ k. getD (now (offsets .entry)) k nan) points x (r .low) (r .high) ⌝ }
+{
+    let mut high = points;
+    let mut step = 1;
+    while 0 < high {
+        let at = if step < high { high - step } else { 0 };
+        if offsets[at] <= x {
+            return Span { low: at + 1, high };
+        }
+        high = at;
+        step = step * 2;
+    }
+    Span { low: 0, high }
+}
+
+// The first of the points that lies beyond x, or their number.
+fn first_beyond(offsets: &[f64], points: usize, x: f64) -> usize
+    requires { ⌜ points ≤ length (now offsets) ⌝ }
+    requires { ⌜ Rises (λ k. getD (now offsets) k nan) points ⌝ }
+    requires { ⌜ isNan x ≡ false ⌝ }
+    ensures { λ r. ⌜ r ≡ firstBeyond (λ k. getD (now (offsets .entry)) k nan) x 0 points ⌝ }
+{
+    let span = gallop(offsets, points, x);
+    let mut low = span.low;
+    let mut high = span.high;
+    while low < high {
+        let middle = (low + high) / 2;
+        if offsets[middle] <= x {
+            low = middle + 1;
+        } else {
+            high = middle;
+        }
+    }
+    low
 }
 
 // Where the walk begins.
