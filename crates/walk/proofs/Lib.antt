@@ -2,3 +2,4 @@ pub mod Searches
 pub mod Turns
 pub mod Starts
 pub mod Steps
+pub mod Theorems
