@@ -3,3 +3,4 @@ pub mod Turns
 pub mod Starts
 pub mod Steps
 pub mod Theorems
+pub mod Examples
