@@ -1,6 +1,6 @@
 -- Worked examples of the walk, computed: document 01's leg 2 and its marked cases.
 use mathlib.Core.Path.{_≡_, refl}
-use mathlib.Core.Bool.{Bool, true, false}
+use mathlib.Core.Bool.{true, false}
 use mathlib.Core.List.{List, [], _∷_, map}
 use Prim.Native.Nat.{ℕ}
 use lib.IntN.{pos}

@@ -2,11 +2,10 @@
 use mathlib.Core.Path.{_≡_, refl, sym, ap, _∙_, subst}
 use mathlib.Core.Logic.{_⊎_, inl, inr}
 use mathlib.Core.Bool.{Bool, true, false, cond, true≢false}
-use mathlib.Core.List.{List}
 use Prim.Native.Nat.{ℕ, zero, suc, _+_, _-_, _*_, _/_, _≤_, _<_}
 use native.Mathlib.Nat.{le-refl, eq-or-lt-of-le}
 use native.Mathlib.Omega.{arith}
-use lib.Ieee.{Float, le, lt, isNan}
+use lib.Ieee.{Float, le, isNan}
 use Rattle.floats.specs.Floats.{Size}
 use Rattle.floats.proofs.Order.{le-number-right, le-self, le-trans}
 use Rattle.walk.specs.Course.{Rises}

@@ -2,18 +2,16 @@
 use mathlib.Core.Path.{_≡_, refl, sym, ap, _∙_, subst}
 use mathlib.Core.Bool.{Bool, true, false, true≢false}
 use mathlib.Core.List.{List}
-use Prim.Native.Nat.{ℕ, zero, suc, _+_, _-_, _*_, _≤_, _<_}
+use Prim.Native.Nat.{ℕ, _+_, _-_, _*_, _≤_, _<_}
 use native.Mathlib.Omega.{arith}
 use borrow.Author.Tests.{ltb-true, ltb-false}
 use lib.Dec.{ltb}
 use lib.ListN.{length, getD}
-use lib.Ieee.{Float, nan, binary64, sub, lt, le, isNan}
-use Rattle.floats.specs.Floats.{Size}
+use lib.Ieee.{Float, nan, binary64, sub, isNan}
 use Rattle.floats.proofs.Order.{le-trans, le-not-lt, sub-shrinks, sub-number}
 use Rattle.book.specs.declared.Sample.{Sample}
 use Rattle.book.specs.Format.{sampleFrom}
 use Rattle.book.specs.Rows.{badSampleFrom}
-use Rattle.walk.specs.declared.Heads.{Heads}
 use Rattle.walk.specs.declared.Movement.{Movement}
 use Rattle.walk.specs.Course.{Course, courseOf, Held, Walkable}
 use Rattle.walk.specs.Walk.{firstBeyond, startBack, startFront, start, Within}

@@ -1,6 +1,6 @@
 -- What the walking code reads and where it stands, in the definition's words.
 use mathlib.Core.Path.{_≡_, refl, sym, ap, _∙_, subst}
-use mathlib.Core.Bool.{Bool, true, false, not, _&&_, cond, true≢false}
+use mathlib.Core.Bool.{Bool, true, false, not, _&&_, true≢false}
 use mathlib.Core.List.{List, [], _∷_}
 use Prim.Native.Nat.{ℕ, zero, suc, _+_, _-_, _*_, _≤_, _<_}
 use native.Mathlib.Nat.{le-refl}
@@ -27,9 +27,9 @@ use Rattle.walk.specs.declared.Movement.{Movement}
 use Rattle.walk.specs.declared.PassedPoint.{PassedPoint}
 use Rattle.walk.specs.declared.Next.{Next}
 use Rattle.walk.specs.declared.Next.the-variants.{Passed, End}
-use Rattle.walk.specs.Course.{Course, courseOf, Held, Walkable}
+use Rattle.walk.specs.Course.{Course, courseOf, Walkable}
 use Rattle.walk.specs.Search.{Reached, unseen, pointWith}
-use Rattle.walk.specs.Walk.{offsetNext, inRange, clearsNext, passedNext, passedFrom, reachesLast, badPoint, Within, NextOf}
+use Rattle.walk.specs.Walk.{offsetNext, inRange, clearsNext, passedFrom, reachesLast, badPoint, Within, NextOf}
 use Rattle.walk.proofs.Turns.{heads, passed-past, point-clear, point-arrive, within-on, within-clear, within-arrive, passed-on, passed-unseen, passed-clear, passed-arrive}
 
 -- ---- a sample

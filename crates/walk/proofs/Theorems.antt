@@ -1,20 +1,19 @@
 -- What holds of the events of every leg that rows 3, 4, 7 and 11 let through.
 use mathlib.Core.Path.{_≡_, refl, sym, ap, _∙_, subst}
-use mathlib.Core.Bool.{Bool, true, false, not, _&&_, cond, true≢false}
+use mathlib.Core.Bool.{Bool, true, false, not, cond, true≢false}
 use mathlib.Core.List.{List, [], _∷_}
-use Prim.Native.Nat.{ℕ, zero, suc, _+_, _-_, _≤_, _<_}
+use Prim.Native.Nat.{ℕ, zero, suc, _-_, _≤_, _<_}
 use native.Mathlib.Omega.{arith}
-use borrow.Author.Tests.{ltb-true, ltb-false, eqb-true}
+use borrow.Author.Tests.{ltb-true, ltb-false}
 use lib.Dec.{ltb, eqb}
-use lib.Ieee.{Float, binary64, add, lt, le, isNan}
-use Rattle.floats.specs.Floats.{Size}
+use lib.Ieee.{Float, binary64, add, le, isNan}
 use Rattle.floats.proofs.Order.{lt-le, not-lt, le-self, le-trans, add-number, add-mono-left}
 use Rattle.events.specs.declared.Passing.{Passing}
 use Rattle.events.specs.Event.{clears, passingAt}
 use Rattle.walk.specs.declared.Heads.{Heads}
 use Rattle.walk.specs.declared.PassedPoint.{PassedPoint}
 use Rattle.walk.specs.Course.{Course, Walkable}
-use Rattle.walk.specs.Walk.{start, offsetNext, inRange, clearsNext, emits, turned, passedAs, passedNext, walk, turnsLeft, passedFrom, pointsPassed, Each, FromOn, NeverFall, Within}
+use Rattle.walk.specs.Walk.{start, offsetNext, inRange, clearsNext, turned, passedAs, passedNext, walk, turnsLeft, passedFrom, pointsPassed, Each, FromOn, NeverFall, Within}
 use Rattle.walk.proofs.Searches.{size-number}
 use Rattle.walk.proofs.Turns.{heads, walk-past, passed-past, walk-turn, turn-is, emits-is, front-size, back-size, clear-before, next-clear, next-arrive, arrive-before, within-on, within-clear, within-arrive, left-on, left-clear, left-arrive}
 use Rattle.walk.proofs.Starts.{within-start}

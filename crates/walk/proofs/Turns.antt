@@ -1,20 +1,19 @@
 -- The turns of the walk: what each is, that the heads stay within, and that a turn takes one of those that are left.
-use mathlib.Core.Path.{_≡_, refl, sym, ap, _∙_, subst}
+use mathlib.Core.Path.{_≡_, refl, sym, ap, _∙_}
 use mathlib.Core.Logic.{_⊎_, inl, inr}
 use mathlib.Core.Bool.{Bool, true, false, not, _&&_, cond, true≢false}
-use mathlib.Core.List.{List, [], _∷_}
-use Prim.Native.Nat.{ℕ, zero, suc, _+_, _-_, _≤_, _<_}
+use mathlib.Core.List.{[], _∷_}
+use Prim.Native.Nat.{ℕ, zero, suc, _-_, _<_}
 use native.Mathlib.Nat.{eq-or-lt-of-le}
 use native.Mathlib.Omega.{arith}
 use borrow.Author.Tests.{lt-ltb, le-ltb, eq-eqb, ne-eqb}
-use lib.Dec.{ltb, eqb}
-use lib.Ieee.{Float, binary64, add, lt, le, isNan}
+use lib.Dec.{eqb}
+use lib.Ieee.{Float, binary64, add, lt, le}
 use Rattle.floats.specs.Floats.{Size, smaller}
 use Rattle.floats.proofs.Order.{lt-asym, le-lt-trans, add-grows}
 use Rattle.network.specs.declared.EstType.the-variants.{Arrive, Clear}
 use Rattle.events.specs.Event.{eventOffset, clears, passingAt}
 use Rattle.walk.specs.declared.Heads.{Heads}
-use Rattle.walk.specs.declared.PassedPoint.{PassedPoint}
 use Rattle.walk.specs.Course.{Course, Walkable}
 use Rattle.walk.specs.Search.{pointWith}
 use Rattle.walk.specs.Walk.{offsetNext, inRange, clearsNext, emits, turned, turn, passedAs, passedNext, walk, turnsLeft, passedFrom, Within}

@@ -2,14 +2,12 @@
 use events::Passing;
 use network::EstType;
 ghost use mathlib.Core.Path.{_≡_};
-ghost use mathlib.Core.Bool.{true, false, _&&_};
+ghost use mathlib.Core.Bool.{true, false};
 ghost use Prim.Native.Nat.{ℕ, _+_, _-_, _*_, _≤_, _<_};
-ghost use lib.Dec.{eqb};
 ghost use lib.ListN.{length, getD};
 ghost use lib.Ieee.{nan, isNan};
 ghost use Rattle.book.specs.Format.{sampleFrom};
 ghost use Rattle.book.specs.Rows.{badSampleFrom};
-ghost use Rattle.events.specs.Event.{clears};
 ghost use Rattle.walk.specs.Course.{courseOf, Held, Rises, Walkable};
 ghost use Rattle.walk.specs.Search.{Between, Reached, unseen, pointWith};
 ghost use Rattle.walk.specs.Walk.{firstBeyond, start, reachesLast, badPoint, Within, NextOf};
@@ -124,7 +122,8 @@ pub fn start_heads(book: &[u8], offsets: &[f64], m: Movement) -> Heads
     ensures within { λ r. ⌜ Within (courseOf (now (book .entry)) (now (offsets .entry)) m) r ⌝ }
 {
     let first = book::sample_from(book, m.at);
-    let pt_idx_back = first_beyond(offsets, m.points, first.offset - m.length);
+    let end = first.offset - m.length;
+    let pt_idx_back = first_beyond(offsets, m.points, end);
     let pt_idx_front = first_beyond(offsets, m.points, first.offset);
     Heads {
         i: 1,

@@ -5,7 +5,7 @@ use native.Mathlib.Omega.{arith}
 use lib.ListN.{getD}
 use lib.Ieee.{nan}
 use Rattle.walk.specs.Search.{Between}
-use Rattle.walk.proofs.Searches.{middle-inside, upper-half, lower-half, between-met}
+use Rattle.walk.proofs.Searches.{upper-half, lower-half, between-met}
 use Rattle.walk.proofs.first_beyond.Statement.{statement}
 use Rattle.walk.proofs.first_beyond.Tie as tie
 

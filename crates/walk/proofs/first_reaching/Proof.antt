@@ -1,5 +1,5 @@
 -- `walk::first_reaching` meets its contract: `Reaching` is the loop's invariant.
-use mathlib.Core.Path.{_≡_, sym, ap, _∙_}
+use mathlib.Core.Path.{sym, ap, _∙_}
 use Prim.Native.Nat.{_+_, _-_, _*_}
 use native.Mathlib.Omega.{arith}
 use lib.Ieee.{le}

@@ -1,11 +1,11 @@
 -- `walk::next_event` meets its contract.
 use mathlib.Core.Path.{_≡_, sym, _∙_}
-use mathlib.Core.Bool.{true}
 use Prim.Native.Nat.{_<_}
 use native.Mathlib.Omega.{arith}
 use borrow.Author.Needs.{needs}
 use lib.ListN.{length}
-use Rattle.walk.specs.Course.{courseOf}
+use Rattle.walk.specs.declared.Heads.{Heads}
+use Rattle.walk.specs.Course.{Course, courseOf}
 use Rattle.walk.specs.Walk.{clearsNext, passedFrom, Within}
 use Rattle.walk.proofs.Turns.{heads}
 use Rattle.walk.proofs.Steps.{unseen-is, unseen-later, unseen-offset, next-unseen, next-from}
@@ -20,11 +20,15 @@ front-in c = let q = c .before .before .pre in omega (arith, q .0 .points, q .1 
 is-unseen-requires : tie.Need-is-unseen-requires
 is-unseen-requires c κs = let q = c .before .before .pre in (omega (arith, front-in c, q .1 .1 .order), front-in c)
 
--- the first point is passed at a sample, and from there on the walk is the same
-skipped : (c : tie.After-first-reaching)
-    → (passedFrom (courseOf (c .before .before .before .before .before .before .before .before .args .book .now) (c .before .before .before .before .before .before .before .before .args .offsets .now) (c .before .before .before .before .before .before .before .before .args .m)) (c .before .before .before .before .before .before .before .before .args .h)
-    ≡ passedFrom (courseOf (c .before .before .before .before .before .before .before .before .args .book .now) (c .before .before .before .before .before .before .before .before .args .offsets .now) (c .before .before .before .before .before .before .before .before .args .m)) (heads (c .first-reaching .result) 1 (c .before .before .before .before .before .before .before .before .args .h .«pt_idx_front»)))
-    × Within (courseOf (c .before .before .before .before .before .before .before .before .args .book .now) (c .before .before .before .before .before .before .before .before .args .offsets .now) (c .before .before .before .before .before .before .before .before .args .m)) (heads (c .first-reaching .result) 1 (c .before .before .before .before .before .before .before .before .args .h .«pt_idx_front»))
+-- the course, and the heads where the first point is passed
+abbrev course : tie.After-first-reaching → Course
+course c = let a = c .before .before .before .before .before .before .before .before in courseOf (a .args .book .now) (a .args .offsets .now) (a .args .m)
+
+abbrev there : tie.After-first-reaching → Heads
+there c = heads (c .first-reaching .result) 1 (c .before .before .before .before .before .before .before .before .args .h .«pt_idx_front»)
+
+-- from there on the walk is the same
+skipped : (c : tie.After-first-reaching) → (passedFrom (course c) (c .before .before .before .before .before .before .before .before .args .h) ≡ passedFrom (course c) (there c)) × Within (course c) (there c)
 unfolding courseOf clearsNext
 skipped c =
     let a = c .before .before .before .before .before .before .before .before in
@@ -35,12 +39,12 @@ skipped c =
 seen-event-requires : tie.Need-seen-event-requires
 seen-event-requires c κs =
     let a = c .before .before .before .before .before .before .before .before in
-    (a .pre .0, (a .pre .1 .0, (skipped c .1, unseen-later _ _ (heads (c .first-reaching .result) 1 (a .args .h .«pt_idx_front»)) (λ e. omega arith))))
+    (a .pre .0, (a .pre .1 .0, (skipped c .1, unseen-later _ _ (there c) (λ e. omega arith))))
 
 returns : tie.Need-returns
 returns c =
     let a = c .before .before .before .before .before .before .before .before .before in
-    next-from _ (a .args .h) (heads (c .before .first-reaching .result) 1 (a .args .h .«pt_idx_front»)) (skipped (c .before) .0) (c .seen-event .result) (c .seen-event .ensures)
+    next-from _ (a .args .h) (there (c .before)) (skipped (c .before) .0) (c .seen-event .result) (c .seen-event .ensures)
 
 seen-event-requires-2 : tie.Need-seen-event-requires-2
 seen-event-requires-2 c κs = let q = c .before .before .before .before .pre in (q .0, (q .1 .0, (q .1 .1, sym (c .before .is-unseen .ensures) ∙ c .if1 .left)))

@@ -1,9 +1,6 @@
 -- `walk::reaches_last` meets its contract: `Unreached` is the loop's invariant.
-use Prim.Native.Nat.{_+_, _-_, _*_}
+use Prim.Native.Nat.{_-_}
 use native.Mathlib.Omega.{arith}
-use lib.ListN.{getD}
-use lib.Ieee.{nan}
-use mathlib.Core.Path.{_≡_, refl}
 use Rattle.walk.proofs.Steps.{sample-held, Unreached, last-start, last-on, last-reached, last-none}
 use Rattle.walk.proofs.reaches_last.Statement.{statement}
 use Rattle.walk.proofs.reaches_last.Tie as tie
