@@ -1,0 +1,6 @@
+pub mod Searches
+pub mod Turns
+pub mod Starts
+pub mod Steps
+pub mod Theorems
+pub mod Examples
