@@ -1,1 +1,2 @@
 pub mod Seeking
+pub mod Puts

@@ -1,54 +1,27 @@
+-- `insertion::add_behind` meets its contract.
 use borrow.Author.Needs.{needs}
+use native.Mathlib.Omega.{arith}
+use Rattle.insertion.proofs.Puts.{add-stored}
 use Rattle.insertion.proofs.add_behind.Statement.{statement}
 use Rattle.insertion.proofs.add_behind.Tie as tie
-use Rattle.insertion.proofs.add_behind.Reads as reads
-use Rattle.insertion.proofs.add_behind.Lts as lts
-use Rattle.insertion.proofs.event_node.Reads as event-node-reads
-use Rattle.insertion.proofs.link_to.Reads as link-to-reads
-use Rattle.network.proofs.load.Reads as load-reads
-use Rattle.network.proofs.store.Reads as store-reads
 
--- src/lib.rt:148:9
-load-requires : tie.Need-load-requires
-load-requires c κs = search needs
-
--- src/lib.rt:149:9
-link-to-requires : tie.Need-link-to-requires
-link-to-requires c κs = search needs
-
--- src/lib.rt:150:5
-store-requires : tie.Need-store-requires
-store-requires c κs = search needs
-
--- src/lib.rt:151:9
-event-node-requires : tie.Need-event-node-requires
-event-node-requires c κs = search needs
-
--- src/lib.rt:152:5
 store-requires-2 : tie.Need-store-requires-2
-store-requires-2 c κs = ?
+store-requires-2 c κs = (omega (arith, c .before .before .before .before .before .before .before .before .before .before .before .before .before .before .before .before .pre, c .before .before .before .before .before .before .before .store .kept), omega (arith, c .before .before .before .before .before .before .before .before .before .before .before .before .before .before .before .before .pre, c .before .before .before .before .before .before .before .store .kept))
 
--- src/lib.rt:141:1
-same-length : tie.Need-same-length
-same-length c = search needs
-
--- src/lib.rt:141:1
-same-length-2 : tie.Need-same-length-2
-same-length-2 c = search needs
-
--- src/lib.rt:141:1
 returns : tie.Need-returns
-returns c = ?
+returns c =
+    add-stored _ _ _ _ _ _ _ _ _ _ _ (c .before .before .before .before .before .before .before .before .before .before .before .before .before .before .before .before .load .ensures) (c .before .before .before .before .before .before .before .before .before .before .before .before .before .before .before .link-to .ensures) (c .before .before .before .before .before .before .before .event-node .ensures)
+    (record { floats = c .before .before .before .before .before .before .before .before .before .before .before .before .store .ensures .0; numbers = c .before .before .before .before .before .before .before .before .before .before .before .before .store .ensures .1; floats-then = c .before .before .before .before .store2 .ensures .0; numbers-then = c .before .before .before .before .store2 .ensures .1 })
 
 pub add-behind-spec : {M : Type 1} → statement M
 add-behind-spec =
     tie.close
     (tie.spec
-    load-requires
-    link-to-requires
-    store-requires
-    event-node-requires
+    (λ c κs. search needs)
+    (λ c κs. search needs)
+    (λ c κs. search needs)
+    (λ c κs. search needs)
     store-requires-2
-    same-length
-    same-length-2
+    (λ c. search needs)
+    (λ c. search needs)
     returns)
