@@ -1,2 +1,3 @@
 pub mod Seeking
 pub mod Puts
+pub mod Answers

@@ -3,7 +3,7 @@ use mathlib.Core.Path.{_≡_, refl, sym, ap, _∙_, subst}
 use mathlib.Core.Bool.{Bool, true, false}
 use Prim.Native.Nat.{ℕ, zero, suc, _+_, _-_, _≤_, _<_}
 use native.Mathlib.Omega.{arith}
-use borrow.Author.Tests.{eq-eqb, ne-eqb}
+use borrow.Author.Tests.{eq-eqb, ne-eqb, eqb-true, eqb-false}
 use lib.Dec.{eqb}
 use lib.Ieee.{Float}
 use Rattle.network.specs.declared.EstTime.{EstTime}
@@ -75,3 +75,32 @@ module _ {node : ℕ → EstTime} {n : ℕ} {join : Float} {e : TimedEvent} {sta
           enough = omega (arith, v .enough, alternative-later z);
           answer = ap (λ (k : ℕ). seek k node join e (x .«idx_next_alt»)) s ∙ turn false false h (ne-eqb (x .«idx_next_alt») 0 z);
         }
+
+-- ---- what is found
+
+-- a node without a next; a node that matches; or a node with a next, after which no alternative is left
+abbrev pub Found : (ℕ → EstTime) → ℕ → Float → TimedEvent → Seek → Type 0
+Found node n join e (Open i) = (i < n) × (node i .«idx_next» ≡ 0)
+Found node n join e (Match i) = (i < n) × ((0 < i) × (matches join e (node i) ≡ true))
+Found node n join e (Split i) = (i < n) × ((0 < node i .«idx_next») × (node i .«idx_next_alt» ≡ 0))
+
+pub seek-found : {node : ℕ → EstTime} {n : ℕ} → Woven node n → (k : ℕ) (join : Float) (e : TimedEvent) (i : ℕ) → i < n → n ≤ k + i → Found node n join e (seek k node join e i)
+seek-found w zero join e i h g = absurd (omega arith)
+seek-found {node} {n} w (suc k) join e i h g =
+    subst (Found node n join e) (sym (seek-turn k node join e i _ _ _ refl refl refl))
+    (go (eqb (node i .«idx_next») 0) (matches join e (node (node i .«idx_next»))) (eqb (node i .«idx_next_alt») 0) refl refl refl
+    (λ o. seek-found w k join e (node i .«idx_next_alt») (w .next-alt i h) (omega (arith, w .next-alt-rises i h (some o)))))
+  where
+    some : {m : ℕ} → eqb m 0 ≡ false → 0 < m
+    some {m} o = let q : m ≡ 0 → ⊥ = eqb-false m 0 o in omega arith
+
+    go : (a b c : Bool) → eqb (node i .«idx_next») 0 ≡ a → matches join e (node (node i .«idx_next»)) ≡ b → eqb (node i .«idx_next_alt») 0 ≡ c
+        → (eqb (node i .«idx_next_alt») 0 ≡ false → Found node n join e (seek k node join e (node i .«idx_next_alt»)))
+        → Found node n join e (found a b c i (node i .«idx_next») (seek k node join e (node i .«idx_next_alt»)))
+    go true b c p q r later = (h, eqb-true (node i .«idx_next») 0 p)
+    go false true c p q r later = (w .next i h, (some p, q))
+    go false false true p q r later = (h, (some p, eqb-true (node i .«idx_next_alt») 0 r))
+    go false false false p q r later = later r
+
+pub sought-found : (node : ℕ → EstTime) (n : ℕ) (join : Float) (e : TimedEvent) (start : ℕ) (s : Seek) → s ≡ seek n node join e start → Woven node n → start < n → Found node n join e s
+sought-found node n join e start s f w h = subst (Found node n join e) (sym f) (seek-found w n join e start h (omega arith))
