@@ -73,6 +73,7 @@ module _ {t : Table} {n : ℕ} {join : Float} {p : Place} {e : TimedEvent} where
         → (let s : Table = record { floats = fs; numbers = us } in (gs ≡ addBehind s n (n + 1) e .floats) × (vs ≡ addBehind s n (n + 1) e .numbers))
         → (Added q true ≡ inserted t n places ended join p e) × ((gs ≡ insertedTable t n join p e .floats) × (vs ≡ insertedTable t n join p e .numbers))
     split-added q fs gs us vs f h a l m =
-        let z : _≡_ {A = Table} (record { floats = fs; numbers = us }) (splitAt t i n p) = λ k. record { floats = l .0 k; numbers = l .1 k } in
-        (ap (λ (q : Place). Added q true) a ∙ ap (λ (b : Bool). addedAs b false (Added (placeAt (n + 1) e) true)) (sym (lt-ltb (n + 1) places h)) ∙ answer-is (Split i) places ended f,
-        holds (Split i) gs vs f (m .0 ∙ ap (λ (x : Table). addBehind x n (n + 1) e .floats) z) (m .1 ∙ ap (λ (x : Table). addBehind x n (n + 1) e .numbers) z))
+        let z : _≡_ {A = Table} (record { floats = fs; numbers = us }) (splitAt t i n p) = λ k. record { floats = l .0 k; numbers = l .1 k } in (
+          ap (λ (q : Place). Added q true) a ∙ ap (λ (b : Bool). addedAs b false (Added (placeAt (n + 1) e) true)) (sym (lt-ltb (n + 1) places h)) ∙ answer-is (Split i) places ended f,
+          holds (Split i) gs vs f (m .0 ∙ ap (λ (x : Table). addBehind x n (n + 1) e .floats) z) (m .1 ∙ ap (λ (x : Table). addBehind x n (n + 1) e .numbers) z),
+        )

@@ -1,3 +1,4 @@
 pub mod Seeking
 pub mod Puts
 pub mod Answers
+pub mod Kept

@@ -167,9 +167,10 @@ module _ (t : Table) (i k : ℕ) (fs gs : List Float) (us vs : List ℕ) (u v : 
 
   both-stored : (x y : EstTime) → u ≡ x → v ≡ y → Stored → Holds (both t i k x y)
   unfolding put
-  both-stored x y a b s =
-      (s .floats-then ∙ ap (putFloats fs k) b ∙ ap (λ (l : List Float). putFloats l k y) (s .floats ∙ ap (putFloats (t .floats) i) a),
-      s .numbers-then ∙ ap (putNumbers us k) b ∙ ap (λ (l : List ℕ). putNumbers l k y) (s .numbers ∙ ap (putNumbers (t .numbers) i) a))
+  both-stored x y a b s = (
+    s .floats-then ∙ ap (putFloats fs k) b ∙ ap (λ (l : List Float). putFloats l k y) (s .floats ∙ ap (putFloats (t .floats) i) a),
+    s .numbers-then ∙ ap (putNumbers us k) b ∙ ap (λ (l : List ℕ). putNumbers l k y) (s .numbers ∙ ap (putNumbers (t .numbers) i) a),
+  )
 
   pub add-stored : (e : TimedEvent) (x : EstTime) → x ≡ nodeAt (t .floats) (t .numbers) i → u ≡ linkedTo x k e → v ≡ eventNode e i → Stored → Holds (addBehind t i k e)
   unfolding addBehind at

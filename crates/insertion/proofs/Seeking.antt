@@ -46,9 +46,9 @@ module _ {node : ℕ → EstTime} {n : ℕ} {join : Float} {e : TimedEvent} {sta
     turn b c p q =
         ap (λ (z : EstTime). found false b c i (z .«idx_next») (seek (v .left) node join e (z .«idx_next_alt»))) l
         ∙ sym (seek-turn (v .left) node join e i false b c
-          (ne-eqb (node i .«idx_next») 0 (λ (o : node i .«idx_next» ≡ 0). real (ap (λ (z : EstTime). z .«idx_next») l ∙ o)))
-          (ap (λ (z : EstTime). matches join e (node (z .«idx_next»))) (sym l) ∙ ap (matches join e) (sym m) ∙ p)
-          (ap (λ (z : EstTime). eqb (z .«idx_next_alt») 0) (sym l) ∙ q))
+        (ne-eqb (node i .«idx_next») 0 (λ (o : node i .«idx_next» ≡ 0). real (ap (λ (z : EstTime). z .«idx_next») l ∙ o)))
+        (ap (λ (z : EstTime). matches join e (node (z .«idx_next»))) (sym l) ∙ ap (matches join e) (sym m) ∙ p)
+        (ap (λ (z : EstTime). eqb (z .«idx_next_alt») 0) (sym l) ∙ q))
         ∙ v .answer
 
     pub seeking-match : matches join e y ≡ true → Match (x .«idx_next») ≡ seek n node join e start

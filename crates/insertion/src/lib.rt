@@ -38,7 +38,15 @@ fn is_match(join: f64, e: TimedEvent, node: EstTime) -> bool
 }
 
 // From a node along its alternatives to where the event goes.
-fn seek_place(floats: &[f64], numbers: &[u32], n: usize, places: usize, join: f64, e: TimedEvent, start: u32) -> Seek
+fn seek_place(
+    floats: &[f64],
+    numbers: &[u32],
+    n: usize,
+    places: usize,
+    join: f64,
+    e: TimedEvent,
+    start: u32,
+) -> Seek
     requires { ⌜ Room (now floats) (now numbers) places ⌝ }
     requires { ⌜ n ≤ places ⌝ }
     requires { ⌜ Woven (nodeAt (now floats) (now numbers)) n ⌝ }
@@ -198,7 +206,15 @@ pub fn insert_est_time(
     ensures answer { λ r. ⌜ r ≡ inserted (record { floats = now (floats .entry); numbers = now (numbers .entry) }) n places (flagged (now (cells .entry)) «ends_at») join «est_alt» «est_insert» ⌝ }
     ensures table { λ r. ⌜ InsertedInto (record { floats = now (floats .entry); numbers = now (numbers .entry) }) n join «est_alt» «est_insert» (now (floats .exit)) (now (numbers .exit)) r ⌝ }
 {
-    let found = seek_place(floats, numbers, n, places, join, est_insert, est_alt.idx_prev);
+    let found = seek_place(
+        floats,
+        numbers,
+        n,
+        places,
+        join,
+        est_insert,
+        est_alt.idx_prev,
+    );
     match found {
         Seek::Match(i) => Inserted::Moved(place_at(i, est_insert)),
         Seek::Open(i) => {
