@@ -2,3 +2,4 @@ pub mod Seeking
 pub mod Puts
 pub mod Answers
 pub mod Kept
+pub mod Examples
