@@ -3,9 +3,7 @@ use mathlib.Core.Path.{_≡_, refl, sym, ap, _∙_}
 use mathlib.Core.Bool.{Bool, true, false}
 use mathlib.Core.List.{List}
 use Prim.Native.Nat.{ℕ, _+_, _*_, _≤_, _<_}
-use native.Mathlib.Omega.{arith}
 use borrow.Author.Tests.{lt-ltb, le-ltb}
-use lib.Dec.{ltb}
 use lib.ListN.{getD}
 use lib.Ieee.{Float}
 use Rattle.network.specs.declared.TimedEvent.{TimedEvent}
@@ -13,7 +11,6 @@ use Rattle.network.specs.Table.{nodeAt}
 use Rattle.insertion.specs.declared.Place.{Place}
 use Rattle.insertion.specs.declared.Seek.{Seek}
 use Rattle.insertion.specs.declared.Seek.the-variants.{Open, Match, Split}
-use Rattle.insertion.specs.declared.Inserted.{Inserted}
 use Rattle.insertion.specs.declared.Inserted.the-variants.{Added, Moved, Refused}
 use Rattle.insertion.specs.Insertion.{Table, at, seek, addBehind, splitAt, placeAt, addedAs, insertedAs, tableAs, inserted, insertedTable, flagged}
 

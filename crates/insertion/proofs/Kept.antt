@@ -38,6 +38,11 @@ pub record Grown (t : Table) (m places : ℕ) (q : Place) : Type 0 where
   pub last : q .«idx_prev» + 1 ≡ m
   pub room : m ≤ places
 
+-- how many nodes an addition adds, by whether it splits
+abbrev pub more : Bool → ℕ
+more false = 1
+more true = 2
+
 module _ (t : Table) (n places : ℕ) (ended : ℕ → Bool) (join : Float) (p : Place) (e : TimedEvent) where
   -- the run moved to a node that is there
   pub record MovedTo (after : Table) (q : Place) : Type 0 where
@@ -80,11 +85,6 @@ module _ (t : Table) (n places : ℕ) (ended : ℕ → Bool) (join : Float) (p :
   Kept after (Added q false) = AddedBehind after q
   Kept after (Added q true) = AddedBySplit after q
   Kept after (Refused r) = Unit
-
-  -- how many nodes were added
-  abbrev pub more : Bool → ℕ
-  more false = 1
-  more true = 2
 
   pub added-grown : (after : Table) (q : Place) (split : Bool) → Kept after (Added q split) → Grown after (n + more split) places q
   added-grown after q false k = k .grown
@@ -161,9 +161,15 @@ module _ (t : Table) (n places : ℕ) (ended : ℕ → Bool) (join : Float) (p :
         go (Open i) s f = behind i s f (ltb n places) (ended i) refl refl
         go (Split i) s f = split i s f (ltb (n + 1) places) refl
 
+    pub kept-as : (a : Inserted) → inserted t n places ended join p e ≡ a → Kept (insertedTable t n join p e) a
+    kept-as a f = subst (Kept (insertedTable t n join p e)) f inserted-kept
+
+    pub grown-as : (q : Place) (split : Bool) → inserted t n places ended join p e ≡ Added q split → Grown (insertedTable t n join p e) (n + more split) places q
+    grown-as q split f = added-grown (insertedTable t n join p e) q split (kept-as (Added q split) f)
+
     -- the same from what the function promises
     pub call-kept : (fs : List Float) (us : List ℕ) (a : Inserted) → a ≡ inserted t n places ended join p e → InsertedInto t n join p e fs us a → Kept (record { floats = fs; numbers = us }) a
-    call-kept fs us a f = go a (subst (Kept (insertedTable t n join p e)) (sym f) inserted-kept)
+    call-kept fs us a f = go a (kept-as a (sym f))
       where
         same : (fs ≡ insertedTable t n join p e .floats) × (us ≡ insertedTable t n join p e .numbers) → _≡_ {A = Table} (insertedTable t n join p e) (record { floats = fs; numbers = us })
         same l = λ k. record { floats = sym (l .0) k; numbers = sym (l .1) k }
