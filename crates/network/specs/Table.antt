@@ -1,8 +1,10 @@
 -- A node table in two lent slices, document 01: "Each node is read and written as one record of four floats (time, time to next, distance to next, speed), four indices, and its event,
 -- which holds the link and the kind: Arrive 0, Clear 1, Fake 2." Node i has 4 floats from 4 i and 6 numbers from 6 i on. Everything above this file goes by the laws of proofs/Nodes.antt.
+use mathlib.Core.Bool.{Bool, _&&_}
 use mathlib.Core.List.{List}
-use Prim.Native.Nat.{ℕ, zero, suc, _+_, _*_}
-use lib.ListN.{getD, set}
+use Prim.Native.Nat.{ℕ, zero, suc, _+_, _*_, _≤_, _<_}
+use lib.Dec.{eqb}
+use lib.ListN.{length, getD, set}
 use lib.Ieee.{Float, nan, binary64, ofBits}
 use Rattle.network.specs.declared.EstType.{EstType}
 use Rattle.network.specs.declared.EstType.the-variants.{Arrive, Clear, Fake}
@@ -19,6 +21,14 @@ abbrev pub kindOf : ℕ → EstType
 kindOf zero = Arrive
 kindOf (suc zero) = Clear
 kindOf (suc (suc n)) = Fake
+
+-- "Events are equal when link and kind are."
+unfoldable pub sameKind : EstType → EstType → Bool
+sameKind a b = eqb (kindNumber a) (kindNumber b)
+
+unfoldable pub sameEvent : LinkEvent → LinkEvent → Bool
+unfolding sameKind
+sameEvent a b = eqb (a .«link_idx») (b .«link_idx») && sameKind (a .«est_type») (b .«est_type»)
 
 -- the node of index i
 unfoldable pub nodeAt : List Float → List ℕ → ℕ → EstTime
@@ -59,3 +69,20 @@ blank = record {
   «idx_prev_alt» = 0;
   «link_event» = noLink;
 }
+
+-- ---- what a network under growth keeps
+
+-- The slices have room for so many nodes.
+pub record Room (fs : List Float) (us : List ℕ) (places : ℕ) : Type 0 where
+  pub floats : places * 4 ≤ length fs
+  pub numbers : places * 6 ≤ length us
+  pub most : places ≤ 65535
+
+-- Of the first n nodes each index names one of them, and an alternative names a later one, 0 being none.
+pub record Woven (node : ℕ → EstTime) (n : ℕ) : Type 0 where
+  pub next : (i : ℕ) → i < n → node i .«idx_next» < n
+  pub next-alt : (i : ℕ) → i < n → node i .«idx_next_alt» < n
+  pub prev : (i : ℕ) → i < n → node i .«idx_prev» < n
+  pub prev-alt : (i : ℕ) → i < n → node i .«idx_prev_alt» < n
+  pub next-alt-rises : (i : ℕ) → i < n → 0 < node i .«idx_next_alt» → i < node i .«idx_next_alt»
+  pub prev-alt-rises : (i : ℕ) → i < n → 0 < node i .«idx_prev_alt» → i < node i .«idx_prev_alt»

@@ -2,7 +2,7 @@
 ghost use mathlib.Core.Path.{_≡_};
 ghost use Prim.Native.Nat.{_+_, _*_, _≤_};
 ghost use lib.ListN.{length};
-ghost use Rattle.network.specs.Table.{kindOf, kindNumber, nodeAt, putFloats, putNumbers, noLink, blank};
+ghost use Rattle.network.specs.Table.{kindOf, kindNumber, sameKind, sameEvent, nodeAt, putFloats, putNumbers, noLink, blank};
 
 // Type of an estimated time node: the train arrives at the entry point of a link, clears it, or the node only links alternatives.
 pub enum EstType {
@@ -27,6 +27,14 @@ pub struct EstTime {
     pub idx_next_alt: u32,
     pub idx_prev: u32,
     pub idx_prev_alt: u32,
+    pub link_event: LinkEvent,
+}
+
+// An event of a run: when, where and how fast it happens.
+pub struct TimedEvent {
+    pub time: f64,
+    pub offset: f64,
+    pub speed: f64,
     pub link_event: LinkEvent,
 }
 
@@ -88,6 +96,22 @@ fn kind_number(k: EstType) -> u32
         EstType::Clear => 1,
         EstType::Fake => 2,
     }
+}
+
+fn same_kind(a: EstType, b: EstType) -> bool
+    ensures { λ r. ⌜ r ≡ sameKind a b ⌝ }
+{
+    kind_number(a) == kind_number(b)
+}
+
+// Whether two events are equal: link and kind.
+pub fn same_event(a: LinkEvent, b: LinkEvent) -> bool
+    ensures { λ r. ⌜ r ≡ sameEvent a b ⌝ }
+{
+    let kind_a = a.est_type;
+    let kind_b = b.est_type;
+    let kinds = same_kind(kind_a, kind_b);
+    (a.link_idx == b.link_idx) & kinds
 }
 
 // The node of index i.

@@ -1,0 +1,5 @@
+pub mod Seeking
+pub mod Puts
+pub mod Answers
+pub mod Kept
+pub mod Examples
