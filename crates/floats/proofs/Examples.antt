@@ -3,8 +3,8 @@ use mathlib.Core.Path.{_≡_, refl}
 use mathlib.Core.Bool.{true, false}
 use mathlib.Core.List.{[], _∷_, map}
 use lib.IntN.{pos, negsuc}
-use lib.Ieee.{Float, nan, inf, fin, binary64, sub, lt, le, isNan, ofBits}
-use Rattle.floats.specs.Floats.{tableFloat, bookFloat, gap, smaller}
+use lib.Ieee.{Float, nan, inf, fin, binary64, sub, lt, le, isNan, ofBits, toBits}
+use Rattle.floats.specs.Floats.{tableFloat, bookFloat, bookValue, gap, smaller}
 
 -- In a book: 0, the least subnormal value and 1,000,000,000.
 book-takes : map bookFloat (0 ∷ 1 ∷ 0x41cd_cd65_0000_0000 ∷ []) ≡ true ∷ true ∷ true ∷ []
@@ -45,3 +45,8 @@ gap-infinite = refl
 smaller-choices : smaller nan one ∷ smaller one nan ∷ smaller zero⁺ zero⁻ ∷ smaller zero⁻ zero⁺ ∷ [] ≡ one ∷ one ∷ zero⁺ ∷ zero⁻ ∷ []
 unfolding smaller isNan lt
 smaller-choices = refl
+
+-- Lent as values: 1 and 1,000,000,000 have a book's sign and size; -0, -1, a NaN and an infinity don't.
+value-either : map bookValue (one ∷ ofBits binary64 0x41cd_cd65_0000_0000 ∷ zero⁻ ∷ fin true 1 (pos 0) ∷ nan ∷ inf false ∷ []) ≡ true ∷ true ∷ false ∷ false ∷ false ∷ false ∷ []
+unfolding bookValue bookFloat tableFloat ofBits toBits le
+value-either = refl
