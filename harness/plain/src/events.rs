@@ -64,11 +64,10 @@ impl Train<'_> {
 pub fn make(length: f64, samples: &[Sample], points: &[Point], list: &mut Vec<Timed>) -> Answer<()> {
     let end = points[points.len() - 1].offset;
     refuse_if(samples.iter().any(|sample| sample.offset >= end), 11)?;
-    let mut train = Train { length, points, front: 0, back: 0 };
-    // What the first sample has reached was emitted before it.
-    while train.offset() <= samples[0].offset {
-        train.advance();
-    }
+    // What front and back have reached at the first sample was emitted before it.
+    let front = samples[0].offset;
+    let reached = |to: f64| points.partition_point(|point| point.offset <= to);
+    let mut train = Train { length, points, front: reached(front), back: reached(front - length) };
     for pair in samples.windows(2) {
         while train.offset() <= pair[1].offset {
             let offset = train.offset();
