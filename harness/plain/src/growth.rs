@@ -378,12 +378,12 @@ impl Growth<'_> {
     /// "the last node links through a new Fake at the end of the target's
     /// previous-alternative chain"
     fn link(&mut self, run: &Run, target: usize, timed: &Timed) -> Answer<()> {
-        let fake = self.push(Node { next: target, prev: run.place, ..Node::BLANK })?;
-        self.lead(run, fake, timed);
         let mut chain = target;
         while self.grown.nodes[chain].prev_alt != 0 {
             chain = self.grown.nodes[chain].prev_alt;
         }
+        let fake = self.push(Node { next: chain, prev: run.place, ..Node::BLANK })?;
+        self.lead(run, fake, timed);
         self.grown.nodes[chain].prev_alt = fake;
         self.grown.joined += 1;
         Ok(())

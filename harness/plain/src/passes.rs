@@ -1,8 +1,239 @@
-//! Passes: not yet.
+//! Passes: integrity checks, forward, backward; rows 14 to 16.
+//!
+//! Written from document 01 and the readings of DESIGN.md; points that both leave open
+//! are settled by the reference's answers as a black box (docs/DIFFERENCES.md).
 
 use crate::node::Node;
-use crate::Answer;
+use crate::{refuse_if, Answer};
+use std::cmp::Ordering;
+use std::collections::BinaryHeap;
 
-pub fn run(_nodes: &mut [Node], _departure: f64) -> Answer<()> {
-    Ok(())
+/// "Integrity checks, forward, backward"; row 16: "all times 0 or −0".
+pub fn run(nodes: &mut [Node], departure: f64) -> Answer<()> {
+    refuse_if((0..nodes.len()).any(|own| !is_linked(nodes, own)), 14)?;
+    forward(nodes, departure)?;
+    backward(nodes)?;
+    refuse_if(nodes.iter().all(|node| node.time == 0.0), 16)
+}
+
+/// Row 14 at one node: only nodes 0 and 1 have no previous, only the last has no next;
+/// what a node names as previous or next names it, as its own or as its alternative;
+/// a Fake has not both alternatives; no node is an alternative both ways.
+fn is_linked(nodes: &[Node], own: usize) -> bool {
+    let last = nodes.len() - 1;
+    let node = &nodes[own];
+    let (prev, next) = (&nodes[node.prev], &nodes[node.next]);
+    let is_both = own != 0 && own != last && prev.next_alt == own && next.prev_alt == own;
+    (node.prev == 0) == (own <= 1)
+        && (node.next == 0) == (own == last)
+        && (prev.next == own || prev.next_alt == own)
+        && (own == last || next.prev == own || next.prev_alt == own)
+        && !(node.fake() && node.next_alt != 0 && node.prev_alt != 0)
+        && !is_both
+}
+
+/// "Forward takes the smaller time, ties the smaller index": a base and the time at
+/// which its next is reached.
+struct Coming {
+    time: f64,
+    base: usize,
+}
+
+impl Ord for Coming {
+    fn cmp(&self, other: &Coming) -> Ordering {
+        by_time(other.time, self.time).then(other.base.cmp(&self.base))
+    }
+}
+
+/// The times of accepted tables are numbers; zeros of both signs are one time.
+fn by_time(a: f64, b: f64) -> Ordering {
+    a.partial_cmp(&b).unwrap_or(Ordering::Equal)
+}
+
+fn forward(nodes: &mut [Node], departure: f64) -> Answer<()> {
+    let last = nodes.len() - 1;
+    let mut queue = BinaryHeap::new();
+    nodes[0].set_time(departure);
+    depart(nodes, 1, departure, &mut queue)?;
+    while let Some(Coming { time, base }) = queue.pop() {
+        let own = nodes[base].next;
+        let at = receiver(nodes, own)?;
+        if at != own {
+            swap_forward(nodes, base, at);
+        }
+        if nodes[at].fake() {
+            refuse_if(nodes[at].timed, 15)?;
+            nodes[at].set_time(time);
+        } else if is_end(nodes, nodes[at].next) {
+            refuse_if(nodes[at].timed, 15)?;
+            nodes[at].set_time(time);
+            nodes[last].set_time(time);
+        } else {
+            depart(nodes, at, time, &mut queue)?;
+        }
+    }
+    if !nodes[last].timed {
+        let time = nodes[last - 1].time;
+        nodes[last].set_time(time);
+    }
+    refuse_if(nodes.iter().any(|node| !node.timed), 15)
+}
+
+fn is_end(nodes: &[Node], own: usize) -> bool {
+    nodes[own].fake() && nodes[own].next == 0
+}
+
+fn is_start(nodes: &[Node], own: usize) -> bool {
+    nodes[own].fake() && nodes[own].prev == 0
+}
+
+/// Time a base and its alternatives, and put them in the queue.
+fn depart(nodes: &mut [Node], at: usize, time: f64, queue: &mut BinaryHeap<Coming>) -> Answer<()> {
+    let mut base = at;
+    loop {
+        refuse_if(nodes[base].timed, 15)?;
+        nodes[base].set_time(time);
+        queue.push(Coming { time: time + nodes[base].to_next, base });
+        base = nodes[base].next_alt;
+        if base == 0 {
+            return Ok(());
+        }
+    }
+}
+
+/// The receiver that a run arriving at this one is given: the untimed one that is
+/// nearest to where all of them lead.
+fn receiver(nodes: &[Node], own: usize) -> Answer<usize> {
+    let mut at = own;
+    let mut fakes = 0;
+    while nodes[at].fake() {
+        let next = nodes[at].next;
+        if is_end(nodes, next) {
+            break;
+        }
+        refuse_if(nodes[next].prev_alt != at, 15)?;
+        if nodes[next].timed {
+            break;
+        }
+        fakes += 1;
+        refuse_if(fakes > nodes.len(), 15)?;
+        at = next;
+    }
+    Ok(at)
+}
+
+fn swap_forward(nodes: &mut [Node], base: usize, at: usize) {
+    let own = nodes[base].next;
+    let other = nodes[at].prev;
+    nodes[base].next = at;
+    nodes[other].next = own;
+    nodes[at].prev = base;
+    nodes[own].prev = other;
+}
+
+struct Going {
+    time: f64,
+    sub: f64,
+    receiver: usize,
+}
+
+impl Ord for Going {
+    fn cmp(&self, other: &Going) -> Ordering {
+        by_time(self.time, other.time)
+            .then(by_time(self.sub, other.sub))
+            .then(self.receiver.cmp(&other.receiver))
+    }
+}
+
+macro_rules! ordered {
+    ($entry:ty) => {
+        impl PartialOrd for $entry {
+            fn partial_cmp(&self, other: &$entry) -> Option<Ordering> {
+                Some(self.cmp(other))
+            }
+        }
+        impl PartialEq for $entry {
+            fn eq(&self, other: &$entry) -> bool {
+                self.cmp(other).is_eq()
+            }
+        }
+        impl Eq for $entry {}
+    };
+}
+ordered!(Coming);
+ordered!(Going);
+
+fn backward(nodes: &mut [Node]) -> Answer<()> {
+    let last = nodes.len() - 1;
+    let mut queue = BinaryHeap::new();
+    nodes[last].passed = true;
+    let time = nodes[last - 1].time;
+    return_from(nodes, last - 1, time, &mut queue)?;
+    while let Some(Going { time, sub: _, receiver }) = queue.pop() {
+        let own = nodes[receiver].prev;
+        let at = base(nodes, own)?;
+        if at != own {
+            swap_backward(nodes, receiver, at);
+        }
+        let prev = nodes[at].prev;
+        if nodes[at].fake() {
+            refuse_if(nodes[at].passed, 15)?;
+            nodes[at].pass(time);
+        } else if is_start(nodes, prev) {
+            refuse_if(nodes[at].passed, 15)?;
+            nodes[at].pass(time);
+            nodes[prev].pass(time);
+        } else {
+            return_from(nodes, at, time, &mut queue)?;
+        }
+    }
+    let time = nodes[1].time;
+    nodes[0].pass(time);
+    refuse_if(nodes.iter().any(|node| !node.passed), 15)
+}
+
+/// Time a receiver and its previous alternatives once more, and put them in the queue.
+fn return_from(nodes: &mut [Node], at: usize, time: f64, queue: &mut BinaryHeap<Going>) -> Answer<()> {
+    let mut receiver = at;
+    loop {
+        refuse_if(nodes[receiver].passed, 15)?;
+        let sub = nodes[receiver].time - time;
+        nodes[receiver].pass(time);
+        queue.push(Going { time: nodes[nodes[receiver].prev].time - sub, sub, receiver });
+        receiver = nodes[receiver].prev_alt;
+        if receiver == 0 {
+            return Ok(());
+        }
+    }
+}
+
+fn base(nodes: &[Node], own: usize) -> Answer<usize> {
+    let mut at = own;
+    let mut fakes = 0;
+    while nodes[at].fake() {
+        let prev = nodes[at].prev;
+        if is_start(nodes, prev) {
+            break;
+        }
+        refuse_if(nodes[prev].next_alt != at, 15)?;
+        if nodes[prev].passed {
+            break;
+        }
+        fakes += 1;
+        refuse_if(fakes > nodes.len(), 15)?;
+        at = prev;
+    }
+    Ok(at)
+}
+
+fn swap_backward(nodes: &mut [Node], receiver: usize, at: usize) {
+    let own = nodes[receiver].prev;
+    let other = nodes[at].next;
+    nodes[at].next = receiver;
+    nodes[own].next = other;
+    nodes[receiver].prev = at;
+    nodes[other].prev = own;
+    let (a, b) = (nodes[at], nodes[own]);
+    (nodes[at].to_next, nodes[at].distance) = (b.to_next, b.distance);
+    (nodes[own].to_next, nodes[own].distance) = (a.to_next, a.distance);
 }
