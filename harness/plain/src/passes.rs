@@ -61,16 +61,7 @@ fn forward(nodes: &mut [Node], departure: f64) -> Answer<()> {
         if at != own {
             swap_forward(nodes, base, at);
         }
-        if nodes[at].fake() {
-            refuse_if(nodes[at].timed, 15)?;
-            nodes[at].set_time(time);
-        } else if is_end(nodes, nodes[at].next) {
-            refuse_if(nodes[at].timed, 15)?;
-            nodes[at].set_time(time);
-            nodes[last].set_time(time);
-        } else {
-            depart(nodes, at, time, &mut queue)?;
-        }
+        depart(nodes, at, time, &mut queue)?;
     }
     if !nodes[last].timed {
         let time = nodes[last - 1].time;
@@ -87,17 +78,34 @@ fn is_start(nodes: &[Node], own: usize) -> bool {
     nodes[own].fake() && nodes[own].prev == 0
 }
 
-/// Time a base and its alternatives, and put them in the queue.
+/// Time a receiver and the strand of events behind it, up to where others arrive too.
 fn depart(nodes: &mut [Node], at: usize, time: f64, queue: &mut BinaryHeap<Coming>) -> Answer<()> {
-    let mut base = at;
+    let last = nodes.len() - 1;
+    let (mut at, mut time) = (at, time);
     loop {
-        refuse_if(nodes[base].timed, 15)?;
-        nodes[base].set_time(time);
-        queue.push(Coming { time: time + nodes[base].to_next, base });
-        base = nodes[base].next_alt;
-        if base == 0 {
+        refuse_if(nodes[at].timed, 15)?;
+        nodes[at].set_time(time);
+        if nodes[at].fake() && at != 1 {
             return Ok(());
         }
+        let mut base = nodes[at].next_alt;
+        while base != 0 {
+            refuse_if(nodes[base].timed, 15)?;
+            nodes[base].set_time(time);
+            queue.push(Coming { time: time + nodes[base].to_next, base });
+            base = nodes[base].next_alt;
+        }
+        let next = nodes[at].next;
+        if at != 1 && is_end(nodes, next) {
+            nodes[last].set_time(time);
+            return Ok(());
+        }
+        time += nodes[at].to_next;
+        if nodes[next].fake() || nodes[next].prev_alt != 0 {
+            queue.push(Coming { time, base: at });
+            return Ok(());
+        }
+        at = next;
     }
 }
 
@@ -168,42 +176,57 @@ fn backward(nodes: &mut [Node]) -> Answer<()> {
     let mut queue = BinaryHeap::new();
     nodes[last].passed = true;
     let time = nodes[last - 1].time;
-    return_from(nodes, last - 1, time, &mut queue)?;
-    while let Some(Going { time, sub: _, receiver }) = queue.pop() {
-        let own = nodes[receiver].prev;
-        let at = base(nodes, own)?;
-        if at != own {
-            swap_backward(nodes, receiver, at);
-        }
-        let prev = nodes[at].prev;
-        if nodes[at].fake() {
-            refuse_if(nodes[at].passed, 15)?;
-            nodes[at].pass(time);
-        } else if is_start(nodes, prev) {
-            refuse_if(nodes[at].passed, 15)?;
-            nodes[at].pass(time);
-            nodes[prev].pass(time);
-        } else {
-            return_from(nodes, at, time, &mut queue)?;
-        }
+    arrive(nodes, last - 1, time, &mut queue)?;
+    queue.push(Going { time, sub: 0.0, receiver: last - 1 });
+    while let Some(Going { time: _, sub, receiver }) = queue.pop() {
+        come_back(nodes, receiver, sub, &mut queue)?;
     }
     let time = nodes[1].time;
     nodes[0].pass(time);
     refuse_if(nodes.iter().any(|node| !node.passed), 15)
 }
 
-/// Time a receiver and its previous alternatives once more, and put them in the queue.
-fn return_from(nodes: &mut [Node], at: usize, time: f64, queue: &mut BinaryHeap<Going>) -> Answer<()> {
-    let mut receiver = at;
-    loop {
+fn arrive(nodes: &mut [Node], at: usize, time: f64, queue: &mut BinaryHeap<Going>) -> Answer<()> {
+    refuse_if(nodes[at].passed, 15)?;
+    nodes[at].pass(time);
+    let mut receiver = nodes[at].prev_alt;
+    while receiver != 0 {
         refuse_if(nodes[receiver].passed, 15)?;
         let sub = nodes[receiver].time - time;
         nodes[receiver].pass(time);
-        queue.push(Going { time: nodes[nodes[receiver].prev].time - sub, sub, receiver });
+        queue.push(Going { time, sub, receiver });
         receiver = nodes[receiver].prev_alt;
-        if receiver == 0 {
+    }
+    Ok(())
+}
+
+fn come_back(nodes: &mut [Node], receiver: usize, sub: f64, queue: &mut BinaryHeap<Going>) -> Answer<()> {
+    let mut receiver = receiver;
+    loop {
+        let own = nodes[receiver].prev;
+        let at = base(nodes, own)?;
+        if at != own {
+            swap_backward(nodes, receiver, at);
+        }
+        let time = nodes[at].time - sub;
+        if nodes[at].fake() {
+            refuse_if(nodes[at].passed, 15)?;
+            nodes[at].pass(time);
             return Ok(());
         }
+        let prev = nodes[at].prev;
+        if is_start(nodes, prev) {
+            refuse_if(nodes[at].passed, 15)?;
+            nodes[at].pass(time);
+            nodes[prev].pass(time);
+            return Ok(());
+        }
+        arrive(nodes, at, time, queue)?;
+        if nodes[prev].fake() || nodes[prev].next_alt != 0 {
+            queue.push(Going { time: nodes[prev].time - sub, sub, receiver: at });
+            return Ok(());
+        }
+        receiver = at;
     }
 }
 
