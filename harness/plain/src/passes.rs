@@ -54,14 +54,10 @@ fn forward(nodes: &mut [Node], departure: f64) -> Answer<()> {
     let last = nodes.len() - 1;
     let mut queue = BinaryHeap::new();
     nodes[0].set_time(departure);
-    depart(nodes, 1, departure, &mut queue)?;
+    nodes[1].set_time(departure);
+    go_on(nodes, 1, departure + nodes[1].to_next, &mut queue)?;
     while let Some(Coming { time, base }) = queue.pop() {
-        let own = nodes[base].next;
-        let at = receiver(nodes, own)?;
-        if at != own {
-            swap_forward(nodes, base, at);
-        }
-        depart(nodes, at, time, &mut queue)?;
+        go_on(nodes, base, time, &mut queue)?;
     }
     if !nodes[last].timed {
         let time = nodes[last - 1].time;
@@ -78,25 +74,34 @@ fn is_start(nodes: &[Node], own: usize) -> bool {
     nodes[own].fake() && nodes[own].prev == 0
 }
 
-/// Time a receiver and the strand of events behind it, up to where others arrive too.
-fn depart(nodes: &mut [Node], at: usize, time: f64, queue: &mut BinaryHeap<Coming>) -> Answer<()> {
+fn alternatives(nodes: &mut [Node], at: usize, queue: &mut BinaryHeap<Coming>) -> Answer<()> {
+    let time = nodes[at].time;
+    let base = nodes[at].next_alt;
+    if base != 0 {
+        refuse_if(nodes[base].timed, 15)?;
+        nodes[base].set_time(time);
+        queue.push(Coming { time: time + nodes[base].to_next, base });
+    }
+    Ok(())
+}
+
+fn go_on(nodes: &mut [Node], base: usize, time: f64, queue: &mut BinaryHeap<Coming>) -> Answer<()> {
     let last = nodes.len() - 1;
-    let (mut at, mut time) = (at, time);
+    let (mut base, mut time) = (base, time);
     loop {
+        let own = nodes[base].next;
+        let at = receiver(nodes, own)?;
+        if at != own {
+            swap_forward(nodes, base, at);
+        }
+        alternatives(nodes, base, queue)?;
         refuse_if(nodes[at].timed, 15)?;
         nodes[at].set_time(time);
-        if nodes[at].fake() && at != 1 {
+        if nodes[at].fake() {
             return Ok(());
         }
-        let mut base = nodes[at].next_alt;
-        while base != 0 {
-            refuse_if(nodes[base].timed, 15)?;
-            nodes[base].set_time(time);
-            queue.push(Coming { time: time + nodes[base].to_next, base });
-            base = nodes[base].next_alt;
-        }
         let next = nodes[at].next;
-        if at != 1 && is_end(nodes, next) {
+        if is_end(nodes, next) {
             nodes[last].set_time(time);
             return Ok(());
         }
@@ -105,7 +110,7 @@ fn depart(nodes: &mut [Node], at: usize, time: f64, queue: &mut BinaryHeap<Comin
             queue.push(Coming { time, base: at });
             return Ok(());
         }
-        at = next;
+        base = at;
     }
 }
 
@@ -177,7 +182,7 @@ fn backward(nodes: &mut [Node]) -> Answer<()> {
     nodes[last].passed = true;
     let time = nodes[last - 1].time;
     arrive(nodes, last - 1, time, &mut queue)?;
-    queue.push(Going { time, sub: 0.0, receiver: last - 1 });
+    come_back(nodes, last - 1, 0.0, &mut queue)?;
     while let Some(Going { time: _, sub, receiver }) = queue.pop() {
         come_back(nodes, receiver, sub, &mut queue)?;
     }
