@@ -180,8 +180,7 @@ fn backward(nodes: &mut [Node]) -> Answer<()> {
     let last = nodes.len() - 1;
     let mut queue = BinaryHeap::new();
     nodes[last].passed = true;
-    let time = nodes[last - 1].time;
-    arrive(nodes, last - 1, time, &mut queue)?;
+    nodes[last - 1].passed = true;
     come_back(nodes, last - 1, 0.0, &mut queue)?;
     while let Some(Going { time: _, sub, receiver }) = queue.pop() {
         come_back(nodes, receiver, sub, &mut queue)?;
@@ -191,16 +190,14 @@ fn backward(nodes: &mut [Node]) -> Answer<()> {
     refuse_if(nodes.iter().any(|node| !node.passed), 15)
 }
 
-fn arrive(nodes: &mut [Node], at: usize, time: f64, queue: &mut BinaryHeap<Going>) -> Answer<()> {
-    refuse_if(nodes[at].passed, 15)?;
-    nodes[at].pass(time);
-    let mut receiver = nodes[at].prev_alt;
-    while receiver != 0 {
+fn arrivals(nodes: &mut [Node], at: usize, queue: &mut BinaryHeap<Going>) -> Answer<()> {
+    let time = nodes[at].time;
+    let receiver = nodes[at].prev_alt;
+    if receiver != 0 {
         refuse_if(nodes[receiver].passed, 15)?;
         let sub = nodes[receiver].time - time;
         nodes[receiver].pass(time);
         queue.push(Going { time, sub, receiver });
-        receiver = nodes[receiver].prev_alt;
     }
     Ok(())
 }
@@ -213,20 +210,18 @@ fn come_back(nodes: &mut [Node], receiver: usize, sub: f64, queue: &mut BinaryHe
         if at != own {
             swap_backward(nodes, receiver, at);
         }
+        arrivals(nodes, receiver, queue)?;
         let time = nodes[at].time - sub;
+        refuse_if(nodes[at].passed, 15)?;
+        nodes[at].pass(time);
         if nodes[at].fake() {
-            refuse_if(nodes[at].passed, 15)?;
-            nodes[at].pass(time);
             return Ok(());
         }
         let prev = nodes[at].prev;
         if is_start(nodes, prev) {
-            refuse_if(nodes[at].passed, 15)?;
-            nodes[at].pass(time);
             nodes[prev].pass(time);
             return Ok(());
         }
-        arrive(nodes, at, time, queue)?;
         if nodes[prev].fake() || nodes[prev].next_alt != 0 {
             queue.push(Going { time: nodes[prev].time - sub, sub, receiver: at });
             return Ok(());
