@@ -235,7 +235,7 @@ fn base(nodes: &[Node], own: usize) -> Answer<usize> {
     let mut fakes = 0;
     while nodes[at].fake() {
         let prev = nodes[at].prev;
-        if is_start(nodes, prev) {
+        if prev == 0 {
             break;
         }
         refuse_if(nodes[prev].next_alt != at, 15)?;
