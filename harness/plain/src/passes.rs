@@ -219,6 +219,7 @@ fn come_back(nodes: &mut [Node], receiver: usize, sub: f64, queue: &mut BinaryHe
         }
         let prev = nodes[at].prev;
         if is_start(nodes, prev) {
+            refuse_if(nodes[prev].passed, 15)?;
             nodes[prev].pass(time);
             return Ok(());
         }
