@@ -51,17 +51,12 @@ fn by_time(a: f64, b: f64) -> Ordering {
 }
 
 fn forward(nodes: &mut [Node], departure: f64) -> Answer<()> {
-    let last = nodes.len() - 1;
     let mut queue = BinaryHeap::new();
     nodes[0].set_time(departure);
     nodes[1].set_time(departure);
     go_on(nodes, 1, departure + nodes[1].to_next, &mut queue)?;
     while let Some(Coming { time, base }) = queue.pop() {
         go_on(nodes, base, time, &mut queue)?;
-    }
-    if !nodes[last].timed {
-        let time = nodes[last - 1].time;
-        nodes[last].set_time(time);
     }
     refuse_if(nodes.iter().any(|node| !node.timed), 15)
 }
@@ -97,16 +92,17 @@ fn go_on(nodes: &mut [Node], base: usize, time: f64, queue: &mut BinaryHeap<Comi
         alternatives(nodes, base, queue)?;
         refuse_if(nodes[at].timed, 15)?;
         nodes[at].set_time(time);
-        if nodes[at].fake() {
-            return Ok(());
-        }
         let next = nodes[at].next;
-        if is_end(nodes, next) {
+        let is_shared = nodes[next].fake() || nodes[next].prev_alt != 0;
+        if is_shared && nodes[next].next == 0 {
             nodes[last].set_time(time);
             return Ok(());
         }
+        if nodes[at].fake() {
+            return Ok(());
+        }
         time += nodes[at].to_next;
-        if nodes[next].fake() || nodes[next].prev_alt != 0 {
+        if is_shared {
             queue.push(Coming { time, base: at });
             return Ok(());
         }
@@ -218,12 +214,13 @@ fn come_back(nodes: &mut [Node], receiver: usize, sub: f64, queue: &mut BinaryHe
             return Ok(());
         }
         let prev = nodes[at].prev;
-        if is_start(nodes, prev) {
+        let is_shared = nodes[prev].fake() || nodes[prev].next_alt != 0;
+        if is_shared && nodes[prev].prev == 0 {
             refuse_if(nodes[prev].passed, 15)?;
             nodes[prev].pass(time);
             return Ok(());
         }
-        if nodes[prev].fake() || nodes[prev].next_alt != 0 {
+        if is_shared {
             queue.push(Going { time: nodes[prev].time - sub, sub, receiver: at });
             return Ok(());
         }
