@@ -181,8 +181,6 @@ fn backward(nodes: &mut [Node]) -> Answer<()> {
     while let Some(Going { time: _, sub, receiver }) = queue.pop() {
         come_back(nodes, receiver, sub, &mut queue)?;
     }
-    let time = nodes[1].time;
-    nodes[0].pass(time);
     refuse_if(nodes.iter().any(|node| !node.passed), 15)
 }
 
@@ -210,14 +208,18 @@ fn come_back(nodes: &mut [Node], receiver: usize, sub: f64, queue: &mut BinaryHe
         let time = nodes[at].time - sub;
         refuse_if(nodes[at].passed, 15)?;
         nodes[at].pass(time);
-        if nodes[at].fake() {
-            return Ok(());
-        }
         let prev = nodes[at].prev;
         let is_shared = nodes[prev].fake() || nodes[prev].next_alt != 0;
+        if nodes[at].fake() {
+            if prev == 0 && is_shared {
+                nodes[0].pass(time);
+            }
+            return Ok(());
+        }
         if is_shared && nodes[prev].prev == 0 {
             refuse_if(nodes[prev].passed, 15)?;
             nodes[prev].pass(time);
+            nodes[0].pass(time);
             return Ok(());
         }
         if is_shared {
