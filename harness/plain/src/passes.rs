@@ -223,7 +223,7 @@ fn come_back(nodes: &mut [Node], receiver: usize, sub: f64, queue: &mut BinaryHe
             return Ok(());
         }
         if is_shared {
-            queue.push(Going { time: nodes[prev].time - sub, sub, receiver: at });
+            queue.push(Going { time: time - nodes[prev].to_next, sub, receiver: at });
             return Ok(());
         }
         receiver = at;
