@@ -61,14 +61,6 @@ fn forward(nodes: &mut [Node], departure: f64) -> Answer<()> {
     refuse_if(nodes.iter().any(|node| !node.timed), 15)
 }
 
-fn is_end(nodes: &[Node], own: usize) -> bool {
-    nodes[own].fake() && nodes[own].next == 0
-}
-
-fn is_start(nodes: &[Node], own: usize) -> bool {
-    nodes[own].fake() && nodes[own].prev == 0
-}
-
 fn alternatives(nodes: &mut [Node], at: usize, queue: &mut BinaryHeap<Coming>) -> Answer<()> {
     let time = nodes[at].time;
     let base = nodes[at].next_alt;
@@ -95,6 +87,7 @@ fn go_on(nodes: &mut [Node], base: usize, time: f64, queue: &mut BinaryHeap<Comi
         let next = nodes[at].next;
         let is_shared = nodes[next].fake() || nodes[next].prev_alt != 0;
         if is_shared && nodes[next].next == 0 {
+            refuse_if(nodes[last].timed, 15)?;
             nodes[last].set_time(time);
             return Ok(());
         }
@@ -117,7 +110,7 @@ fn receiver(nodes: &[Node], own: usize) -> Answer<usize> {
     let mut fakes = 0;
     while nodes[at].fake() {
         let next = nodes[at].next;
-        if is_end(nodes, next) {
+        if nodes[next].next == 0 && (nodes[next].fake() || nodes[next].prev_alt != 0) {
             break;
         }
         refuse_if(nodes[next].prev_alt != at, 15)?;
