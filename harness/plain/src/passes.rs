@@ -86,7 +86,7 @@ fn go_on(nodes: &mut [Node], base: usize, time: f64, queue: &mut BinaryHeap<Comi
         nodes[at].set_time(time);
         let next = nodes[at].next;
         let is_shared = nodes[next].fake() || nodes[next].prev_alt != 0;
-        if is_shared && nodes[next].next == 0 {
+        if is_closing(nodes, at) {
             refuse_if(nodes[last].timed, 15)?;
             nodes[last].set_time(time);
             return Ok(());
@@ -108,13 +108,10 @@ fn go_on(nodes: &mut [Node], base: usize, time: f64, queue: &mut BinaryHeap<Comi
 fn receiver(nodes: &[Node], own: usize) -> Answer<usize> {
     let mut at = own;
     let mut fakes = 0;
-    while nodes[at].fake() {
+    while nodes[at].fake() && !is_closing(nodes, at) {
         let next = nodes[at].next;
-        if nodes[next].next == 0 && (nodes[next].fake() || nodes[next].prev_alt != 0) {
-            break;
-        }
-        refuse_if(nodes[next].prev_alt != at, 15)?;
         if nodes[next].timed {
+            refuse_if(nodes[next].prev_alt != at, 15)?;
             break;
         }
         fakes += 1;
@@ -122,6 +119,12 @@ fn receiver(nodes: &[Node], own: usize) -> Answer<usize> {
         at = next;
     }
     Ok(at)
+}
+
+/// Behind this node comes the end, and it is not one of the end's alternatives.
+fn is_closing(nodes: &[Node], at: usize) -> bool {
+    let next = &nodes[nodes[at].next];
+    next.next == 0 && (next.fake() || next.prev_alt != 0) && (next.prev == at || !nodes[at].fake())
 }
 
 fn swap_forward(nodes: &mut [Node], base: usize, at: usize) {
@@ -226,13 +229,10 @@ fn come_back(nodes: &mut [Node], receiver: usize, sub: f64, queue: &mut BinaryHe
 fn base(nodes: &[Node], own: usize) -> Answer<usize> {
     let mut at = own;
     let mut fakes = 0;
-    while nodes[at].fake() {
+    while nodes[at].fake() && nodes[at].prev != 0 {
         let prev = nodes[at].prev;
-        if prev == 0 {
-            break;
-        }
-        refuse_if(nodes[prev].next_alt != at, 15)?;
         if nodes[prev].passed {
+            refuse_if(nodes[prev].next_alt != at, 15)?;
             break;
         }
         fakes += 1;
