@@ -86,7 +86,7 @@ fn go_on(nodes: &mut [Node], base: usize, time: f64, queue: &mut BinaryHeap<Comi
         nodes[at].set_time(time);
         let next = nodes[at].next;
         let is_shared = nodes[next].fake() || nodes[next].prev_alt != 0;
-        if is_closing(nodes, at) {
+        if is_closing(nodes, at) && !(nodes[at].fake() && nodes[last].timed) {
             refuse_if(nodes[last].timed, 15)?;
             nodes[last].set_time(time);
             return Ok(());
@@ -108,10 +108,13 @@ fn go_on(nodes: &mut [Node], base: usize, time: f64, queue: &mut BinaryHeap<Comi
 fn receiver(nodes: &[Node], own: usize) -> Answer<usize> {
     let mut at = own;
     let mut fakes = 0;
-    while nodes[at].fake() && !is_closing(nodes, at) {
+    while nodes[at].fake() {
         let next = nodes[at].next;
         if nodes[next].timed {
             refuse_if(nodes[next].prev_alt != at, 15)?;
+            break;
+        }
+        if is_closing(nodes, at) {
             break;
         }
         fakes += 1;
@@ -121,10 +124,10 @@ fn receiver(nodes: &[Node], own: usize) -> Answer<usize> {
     Ok(at)
 }
 
-/// Behind this node comes the end, and it is not one of the end's alternatives.
+/// Behind this node comes the end.
 fn is_closing(nodes: &[Node], at: usize) -> bool {
     let next = &nodes[nodes[at].next];
-    next.next == 0 && (next.fake() || next.prev_alt != 0) && (next.prev == at || !nodes[at].fake())
+    next.next == 0 && (next.fake() || next.prev_alt != 0)
 }
 
 fn swap_forward(nodes: &mut [Node], base: usize, at: usize) {
