@@ -52,7 +52,11 @@ impl Train<'_> {
     /// Go past the next event. "Where the back index becomes 1 nothing is emitted".
     fn advance(&mut self) -> Option<Event> {
         let kind = self.kind();
-        let index = if kind == Kind::Clear { &mut self.back } else { &mut self.front };
+        let index = if kind == Kind::Clear {
+            &mut self.back
+        } else {
+            &mut self.front
+        };
         *index += 1;
         let link = self.points[*index - 1].link;
         (kind != Kind::Clear || *index != 1).then_some(Event { link, kind })
@@ -61,13 +65,23 @@ impl Train<'_> {
 
 /// The events between the first sample and the last, at the end of the list. Row 11:
 /// "a sample offset reaches the last point", for all samples before any event.
-pub fn make(length: f64, samples: &[Sample], points: &[Point], list: &mut Vec<Timed>) -> Answer<()> {
+pub fn make(
+    length: f64,
+    samples: &[Sample],
+    points: &[Point],
+    list: &mut Vec<Timed>,
+) -> Answer<()> {
     let end = points[points.len() - 1].offset;
     refuse_if(samples.iter().any(|sample| sample.offset >= end), 11)?;
     // What front and back have reached at the first sample was emitted before it.
     let front = samples[0].offset;
     let reached = |to: f64| points.partition_point(|point| point.offset <= to);
-    let mut train = Train { length, points, front: reached(front), back: reached(front - length) };
+    let mut train = Train {
+        length,
+        points,
+        front: reached(front),
+        back: reached(front - length),
+    };
     for pair in samples.windows(2) {
         while train.offset() <= pair[1].offset {
             let offset = train.offset();
@@ -89,7 +103,12 @@ fn timed(event: Event, offset: f64, before: &Sample, sample: &Sample) -> Answer<
     let speed = root(v * v - (v - before.speed) / (t - before.time) * d);
     let time = t - d / (v + speed);
     refuse_if(!speed.is_finite() || bad_size(time), 11)?;
-    Ok(Timed { event, time, offset, speed })
+    Ok(Timed {
+        event,
+        time,
+        offset,
+        speed,
+    })
 }
 
 /// "By itself the event maker [..] gives 3, 4, 7, any 11, then 12 for a short list".
@@ -100,14 +119,23 @@ pub fn answer(item: &[u8]) -> Answer<Vec<Timed>> {
     let (points, point_bytes) = rest.section(12)?;
     let places = rest.number()? as usize;
     // "1 to 1,000,000 samples, 1 to 65,536 points"
-    refuse_if(!(1..=1_000_000).contains(&samples) || !(1..=65_536).contains(&points), 3)?;
+    refuse_if(
+        !(1..=1_000_000).contains(&samples) || !(1..=65_536).contains(&points),
+        3,
+    )?;
     let samples: Vec<Sample> = sample_bytes.chunks_exact(24).map(sample).collect();
     let points: Vec<Point> = point_bytes.chunks_exact(12).map(point).collect();
     // "book signs"
     let bad_point = points.iter().any(|point| bad_float(point.offset));
-    refuse_if(bad_float(length) || samples.iter().any(Sample::bad) || bad_point, 4)?;
+    refuse_if(
+        bad_float(length) || samples.iter().any(Sample::bad) || bad_point,
+        4,
+    )?;
     // "7 if one falls"
-    refuse_if(fall(&samples) || points.windows(2).any(|w| w[1].offset < w[0].offset), 7)?;
+    refuse_if(
+        fall(&samples) || points.windows(2).any(|w| w[1].offset < w[0].offset),
+        7,
+    )?;
     let mut list = Vec::new();
     make(length, &samples, &points, &mut list)?;
     refuse_if(list.len() > places, 12)?;
@@ -116,5 +144,8 @@ pub fn answer(item: &[u8]) -> Answer<Vec<Timed>> {
 
 /// A point of the event maker's input: offset, link.
 fn point(b: &[u8]) -> Point {
-    Point { offset: float(b, 0), link: number(b, 8) }
+    Point {
+        offset: float(b, 0),
+        link: number(b, 8),
+    }
 }

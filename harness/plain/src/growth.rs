@@ -64,14 +64,23 @@ pub fn grow(book: &Book, options: &Options, places: usize) -> Answer<Grown> {
         book,
         options,
         places,
-        grown: Grown { nodes: Vec::new(), added: 0, splits: 0, joined: 0, finished: 0 },
+        grown: Grown {
+            nodes: Vec::new(),
+            added: 0,
+            splits: 0,
+            joined: 0,
+            finished: 0,
+        },
         holders: vec![Default::default(); book.links.len()],
         saved: Vec::new(),
         ends: Vec::new(),
         appends: 0,
     };
     // Nodes 0 and 1: "Node 1 is the start".
-    growth.push(Node { next: 1, ..Node::BLANK })?;
+    growth.push(Node {
+        next: 1,
+        ..Node::BLANK
+    })?;
     growth.push(Node::BLANK)?;
     for &link in &options.kept {
         growth.origin(link)?;
@@ -90,9 +99,20 @@ impl Growth<'_> {
     /// its Clear is added".
     fn origin(&mut self, link: u32) -> Answer<()> {
         let (time, length) = (self.book.departure, self.book.length);
-        let timed = |kind, offset| Timed { event: Event { link, kind }, time, offset, speed: 0.0 };
-        let mut run =
-            Run { place: 1, time, offset: 0.0, leg: 0, list: Vec::new(), has_added: false };
+        let timed = |kind, offset| Timed {
+            event: Event { link, kind },
+            time,
+            offset,
+            speed: 0.0,
+        };
+        let mut run = Run {
+            place: 1,
+            time,
+            offset: 0.0,
+            leg: 0,
+            list: Vec::new(),
+            has_added: false,
+        };
         self.insert(&mut run, &timed(Kind::Arrive, 0.0))?;
         self.insert(&mut run, &timed(Kind::Clear, length))?;
         run.leg = self.find_leg(0, link)?;
@@ -102,7 +122,9 @@ impl Growth<'_> {
 
     /// "The leg is found or the book is refused with 10".
     fn find_leg(&self, parent: u32, link: u32) -> Answer<u32> {
-        self.book.find_leg(parent, link).ok_or(No::Leg { parent, link })
+        self.book
+            .find_leg(parent, link)
+            .ok_or(No::Leg { parent, link })
     }
 
     /// A popped run, from its leg until it joins or finishes.
@@ -114,7 +136,12 @@ impl Growth<'_> {
             // "all of a leg's events before its insertions"
             let leg = self.book.leg(run.leg);
             list.clear();
-            events::make(self.book.length, self.book.samples_of(leg), &points, &mut list)?;
+            events::make(
+                self.book.length,
+                self.book.samples_of(leg),
+                &points,
+                &mut list,
+            )?;
             for timed in &list {
                 if run.has_added && self.join(&mut run, timed)? {
                     return Ok(());
@@ -139,7 +166,10 @@ impl Growth<'_> {
             links.push(self.book.leg(leg).link);
             leg = self.book.leg(leg).parent;
         }
-        let mut points = vec![Point { offset: 0.0, link: 0 }];
+        let mut points = vec![Point {
+            offset: 0.0,
+            link: 0,
+        }];
         for &link in links.iter().rev() {
             self.lengthen(&mut points, link);
         }
@@ -150,7 +180,10 @@ impl Growth<'_> {
     fn lengthen(&self, points: &mut Vec<Point>, link: u32) {
         let last = points.len() - 1;
         points[last].link = link;
-        points.push(Point { offset: points[last].offset + self.book.link(link).length, link: 0 });
+        points.push(Point {
+            offset: points[last].offset + self.book.link(link).length,
+            link: 0,
+        });
     }
 
     /// Row 9: "next is 0, or neither next is in the set". Of two nexts in the set the
@@ -191,11 +224,19 @@ impl Growth<'_> {
         let mut before = 0;
         for end in std::mem::take(&mut self.ends).into_iter().rev() {
             let own = self.grown.nodes.len();
-            let fake = Node { prev: end, prev_alt: before, next: own + 1, ..Node::BLANK };
+            let fake = Node {
+                prev: end,
+                prev_alt: before,
+                next: own + 1,
+                ..Node::BLANK
+            };
             before = self.push(fake)?;
             self.grown.nodes[end].next = own;
         }
-        self.push(Node { prev: before, ..Node::BLANK })?;
+        self.push(Node {
+            prev: before,
+            ..Node::BLANK
+        })?;
         Ok(())
     }
 }
@@ -240,7 +281,10 @@ impl Growth<'_> {
 
     /// A new Fake as the node's next alternative.
     fn split(&mut self, place: usize) -> Answer<usize> {
-        let fake = self.push(Node { prev: place, ..Node::BLANK })?;
+        let fake = self.push(Node {
+            prev: place,
+            ..Node::BLANK
+        })?;
         self.grown.nodes[place].next_alt = fake;
         self.grown.splits += 1;
         Ok(fake)
@@ -326,7 +370,13 @@ impl Growth<'_> {
         loop {
             let next = self.grown.nodes[at].next;
             if self.grown.nodes[next].event == event {
-                put(list, Entry { link: 0, node: next })?;
+                put(
+                    list,
+                    Entry {
+                        link: 0,
+                        node: next,
+                    },
+                )?;
             }
             at = self.grown.nodes[at].next_alt;
             if at == 0 {
@@ -382,7 +432,11 @@ impl Growth<'_> {
         while self.grown.nodes[chain].prev_alt != 0 {
             chain = self.grown.nodes[chain].prev_alt;
         }
-        let fake = self.push(Node { next: chain, prev: run.place, ..Node::BLANK })?;
+        let fake = self.push(Node {
+            next: chain,
+            prev: run.place,
+            ..Node::BLANK
+        })?;
         self.lead(run, fake, timed);
         self.grown.nodes[chain].prev_alt = fake;
         self.grown.joined += 1;
