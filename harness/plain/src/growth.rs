@@ -53,6 +53,8 @@ struct Growth<'a> {
     /// By link, the nodes of its Arrive and of its Clear, rising.
     holders: Vec<[Vec<usize>; 2]>,
     saved: Vec<Run>,
+    /// The entries of all waiting runs.
+    waiting: usize,
     ends: Vec<usize>,
     /// How often a list was looked through for nodes that it names.
     appends: u32,
@@ -73,6 +75,7 @@ pub fn grow(book: &Book, options: &Options, places: usize) -> Answer<Grown> {
         },
         holders: vec![Default::default(); book.links.len()],
         saved: Vec::new(),
+        waiting: 0,
         ends: Vec::new(),
         appends: 0,
     };
@@ -87,6 +90,7 @@ pub fn grow(book: &Book, options: &Options, places: usize) -> Answer<Grown> {
     }
     // "last saved run first"
     while let Some(run) = growth.saved.pop() {
+        growth.waiting -= run.list.len();
         growth.drive(run)?;
     }
     growth.close()?;
@@ -198,8 +202,8 @@ impl Growth<'_> {
             let leg = self.find_leg(run.leg, link.next_alt)?;
             self.saved.push(Run { leg, ..run.clone() });
             // "entries of all waiting runs beyond the table's places"
-            let waiting: usize = self.saved.iter().map(|run| run.list.len()).sum();
-            refuse_if(waiting > self.places, 12)?;
+            self.waiting += run.list.len();
+            refuse_if(self.waiting > self.places, 12)?;
         }
         run.leg = self.find_leg(run.leg, if is_next { link.next } else { link.next_alt })?;
         Ok(())
@@ -211,8 +215,6 @@ impl Growth<'_> {
         let node = &mut self.grown.nodes[run.place];
         refuse_if(run.place != last || node.next != 0 || node.end, 13)?;
         node.end = true;
-        node.to_next = 0.0;
-        node.distance = 0.0;
         self.ends.push(run.place);
         self.grown.finished += 1;
         Ok(())
