@@ -1,9 +1,9 @@
 //! plain: a second, independent answer to document 01 (docs/01-scope.md).
 //!
-//! It was written from the request's text, and not from the source: where document 01
-//! defers to a function of the published source, a description of it in words stood in.
-//! It shares no line with `reference`; where both give the same bytes for a book, two
-//! readings of the request agree.
+//! It was written from the request's text and DESIGN.md's readings, and not from the
+//! source: points that both leave open are settled by the reference's answers as a black
+//! box (docs/DIFFERENCES.md). It shares no line with `reference`; where both give the same
+//! bytes for a book, two readings of the request agree.
 //!
 //! | file | module of document 01 |
 //! |---|---|

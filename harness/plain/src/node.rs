@@ -28,9 +28,7 @@ pub struct Timed {
 #[derive(Clone, Copy, Debug)]
 pub struct Node {
     pub time: f64,
-    /// While there is no next: the absolute time of the run's event.
     pub to_next: f64,
-    /// While there is no next: the absolute offset of the run's event.
     pub distance: f64,
     pub speed: f64,
     pub next: usize,

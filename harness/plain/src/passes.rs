@@ -1,251 +1,338 @@
-//! Passes: integrity checks, forward, backward; rows 14, 15 and 16.
+//! Passes: "Integrity checks, forward, backward"; rows 14 to 16.
+//!
+//! Written from document 01 and the readings of DESIGN.md; points that both leave open
+//! are settled by the reference's answers as a black box (docs/DIFFERENCES.md).
+//!
+//! A base is a node that leads on by its next (node 1, events, split Fakes), a receiver
+//! one that is led to (events, join Fakes, end Fakes). Both passes follow a strand from
+//! event to event, as far as no other can meet it; there it waits in a queue.
 
 use crate::node::Node;
-use crate::{refuse_if, Answer};
+use crate::{refuse_if, Answer, No};
 use std::cmp::Ordering;
 use std::collections::BinaryHeap;
 
-/// All of it over nodes that are still untimed, at least three.
+/// The checks, both passes; row 16: "all times 0 or −0".
 pub fn run(nodes: &mut [Node], departure: f64) -> Answer<()> {
-    refuse_if((0..nodes.len()).any(|own| unsound(nodes, own)), 14)?;
-    forward(nodes, departure)?;
-    refuse_if(nodes.iter().any(|node| !node.timed), 15)?;
-    backward(nodes)?;
-    refuse_if(nodes.iter().any(|node| !node.passed), 15)?;
+    refuse_if((0..nodes.len()).any(|own| !is_linked(nodes, own)), 14)?;
+    Forward::new(nodes).run(departure)?;
+    Backward::new(nodes).run()?;
     refuse_if(nodes.iter().all(|node| node.time == 0.0), 16)
 }
 
-/// A pass's assertion.
-fn assert(condition: bool) -> Answer<()> {
-    refuse_if(!condition, 15)
-}
-
-/// Row 14: "a check or assertion before the passes fails".
-fn unsound(nodes: &[Node], own: usize) -> bool {
+/// Row 14 at one node: only nodes 0 and 1 have no previous, only the last has no next;
+/// what it names as previous or next names it, as its own or as its alternative; a Fake
+/// has not both alternatives, and no node is an alternative on both sides.
+fn is_linked(nodes: &[Node], own: usize) -> bool {
+    let last = nodes.len() - 1;
     let node = &nodes[own];
     let (prev, next) = (&nodes[node.prev], &nodes[node.next]);
-    let last = own == nodes.len() - 1;
-    (node.prev != 0) == (own <= 1)
-        || (node.next != 0) == last
-        || (node.fake() && node.next_alt != 0 && node.prev_alt != 0)
-        || (prev.next != own && prev.next_alt != own)
-        || (next.prev != own && next.prev_alt != own && !last)
-        || (prev.next_alt == own && next.prev_alt == own && own != 0 && !last)
+    let is_inner = own != 0 && own != last;
+    (node.prev == 0) == (own <= 1)
+        && (node.next == 0) == (own == last)
+        && (prev.next == own || prev.next_alt == own)
+        && (own == last || next.prev == own || next.prev_alt == own)
+        && !(node.fake() && node.next_alt != 0 && node.prev_alt != 0)
+        && !(is_inner && prev.next_alt == own && next.prev_alt == own)
 }
 
-// ---- Forward
-
-/// An entry of the forward queue: "Forward takes the smaller time, ties the smaller
-/// index". The heap gives its greatest first, so the order is turned round.
-struct Sooner {
-    time: f64,
-    node: usize,
+/// Several bases may lead to this node.
+fn is_met(node: &Node) -> bool {
+    node.fake() || node.prev_alt != 0
 }
 
-impl Ord for Sooner {
-    fn cmp(&self, other: &Sooner) -> Ordering {
-        numbers(other.time, self.time).then(other.node.cmp(&self.node))
-    }
+/// Several receivers may lie behind this node.
+fn is_left(node: &Node) -> bool {
+    node.fake() || node.next_alt != 0
 }
 
-impl PartialOrd for Sooner {
-    fn partial_cmp(&self, other: &Sooner) -> Option<Ordering> {
-        Some(self.cmp(other))
-    }
-}
-
-impl PartialEq for Sooner {
-    fn eq(&self, other: &Sooner) -> bool {
-        self.cmp(other) == Ordering::Equal
-    }
-}
-
-impl Eq for Sooner {}
-
-/// Floats as numbers: both zeros are equal. No NaN is ever queued.
-fn numbers(a: f64, b: f64) -> Ordering {
+/// Times compare as numbers: zeros of both signs are one time.
+fn by_time(a: f64, b: f64) -> Ordering {
     a.partial_cmp(&b).unwrap_or(Ordering::Equal)
 }
 
-fn queue_forward(queue: &mut BinaryHeap<Sooner>, time: f64, node: usize) -> Answer<()> {
-    assert(!time.is_nan())?;
-    queue.push(Sooner { time, node });
-    Ok(())
+/// A base that waits, and the time at which it reaches its next.
+struct Coming {
+    time: f64,
+    base: usize,
 }
 
-fn forward(nodes: &mut [Node], departure: f64) -> Answer<()> {
-    nodes[0].set_time(departure);
-    nodes[1].set_time(departure);
-    let mut queue = BinaryHeap::new();
-    queue_forward(&mut queue, departure, 1)?;
-    while let Some(Sooner { node, .. }) = queue.pop() {
-        forward_from(nodes, node, &mut queue)?;
+/// "Forward takes the smaller time, ties the smaller index".
+impl Ord for Coming {
+    fn cmp(&self, other: &Coming) -> Ordering {
+        by_time(other.time, self.time).then(other.base.cmp(&self.base))
     }
-    Ok(())
 }
 
-/// Time the nodes from one that is timed up to a Fake or to a node with a previous
-/// alternative.
-fn forward_from(nodes: &mut [Node], from: usize, queue: &mut BinaryHeap<Sooner>) -> Answer<()> {
-    let mut c = from;
-    assert(nodes[c].timed && !nodes[nodes[c].next].timed)?;
-    let mut x = relink_forward(nodes, c)?;
-    loop {
-        let a = nodes[c].next_alt;
-        if a != 0 {
-            let time = nodes[c].time;
-            nodes[a].set_time(time);
-            queue_forward(queue, time + nodes[a].to_next, a)?;
-        }
-        assert(!nodes[x].timed)?;
-        let time = nodes[c].time + nodes[c].to_next;
-        nodes[x].set_time(time);
-        c = x;
-        x = nodes[x].next;
-        if nodes[x].prev_alt != 0 || nodes[x].fake() {
-            break;
+struct Forward<'a> {
+    nodes: &'a mut [Node],
+    queue: BinaryHeap<Coming>,
+}
+
+impl<'a> Forward<'a> {
+    fn new(nodes: &'a mut [Node]) -> Forward<'a> {
+        Forward {
+            nodes,
+            queue: BinaryHeap::new(),
         }
     }
-    if nodes[x].timed {
-        assert(nodes[c].fake() && c == nodes[x].prev_alt)
-    } else if nodes[x].next == 0 {
-        let time = nodes[c].time;
-        nodes[x].set_time(time);
+
+    /// From the start at the departure; row 15: "a node never timed".
+    fn run(mut self, departure: f64) -> Answer<()> {
+        self.nodes[0].set_time(departure);
+        self.nodes[1].set_time(departure);
+        let time = departure + self.nodes[1].to_next;
+        self.follow(Coming { time, base: 1 })?;
+        while let Some(coming) = self.queue.pop() {
+            self.follow(coming)?;
+        }
+        refuse_if(self.nodes.iter().any(|node| !node.timed), 15)
+    }
+
+    /// Time the base's next and the strand behind it, up to a Fake, the end, or a
+    /// node that others may reach too.
+    fn follow(&mut self, Coming { mut time, mut base }: Coming) -> Answer<()> {
+        loop {
+            let at = self.receiver(self.nodes[base].next)?;
+            self.relink(base, at);
+            self.alternative(base)?;
+            refuse_if(self.nodes[at].timed, 15)?;
+            self.nodes[at].set_time(time);
+            let node = self.nodes[at];
+            let is_ended = self.end(at, time)?;
+            if node.fake() || is_ended {
+                return Ok(());
+            }
+            time += node.to_next;
+            base = at;
+            if is_met(&self.nodes[node.next]) {
+                self.queue.push(Coming { time, base });
+                return Ok(());
+            }
+        }
+    }
+
+    /// The receiver that is given to whoever reaches this one: along Fakes the last
+    /// that is not yet timed. Row 15: "over n Fakes in a relink walk".
+    fn receiver(&self, own: usize) -> Answer<usize> {
+        let mut at = own;
+        for _ in 0..=self.nodes.len() {
+            let node = &self.nodes[at];
+            let next = &self.nodes[node.next];
+            if node.fake() && next.timed {
+                refuse_if(next.prev_alt != at, 15)?;
+            }
+            if !node.fake() || next.timed || self.is_closing(at) {
+                return Ok(at);
+            }
+            at = node.next;
+        }
+        Err(No::Number(15))
+    }
+
+    /// The base gets this receiver, and who had it the base's own. The times stay
+    /// where they are.
+    fn relink(&mut self, base: usize, at: usize) {
+        let own = self.nodes[base].next;
+        if at != own {
+            let other = self.nodes[at].prev;
+            self.nodes[base].next = at;
+            self.nodes[other].next = own;
+            self.nodes[at].prev = base;
+            self.nodes[own].prev = other;
+        }
+    }
+
+    /// The base's alternative leaves at the same time as the base; it waits in any case.
+    fn alternative(&mut self, base: usize) -> Answer<()> {
+        let Node { time, next_alt, .. } = self.nodes[base];
+        if next_alt != 0 {
+            refuse_if(self.nodes[next_alt].timed, 15)?;
+            self.nodes[next_alt].set_time(time);
+            let time = time + self.nodes[next_alt].to_next;
+            self.queue.push(Coming {
+                time,
+                base: next_alt,
+            });
+        }
         Ok(())
-    } else {
-        assert(!nodes[c].fake())?;
-        queue_forward(queue, nodes[c].time + nodes[c].to_next, c)
+    }
+
+    /// The node behind this one is the end.
+    fn is_closing(&self, at: usize) -> bool {
+        let next = &self.nodes[self.nodes[at].next];
+        next.next == 0 && is_met(next)
+    }
+
+    /// The end has the time of the node before it, and has it once; a Fake may find it
+    /// timed. True: that node is this one.
+    fn end(&mut self, at: usize, time: f64) -> Answer<bool> {
+        let Node { next, .. } = self.nodes[at];
+        let is_late = self.nodes[at].fake() && self.nodes[next].timed;
+        if !self.is_closing(at) || is_late {
+            return Ok(false);
+        }
+        refuse_if(self.nodes[next].timed, 15)?;
+        self.nodes[next].set_time(time);
+        Ok(true)
     }
 }
 
-/// The first to reach an event takes the last Fake before it; its old next goes to
-/// whom that Fake belonged. Gives the next.
-fn relink_forward(nodes: &mut [Node], c: usize) -> Answer<usize> {
-    let end = nodes.len() - 1;
-    let s = nodes[c].next;
-    let mut x = s;
-    let mut steps = 0;
-    while nodes[x].fake() && nodes[x].next != end && !nodes[nodes[x].next].timed {
-        x = nodes[x].next;
-        steps += 1;
-        assert(steps <= nodes.len())?;
-    }
-    if x != s {
-        let b = nodes[x].prev;
-        nodes[c].next = x;
-        nodes[b].next = s;
-        nodes[s].prev = b;
-        nodes[x].prev = c;
-    }
-    Ok(x)
-}
-
-// ---- Backward
-
-/// An entry of the backward queue, the greatest first: by time, then by what is to
-/// be subtracted, then by index.
-struct Later {
+/// A receiver that waits. What its strand has fallen behind since the forward pass
+/// (`sub`) is taken from the times of all that lie before it.
+struct Going {
     time: f64,
     sub: f64,
-    node: usize,
+    receiver: usize,
 }
 
-impl Ord for Later {
-    fn cmp(&self, other: &Later) -> Ordering {
-        numbers(self.time, other.time)
-            .then(numbers(self.sub, other.sub))
-            .then(self.node.cmp(&other.node))
+/// "backward the greatest by `EstTimePrev`'s `partial_cmp`": the order over (time, sub,
+/// index).
+impl Ord for Going {
+    fn cmp(&self, other: &Going) -> Ordering {
+        by_time(self.time, other.time)
+            .then(by_time(self.sub, other.sub))
+            .then(self.receiver.cmp(&other.receiver))
     }
 }
 
-impl PartialOrd for Later {
-    fn partial_cmp(&self, other: &Later) -> Option<Ordering> {
-        Some(self.cmp(other))
-    }
+struct Backward<'a> {
+    nodes: &'a mut [Node],
+    queue: BinaryHeap<Going>,
 }
 
-impl PartialEq for Later {
-    fn eq(&self, other: &Later) -> bool {
-        self.cmp(other) == Ordering::Equal
-    }
-}
-
-impl Eq for Later {}
-
-fn queue_backward(queue: &mut BinaryHeap<Later>, time: f64, sub: f64, node: usize) -> Answer<()> {
-    assert(!time.is_nan() && !sub.is_nan())?;
-    queue.push(Later { time, sub, node });
-    Ok(())
-}
-
-fn backward(nodes: &mut [Node]) -> Answer<()> {
-    let end = nodes.len() - 1;
-    nodes[end].passed = true;
-    nodes[end - 1].passed = true;
-    let mut queue = BinaryHeap::new();
-    queue_backward(&mut queue, 0.0, 0.0, end - 1)?;
-    while let Some(Later { sub, node, .. }) = queue.pop() {
-        backward_from(nodes, node, sub, &mut queue)?;
-    }
-    Ok(())
-}
-
-/// Move the times from a passed node back to a Fake or to a node with a next
-/// alternative.
-fn backward_from(nodes: &mut [Node], from: usize, sub: f64, queue: &mut BinaryHeap<Later>) -> Answer<()> {
-    let mut c = from;
-    assert(nodes[c].passed && !nodes[nodes[c].prev].passed)?;
-    let mut y = relink_backward(nodes, c)?;
-    loop {
-        let a = nodes[c].prev_alt;
-        if a != 0 {
-            let time = nodes[c].time;
-            let sub_a = nodes[a].time - time;
-            nodes[a].pass(time);
-            queue_backward(queue, time, sub_a, a)?;
-        }
-        assert(!nodes[y].passed)?;
-        let time = nodes[y].time - sub;
-        nodes[y].pass(time);
-        c = y;
-        y = nodes[y].prev;
-        if nodes[y].next_alt != 0 || nodes[y].fake() {
-            break;
+impl<'a> Backward<'a> {
+    fn new(nodes: &'a mut [Node]) -> Backward<'a> {
+        Backward {
+            nodes,
+            queue: BinaryHeap::new(),
         }
     }
-    if nodes[y].passed {
-        assert(nodes[c].fake() && c == nodes[y].next_alt)
-    } else if nodes[y].prev == 0 {
-        let time = nodes[c].time;
-        nodes[y].pass(time);
-        nodes[0].pass(time);
+
+    /// From the node before the last, which both keep their times; row 15: "a node
+    /// never passed".
+    fn run(mut self) -> Answer<()> {
+        let last = self.nodes.len() - 1;
+        self.nodes[last].passed = true;
+        self.nodes[last - 1].passed = true;
+        self.follow(last - 1, 0.0)?;
+        while let Some(Going { sub, receiver, .. }) = self.queue.pop() {
+            self.follow(receiver, sub)?;
+        }
+        refuse_if(self.nodes.iter().any(|node| !node.passed), 15)
+    }
+
+    /// Pass the receiver's base and the strand before it, up to a Fake, the start, or
+    /// a node that others may have left too.
+    fn follow(&mut self, mut receiver: usize, sub: f64) -> Answer<()> {
+        loop {
+            let at = self.base(self.nodes[receiver].prev)?;
+            self.relink(receiver, at);
+            self.alternative(receiver)?;
+            refuse_if(self.nodes[at].passed, 15)?;
+            let time = self.nodes[at].time - sub;
+            self.nodes[at].pass(time);
+            let is_started = self.start(at, time)?;
+            if self.nodes[at].fake() || is_started {
+                return Ok(());
+            }
+            receiver = at;
+            let prev = &self.nodes[self.nodes[at].prev];
+            if is_left(prev) {
+                let time = time - prev.to_next;
+                self.queue.push(Going {
+                    time,
+                    sub,
+                    receiver,
+                });
+                return Ok(());
+            }
+        }
+    }
+
+    /// The base that is given to whoever comes back to this one: along Fakes the first
+    /// that is not yet passed. Row 15: "over n Fakes in a relink walk".
+    fn base(&self, own: usize) -> Answer<usize> {
+        let mut at = own;
+        for _ in 0..=self.nodes.len() {
+            let node = &self.nodes[at];
+            let prev = &self.nodes[node.prev];
+            if !node.fake() || node.prev == 0 {
+                return Ok(at);
+            }
+            if prev.passed {
+                refuse_if(prev.next_alt != at, 15)?;
+                return Ok(at);
+            }
+            at = node.prev;
+        }
+        Err(No::Number(15))
+    }
+
+    /// The receiver gets this base, and who had it the receiver's own, time to next and
+    /// distance with it.
+    fn relink(&mut self, receiver: usize, at: usize) {
+        let own = self.nodes[receiver].prev;
+        if at != own {
+            let (a, b) = (self.nodes[at], self.nodes[own]);
+            self.nodes[at].next = receiver;
+            self.nodes[own].next = a.next;
+            self.nodes[receiver].prev = at;
+            self.nodes[a.next].prev = own;
+            (self.nodes[at].to_next, self.nodes[at].distance) = (b.to_next, b.distance);
+            (self.nodes[own].to_next, self.nodes[own].distance) = (a.to_next, a.distance);
+        }
+    }
+
+    /// The receiver's alternative is passed at the same time as the receiver; it waits
+    /// in any case, with its own time.
+    fn alternative(&mut self, receiver: usize) -> Answer<()> {
+        let Node { time, prev_alt, .. } = self.nodes[receiver];
+        if prev_alt != 0 {
+            refuse_if(self.nodes[prev_alt].passed, 15)?;
+            let sub = self.nodes[prev_alt].time - time;
+            self.nodes[prev_alt].pass(time);
+            self.queue.push(Going {
+                time,
+                sub,
+                receiver: prev_alt,
+            });
+        }
         Ok(())
-    } else {
-        assert(!nodes[c].fake())?;
-        queue_backward(queue, nodes[c].time - nodes[y].to_next, sub, c)
+    }
+
+    /// Node 0 has the time of node 1, and that of the event behind it where several
+    /// may follow it. True: that event is this node.
+    fn start(&mut self, at: usize, time: f64) -> Answer<bool> {
+        let Node { prev, .. } = self.nodes[at];
+        let is_start = self.nodes[prev].prev == 0 && is_left(&self.nodes[prev]);
+        if !is_start || (self.nodes[at].fake() && prev != 0) {
+            return Ok(false);
+        }
+        if !self.nodes[at].fake() {
+            refuse_if(self.nodes[prev].passed, 15)?;
+            self.nodes[prev].pass(time);
+        }
+        self.nodes[0].pass(time);
+        Ok(true)
     }
 }
 
-/// The first to reach an event takes the first Fake behind it, and both keep what
-/// lies ahead: time and distance to next go with the nexts. Gives the previous.
-fn relink_backward(nodes: &mut [Node], c: usize) -> Answer<usize> {
-    let s = nodes[c].prev;
-    let mut y = s;
-    let mut steps = 0;
-    while nodes[y].fake() && nodes[y].prev != 0 && !nodes[nodes[y].prev].passed {
-        y = nodes[y].prev;
-        steps += 1;
-        assert(steps <= nodes.len())?;
-    }
-    if y != s {
-        let b = nodes[y].next;
-        nodes[c].prev = y;
-        nodes[b].prev = s;
-        nodes[s].next = b;
-        nodes[y].next = c;
-        let (in_s, in_y) = (nodes[s], nodes[y]);
-        (nodes[s].to_next, nodes[s].distance) = (in_y.to_next, in_y.distance);
-        (nodes[y].to_next, nodes[y].distance) = (in_s.to_next, in_s.distance);
-    }
-    Ok(y)
+/// What `Ord` says, for the heap.
+macro_rules! ordered {
+    ($entry:ty) => {
+        impl PartialOrd for $entry {
+            fn partial_cmp(&self, other: &$entry) -> Option<Ordering> {
+                Some(self.cmp(other))
+            }
+        }
+        impl PartialEq for $entry {
+            fn eq(&self, other: &$entry) -> bool {
+                self.cmp(other).is_eq()
+            }
+        }
+        impl Eq for $entry {}
+    };
 }
+ordered!(Coming);
+ordered!(Going);
