@@ -9,9 +9,9 @@ ghost use Rattle.reader.specs.Reader.{readNumber};
 fn number(book: &[u8]) -> u32
     ensures { λ r. ⌜ r ≡ readNumber (now (book .entry)) 192 65536 ⌝ }
 {
-    let mut reals = [0.0f64; 2048];
+    let mut reals = [0.0f64; 3072];
     let mut cells = [0u32; 8192];
-    let mut marks = [0u32; 4096];
+    let mut marks = [0u32; 2048];
     reader::check_book(book, 192, &mut reals, &mut cells, &mut marks)
 }
 

@@ -54,7 +54,7 @@ unfolding workBytes unitsOf
 roomy-of b p u reals cells marks y f e d =
     let w = enough b p y e in
     let c : 8 * u ≤ cells = omega arith in
-    let m : 4 * u ≤ marks = omega arith in
+    let m : 2 * u ≤ marks = omega arith in
     record { cells = omega arith; marks = omega arith }
 
 -- there is a link

@@ -21,7 +21,7 @@ pub fn places(floats: usize, numbers: usize) -> usize
 pub fn units(reals: usize, cells: usize, marks: usize) -> usize
     ensures { λ r. ⌜ r ≡ unitsOf reals cells marks ⌝ }
 {
-    smaller(smaller(reals / 2, cells / 8), marks / 4)
+    smaller(smaller(reals / 3, cells / 8), marks / 2)
 }
 
 // Makes a slice of numbers zero.

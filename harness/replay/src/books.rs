@@ -28,9 +28,9 @@ impl Work {
     /// So many bytes of work space, filled with what no call has left there.
     pub fn lend(&mut self, bytes: u64) {
         let units = (bytes / 64) as usize;
-        refill(&mut self.reals, 2 * units, f64::MAX);
+        refill(&mut self.reals, 3 * units, f64::MAX);
         refill(&mut self.cells, 8 * units, 0xa5a5_a5a5);
-        refill(&mut self.marks, 4 * units, 0x5a5a_5a5a);
+        refill(&mut self.marks, 2 * units, 0x5a5a_5a5a);
     }
 
     fn is_zero(&self) -> bool {
