@@ -1,0 +1,7 @@
+pub mod Entries
+pub mod Stacks
+pub mod Alternatives
+pub mod Walking
+pub mod Extending
+pub mod Kept
+pub mod Examples
