@@ -1,4 +1,4 @@
-//! `reference books|tables|events|roots`: answers a stream of items.
+//! `reference books|grown|tables|events|roots`: answers a stream of items.
 
 use std::io::{self, BufWriter, ErrorKind, Read, Write};
 
@@ -15,13 +15,14 @@ fn main() -> io::Result<()> {
         let number = words.next().and_then(|number| number.parse().ok());
         let number: u64 = number.unwrap_or_else(|| usage());
         match word.as_str() {
-            "--places" if what == "books" => settings.places = number as usize,
-            "--work" if what == "books" => settings.work = Some(number),
+            "--places" if is_book(&what) => settings.places = number as usize,
+            "--work" if is_book(&what) => settings.work = Some(number),
             _ => usage(),
         }
     }
     match what.as_str() {
         "books" => items(|item| reference::book(item, settings.places, settings.work)),
+        "grown" => items(|item| reference::grown(item, settings.places, settings.work)),
         "tables" => items(reference::table),
         "events" => items(reference::events),
         "roots" => roots(),
@@ -29,8 +30,13 @@ fn main() -> io::Result<()> {
     }
 }
 
+/// Whether the items are books.
+fn is_book(what: &str) -> bool {
+    what == "books" || what == "grown"
+}
+
 fn usage() -> ! {
-    eprintln!("reference books [--places P] [--work BYTES] | tables | events | roots");
+    eprintln!("reference books|grown [--places P] [--work BYTES] | tables | events | roots");
     std::process::exit(2)
 }
 
