@@ -1,11 +1,10 @@
--- "If no node has the event, nothing more": `update_join_paths_space`. Each entry of the old list is followed to the nodes that have the event, in order; the new list is what they give.
+-- `update_join_paths_space`, document 01 under "Joins": "Rebuilding its list for an event". Each entry of the old list is followed to the nodes that have the event, in order; the new list is what they give.
 -- The network is a function from index to node.
 use mathlib.Core.Bool.{Bool, true, false, _&&_, _||_, cond}
 use mathlib.Core.List.{List, [], _∷_}
 use mathlib.Core.Option.{Option, none, some}
 use Prim.Native.Nat.{ℕ, zero, suc}
 use lib.Dec.{eqb}
-use Rattle.fields.specs.Below.{someBelow}
 use Rattle.network.specs.declared.EstType.{EstType}
 use Rattle.network.specs.declared.EstType.the-variants.{Arrive, Clear, Fake}
 use Rattle.network.specs.declared.LinkEvent.{LinkEvent}
@@ -18,10 +17,6 @@ abbrev pub isArrive : EstType → Bool
 isArrive Arrive = true
 isArrive Clear = false
 isArrive Fake = false
-
--- "some node has the event", of the first n
-unfoldable pub seenIn : (ℕ → EstTime) → ℕ → LinkEvent → Bool
-seenIn node n e = someBelow n (λ i. sameEvent (node i .«link_event») e)
 
 -- ---- "With old m = 0, e and each of its alternatives gives its next if that has the event."
 
@@ -117,14 +112,9 @@ unfoldable pub extended : (ℕ → EstTime) → ℕ → LinkEvent → Bool → E
 extended node n e seen x es =
     extendedAs (eqb (node (x .«est_idx_next») .«idx_next») 0) (isArrive (e .«est_type»)) (eqb (x .«link_idx_match») 0 || eqb (x .«link_idx_match») (e .«link_idx»)) seen node n e x es
 
--- ---- the whole list
+-- ---- the whole list: `seen` says whether some node has the event ("If no node has the event, nothing more")
 
 unfoldable pub extendedAll : (ℕ → EstTime) → ℕ → LinkEvent → Bool → List EstJoinPath → List EstJoinPath → Option (List EstJoinPath)
 unfolding extended
 extendedAll node n e seen [] es = some es
 extendedAll node n e seen (x ∷ xs) es = andThen (extended node n e seen x es) (extendedAll node n e seen xs)
-
--- `update_join_paths_space` in a network of n nodes
-unfoldable pub rebuilt : (ℕ → EstTime) → ℕ → LinkEvent → List EstJoinPath → Option (List EstJoinPath)
-unfolding extendedAll seenIn
-rebuilt node n e old = extendedAll node n e (seenIn node n e) old []
