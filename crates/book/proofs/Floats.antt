@@ -3,15 +3,14 @@
 use mathlib.Core.Path.{_≡_, refl, sym, _∙_}
 use mathlib.Core.Bool.{Bool, true, false, not, _||_, true≢false}
 use mathlib.Core.List.{List}
-use Prim.Native.Nat.{ℕ}
+use Prim.Native.Nat.{ℕ, _+_}
 use borrow.Author.Tests.{ltb-true, ltb-false, not-false}
 use lib.Dec.{T, ltb}
 use lib.Ieee.{binary64, nanBits}
 use Rattle.floats.specs.Floats.{bookFloat}
 use Rattle.floats.proofs.Laws.{book-number, book-high}
-use Rattle.book.specs.declared.SamplePatterns.{SamplePatterns}
-use Rattle.book.specs.Format.{sampleTime, sampleOffset, sampleSpeed, samplePatterns}
-use Rattle.book.specs.Rows.{badSample}
+use Rattle.fields.specs.Fields.{u64At}
+use Rattle.book.specs.Rows.{badSampleFrom}
 
 -- the infinity's pattern
 abbrev infinity : ℕ
@@ -25,19 +24,19 @@ book-no-nan n h = go (ltb infinity n) refl
     go false e = book-number n (ltb-false infinity n e)
 
 -- the patterns of a sample's floats, each a book's
-pub record SampleFloats (p : SamplePatterns) : Type 0 where
-  pub time : bookFloat (p .time) ≡ true
-  pub offset : bookFloat (p .offset) ≡ true
-  pub speed : bookFloat (p .speed) ≡ true
+pub record SampleFloats (b : List ℕ) (at : ℕ) : Type 0 where
+  pub time : bookFloat (u64At b at) ≡ true
+  pub offset : bookFloat (u64At b (at + 8)) ≡ true
+  pub speed : bookFloat (u64At b (at + 16)) ≡ true
 
-pub sample-floats : (b : List ℕ) (k : ℕ) {p : SamplePatterns} → p ≡ samplePatterns b k → badSample b k ≡ false → SampleFloats p
-unfolding badSample samplePatterns
-sample-floats b k i h =
-    let t = bookFloat (sampleTime b k) in
-    let o = bookFloat (sampleOffset b k) in
-    let s = bookFloat (sampleSpeed b k) in
+pub sample-floats : (b : List ℕ) (at : ℕ) → badSampleFrom b at ≡ false → SampleFloats b at
+unfolding badSampleFrom
+sample-floats b at h =
+    let t = bookFloat (u64At b at) in
+    let o = bookFloat (u64At b (at + 8)) in
+    let s = bookFloat (u64At b (at + 16)) in
     let f : (not t || not o) ≡ false = left (not t || not o) (not s) h in
-    rw i (record { time = not-false t (left (not t) (not o) f); offset = not-false o (right (not t) (not o) f); speed = not-false s (right (not t || not o) (not s) h) })
+    record { time = not-false t (left (not t) (not o) f); offset = not-false o (right (not t) (not o) f); speed = not-false s (right (not t || not o) (not s) h) }
   where
     left : (p q : Bool) → (p || q) ≡ false → p ≡ false
     left true q e = e

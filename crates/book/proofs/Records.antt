@@ -1,12 +1,14 @@
 -- What the code reads at a row's place is the definition's field, and the fields together are the definition's record.
 -- Assumes nothing.
 use mathlib.Core.Path.{_≡_}
+use mathlib.Core.Bool.{false}
 use mathlib.Core.List.{List}
 use Prim.Native.Nat.{ℕ, _+_, _*_}
 use lib.Ieee.{Float}
 use Rattle.fields.specs.Fields.{u32At, u64At}
-use Rattle.book.specs.declared.SamplePatterns.{SamplePatterns}
-use Rattle.book.specs.Format.{linkWidth, originWidth, destinationWidth, legWidth, sampleWidth, linksAt, originsAt, destinationsAt, legsAt, samplesAt, linkLength, linkNext, linkNextAlt, linkPrev, linkPrevAlt, linkAt, originLink, originOffset, originFront, originAt, destinationLink, legLink, legParent, legSamples, legAt, sampleTime, sampleOffset, sampleSpeed, sampleAt, samplePatterns, joinBits, departureBits, lengthBits, headPatterns, floatOf}
+use Rattle.book.specs.declared.Sample.{Sample}
+use Rattle.book.specs.Rows.{badSampleFrom, badSample}
+use Rattle.book.specs.Format.{linkWidth, originWidth, destinationWidth, legWidth, sampleWidth, linksAt, originsAt, destinationsAt, legsAt, samplesAt, linkLength, linkNext, linkNextAlt, linkPrev, linkPrevAlt, linkAt, originLink, originOffset, originFront, originAt, destinationLink, legLink, legParent, legSamples, legAt, sampleTime, sampleOffset, sampleSpeed, sampleFrom, sampleAt, samplePatterns, joinBits, departureBits, lengthBits, headPatterns, floatOf}
 
 module _ (b : List ℕ) (i : ℕ) where
   pub link-length-of : {at n : ℕ} → at ≡ linksAt + i * linkWidth → n ≡ u64At b at → n ≡ linkLength b i
@@ -47,10 +49,18 @@ module _ (b : List ℕ) (i : ℕ) where
   unfolding samplePatterns sampleTime sampleOffset sampleSpeed
   patterns-of place time offset speed = rw (time, offset, speed, place)
 
-  pub sample-of : {p : SamplePatterns} {time offset speed : Float} → p ≡ samplePatterns b i → time ≡ floatOf (p .time) → offset ≡ floatOf (p .offset) → speed ≡ floatOf (p .speed)
-      → record { time = time; offset = offset; speed = speed } ≡ sampleAt b i
-  unfolding sampleAt samplePatterns
-  sample-of patterns time offset speed = rw (time, offset, speed, patterns)
+  pub sample-bytes : {t o s : ℕ} {time offset speed : Float} → t ≡ u64At b i → time ≡ floatOf t → o ≡ u64At b (i + 8) → offset ≡ floatOf o → s ≡ u64At b (i + 16) → speed ≡ floatOf s
+      → record { time = time; offset = offset; speed = speed } ≡ sampleFrom b i
+  unfolding sampleFrom
+  sample-bytes t time o offset s speed = rw (time, t, offset, o, speed, s)
+
+  pub sample-of : {at : ℕ} {s : Sample} → at ≡ samplesAt b + i * sampleWidth → s ≡ sampleFrom b at → s ≡ sampleAt b i
+  unfolding sampleAt
+  sample-of place s = rw (s, place)
+
+  pub sample-bad : {at : ℕ} → at ≡ samplesAt b + i * sampleWidth → badSample b i ≡ false → badSampleFrom b at ≡ false
+  unfolding badSample
+  sample-bad place h = rw place h
 
 pub head-of : (b : List ℕ) {join departure length : ℕ} → join ≡ u64At b 0 → departure ≡ u64At b 8 → length ≡ u64At b 16
     → record { join = join; departure = departure; length = length } ≡ headPatterns b

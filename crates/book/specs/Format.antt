@@ -172,8 +172,13 @@ originAt b i = record { «link_idx» = originLink b i; offset = floatOf (originO
 unfoldable pub legAt : List ℕ → ℕ → Leg
 legAt b i = record { «link_idx» = legLink b i; parent = legParent b i; samples = legSamples b i }
 
+-- a sample whose first byte is at `at`: samples also stand in bytes that are no book
+unfoldable pub sampleFrom : List ℕ → ℕ → Sample
+sampleFrom b at = record { time = floatOf (u64At b at); offset = floatOf (u64At b (at + 8)); speed = floatOf (u64At b (at + 16)) }
+
 unfoldable pub sampleAt : List ℕ → ℕ → Sample
-sampleAt b k = record { time = floatOf (sampleTime b k); offset = floatOf (sampleOffset b k); speed = floatOf (sampleSpeed b k) }
+unfolding sampleFrom
+sampleAt b k = sampleFrom b (samplesAt b + k * sampleWidth)
 
 -- ---- patterns alone
 

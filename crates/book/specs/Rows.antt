@@ -6,11 +6,12 @@ use Prim.Native.Nat.{ℕ, zero, suc, _+_, _-_, _*_, min}
 use lib.Dec.{leb, ltb, eqb}
 use lib.ListN.{length}
 use lib.Ieee.{lt}
+use Rattle.fields.specs.Fields.{u64At}
 use Rattle.fields.specs.Below.{someBelow, sumBelow}
 use Rattle.floats.specs.Floats.{bookFloat}
 use Rattle.book.specs.declared.Measured.{Measured}
 use Rattle.book.specs.declared.Measured.the-variants.{Whole, Short, Long}
-use Rattle.book.specs.Format.{sectionsOf, links, origins, destinations, legs, samples, endOf, joinBits, departureBits, lengthBits, linkLength, linkNext, linkNextAlt, linkPrev, linkPrevAlt, originLink, originOffset, originFront, destinationLink, legLink, legParent, legSamples, sampleTime, sampleOffset, sampleSpeed, firstSample, floatOf}
+use Rattle.book.specs.Format.{sectionsOf, links, origins, destinations, legs, samples, endOf, joinBits, departureBits, lengthBits, linkLength, linkNext, linkNextAlt, linkPrev, linkPrevAlt, originLink, originOffset, originFront, destinationLink, legLink, legParent, legSamples, sampleTime, sampleOffset, sampleSpeed, samplesAt, sampleWidth, firstSample, floatOf}
 
 -- Row 1: bytes end before the last field does.
 unfoldable pub row1 : List ℕ → Bool
@@ -62,8 +63,13 @@ row3 b places bytes =
 unfoldable pub badOriginValue : List ℕ → ℕ → Bool
 badOriginValue b i = not (bookFloat (originOffset b i)) || ltb 1 (originFront b i)
 
+-- a sample whose first byte is at `at`
+unfoldable pub badSampleFrom : List ℕ → ℕ → Bool
+badSampleFrom b at = not (bookFloat (u64At b at)) || not (bookFloat (u64At b (at + 8))) || not (bookFloat (u64At b (at + 16)))
+
 unfoldable pub badSample : List ℕ → ℕ → Bool
-badSample b k = not (bookFloat (sampleTime b k)) || not (bookFloat (sampleOffset b k)) || not (bookFloat (sampleSpeed b k))
+unfolding badSampleFrom
+badSample b k = badSampleFrom b (samplesAt b + k * sampleWidth)
 
 unfoldable pub row4 : List ℕ → Bool
 unfolding badOriginValue badSample

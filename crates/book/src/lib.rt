@@ -6,8 +6,8 @@ ghost use lib.ListN.{length};
 ghost use Rattle.fields.specs.Fields.{u32At};
 ghost use Rattle.floats.specs.Floats.{bookFloat};
 ghost use Rattle.book.specs.Format.{Sized};
-ghost use Rattle.book.specs.Format.{linkLength, originOffset, destinationLink, linkAt, originAt, legAt, sampleAt, samplePatterns, headPatterns, floatOf};
-ghost use Rattle.book.specs.Rows.{measuredOf, badSample};
+ghost use Rattle.book.specs.Format.{linkLength, originOffset, destinationLink, linkAt, originAt, legAt, sampleFrom, sampleAt, samplePatterns, headPatterns, floatOf};
+ghost use Rattle.book.specs.Rows.{measuredOf, badSampleFrom, badSample};
 
 // The counts of a book, and where the first row of each section but the links' stands.
 pub struct Sections {
@@ -262,22 +262,31 @@ pub fn sample_patterns(book: &[u8], s: Sections, i: usize) -> SamplePatterns
     }
 }
 
-// A sample whose three floats are a book's.
+// The sample whose first byte is at `at`, if its three floats are a book's.
+pub fn sample_from(bytes: &[u8], at: usize) -> Sample
+    requires { ⌜ at + 24 ≤ length (now bytes) ⌝ }
+    requires { ⌜ badSampleFrom (now bytes) at ≡ false ⌝ }
+    ensures { λ r. ⌜ r ≡ sampleFrom (now (bytes .entry)) at ⌝ }
+{
+    let time = float_of(fields::u64_at(bytes, at));
+    let offset = float_of(fields::u64_at(bytes, at + 8));
+    let speed = float_of(fields::u64_at(bytes, at + 16));
+    Sample {
+        time,
+        offset,
+        speed,
+    }
+}
+
+// A sample of a book whose three floats are a book's.
 pub fn sample_at(book: &[u8], s: Sections, i: usize) -> Sample
     requires { ⌜ Sized (now book) s ⌝ }
     requires { ⌜ i < s .samples ⌝ }
     requires { ⌜ badSample (now book) i ≡ false ⌝ }
     ensures { λ r. ⌜ r ≡ sampleAt (now (book .entry)) i ⌝ }
 {
-    let p = sample_patterns(book, s, i);
-    let time = float_of(p.time);
-    let offset = float_of(p.offset);
-    let speed = float_of(p.speed);
-    Sample {
-        time,
-        offset,
-        speed,
-    }
+    let at = row_place(book, s.samples_at, SAMPLE_WIDTH, i);
+    sample_from(book, at)
 }
 
 // The patterns of the three floats at the head: J, the departure and the train's length.

@@ -8,11 +8,11 @@ use native.Mathlib.Omega.{arith}
 use borrow.Author.Tests.{ltb-true, ltb-false, eqb-true, eqb-false, lt-ltb, le-ltb, eq-eqb, ne-eqb}
 use lib.Dec.{T, ltb, eqb, eqb→eq}
 use lib.IntN.{ℤ, pos, negsuc}
-use lib.Ieee.{Float, nan, inf, fin, binary64, up, down, top, ones, hid, neg, sub, lt, le, eq, ne, isNan, fits, ofBits, nanBits}
+use lib.Ieee.{Float, nan, inf, fin, binary64, up, down, top, ones, hid, neg, sub, lt, le, eq, ne, isNan, fits, ofBits, toBits, nanBits}
 use lib.Ieee.Bits.{nanBits-is, nanBits-above}
 use lib.Ieee.Fits.{down-pos, up-pos, sub-fits}
 use lib.Ieee.Compare.{differs-from-itself}
-use Rattle.floats.specs.Floats.{billion, tableFloat, bookFloat, abs, gap, smaller}
+use Rattle.floats.specs.Floats.{billion, tableFloat, bookFloat, bookValue, abs, gap, smaller}
 
 -- ---- the code's literals
 
@@ -170,3 +170,19 @@ smaller-second a b h l = rw l at (smaller-number a b h)
 
 pub smaller-first : (a b : Float) → ne a a ≡ false → lt b a ≡ false → a ≡ smaller a b
 smaller-first a b h l = rw l at (smaller-number a b h)
+
+-- ---- a lent value
+
+nan-value : false ≡ bookValue nan
+unfolding bookValue bookFloat toBits tableFloat ofBits
+nan-value = refl
+
+pub value-nan : (x : Float) → ne x x ≡ true → false ≡ bookValue x
+value-nan x h = nan-value ∙ ap bookValue (sym (differs-from-itself x (subst T (sym h) tt)))
+
+pub value-number : (x : Float) → ne x x ≡ false → T (not (isNan x))
+value-number x h = subst (λ (t : Bool). T (not t)) (sym (number x h)) tt
+
+pub value-bits : (x : Float) {r : Bool} → r ≡ bookFloat (toBits binary64 x) → r ≡ bookValue x
+unfolding bookValue
+value-bits x e = e

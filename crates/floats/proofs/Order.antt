@@ -9,12 +9,13 @@ use borrow.Author.Tests.{ltb-true, ltb-false, eqb-true, not-true, not-false, lt-
 use lib.Dec.{T, ltb, leb, eqb, ltb→lt, leb→le}
 use lib.IntN.{ℤ, pos, negsuc}
 use lib.Pow.{pow-pos, pow-lt, pow-add}
-use lib.Ieee.{Float, nan, inf, fin, Format, binary64, prec, emax, low, up, down, top, ones, hid, odd, units, round, sum, add, sub, below, level, lt, le, isNan, fits, ofFields, ofBits}
-use lib.Ieee.Bits.{ofBits-fits, is-true}
+use lib.Ieee.{Float, nan, inf, fin, Format, binary64, prec, emax, low, up, down, top, ones, hid, odd, units, round, sum, add, sub, below, level, lt, le, isNan, fits, ofFields, ofBits, toBits}
+use lib.Ieee.Bits.{ofBits-fits, ofBits-toBits, is-true}
 use lib.Ieee.Exact.{HasValue, odd-sign, round-exact}
 use lib.Ieee.Fits.{up-pos, down-pos, round-is, and-l, and-r}
 use lib.Ieee.Order.{transfer, round-mono, kept, drop}
-use Rattle.floats.specs.Floats.{tableFloat, bookFloat}
+use lib.Ieee.Scale.{finite}
+use Rattle.floats.specs.Floats.{tableFloat, bookFloat, bookValue, Size}
 
 never : {X : Type 0} → true ≡ false → X
 never e = absurd (subst T e tt)
@@ -468,12 +469,6 @@ sum-shrinks f x s a u b c z w lo hi = go s u z w
 
 -- ---- offsets and lengths
 
--- An offset or a length that is accepted: an f64, not below zero, finite and at most 1,000,000,000
-pub record Size (a : Float) : Type 0 where
-  pub fit : T (fits binary64 a)
-  pub plus : le (fin false 0 (pos 0)) a ≡ true
-  pub bounded : tableFloat a ≡ true
-
 no-sign : (s : Bool) (m : ℕ) (e : ℤ) → le origin (fin s m e) ≡ true → s ≡ true → m ≡ 0
 unfolding lt
 no-sign true m e h p =
@@ -481,13 +476,13 @@ no-sign true m e h p =
     no-factor m (up e) (up-pos e) (omega arith)
 no-sign false m e h p = never (sym p)
 
-both-finite : (P : Float → Float → Type 0) → ((s : Bool) (m : ℕ) (e : ℤ) (t : Bool) (n : ℕ) (d : ℤ) → Size (fin s m e) → Size (fin t n d) → P (fin s m e) (fin t n d)) → (a l : Float) → Size a → Size l → P a l
-unfolding tableFloat
-both-finite P h nan l p q = never (sym (p .bounded))
-both-finite P h (inf s) l p q = never (sym (p .bounded))
-both-finite P h (fin s m e) nan p q = never (sym (q .bounded))
-both-finite P h (fin s m e) (inf t) p q = never (sym (q .bounded))
-both-finite P h (fin s m e) (fin t n d) p q = h s m e t n d p q
+-- a size is the infinity, or finite
+size-cases : (P : Float → Type 0) → P (inf false) → ((s : Bool) (m : ℕ) (e : ℤ) → Size (fin s m e) → P (fin s m e)) → (a : Float) → Size a → P a
+unfolding le lt
+size-cases P i h nan p = never (sym (p .plus))
+size-cases P i h (inf true) p = never (sym (p .plus))
+size-cases P i h (inf false) p = i
+size-cases P i h (fin s m e) p = h s m e p
 
 -- ---- a book's float is one
 
@@ -526,7 +521,7 @@ unfolding bookFloat
 size-of-bits n h = go (ltb n (top binary64)) refl (tableFloat (ofBits binary64 n)) refl h
   where
     go : (s : Bool) → ltb n (top binary64) ≡ s → (t : Bool) → tableFloat (ofBits binary64 n) ≡ t → (s && t) ≡ true → Size (ofBits binary64 n)
-    go true p true q h = record { fit = ofBits-fits binary64 n; plus = bits-high binary64 n (ltb-true n (top binary64) p) (table-number (ofBits binary64 n) q); bounded = q }
+    go true p true q h = record { fit = ofBits-fits binary64 n; plus = bits-high binary64 n (ltb-true n (top binary64) p) (table-number (ofBits binary64 n) q) }
     go true p false q h = never (sym h)
     go false p t q h = never (sym h)
 
@@ -581,23 +576,31 @@ module _ (f : Format) (s : Bool) (m : ℕ) (e : ℤ) (t : Bool) (n : ℕ) (d : �
 
 -- The rounded sum of two sizes is no smaller than the first
 pub add-grows : (a l : Float) → Size a → Size l → le a (add binary64 a l) ≡ true
-add-grows =
-    both-finite (λ (x y : Float). le x (add binary64 x y) ≡ true)
-    (λ s m e t n d (p : Size (fin s m e)) (q : Size (fin t n d)). fin-grows binary64 s m e t n d (no-sign s m e (p .plus)) (no-sign t n d (q .plus)) (p .fit))
+unfolding le lt add
+add-grows a l p q =
+    size-cases (λ (x : Float). le x (add binary64 x l) ≡ true)
+    (size-cases (λ (y : Float). le (inf false) (add binary64 (inf false) y) ≡ true) refl (λ t n d r. refl) l q)
+    (λ s m e (p : Size (fin s m e)).
+    size-cases (λ (y : Float). le (fin s m e) (add binary64 (fin s m e) y) ≡ true) refl
+    (λ t n d (q : Size (fin t n d)). fin-grows binary64 s m e t n d (no-sign s m e (p .plus)) (no-sign t n d (q .plus)) (p .fit)) l q) a p
 
 -- The sum of two sizes is no NaN
 pub add-number : (a l : Float) → Size a → Size l → isNan (add binary64 a l) ≡ false
 add-number a l p q = le-number-right a (add binary64 a l) (add-grows a l p q)
 
--- The rounded difference of two sizes is no larger than the first
-pub sub-shrinks : (a l : Float) → Size a → Size l → le (sub binary64 a l) a ≡ true
-sub-shrinks =
-    both-finite (λ (x y : Float). le (sub binary64 x y) x ≡ true)
-    (λ s m e t n d (p : Size (fin s m e)) (q : Size (fin t n d)). fin-shrinks binary64 s m e t n d (no-sign s m e (p .plus)) (no-sign t n d (q .plus)) (p .fit) (p .plus))
+-- The rounded difference of two sizes, the second finite, is no larger than the first
+pub sub-shrinks : (a l : Float) → Size a → Size l → finite l ≡ true → le (sub binary64 a l) a ≡ true
+unfolding le lt sub add
+sub-shrinks a l p q f =
+    size-cases (λ (x : Float). le (sub binary64 x l) x ≡ true)
+    (size-cases (λ (y : Float). finite y ≡ true → le (sub binary64 (inf false) y) (inf false) ≡ true) (λ (k : false ≡ true). never (sym k)) (λ t n d r k. refl) l q f)
+    (λ s m e (p : Size (fin s m e)).
+    size-cases (λ (y : Float). le (sub binary64 (fin s m e) y) (fin s m e) ≡ true) refl
+    (λ t n d (q : Size (fin t n d)). fin-shrinks binary64 s m e t n d (no-sign s m e (p .plus)) (no-sign t n d (q .plus)) (p .fit) (p .plus)) l q) a p
 
--- The difference of two sizes is no NaN
-pub sub-number : (a l : Float) → Size a → Size l → isNan (sub binary64 a l) ≡ false
-sub-number a l p q = le-number-left (sub binary64 a l) a (sub-shrinks a l p q)
+-- The difference of two sizes, the second finite, is no NaN
+pub sub-number : (a l : Float) → Size a → Size l → finite l ≡ true → isNan (sub binary64 a l) ≡ false
+sub-number a l p q f = le-number-left (sub binary64 a l) a (sub-shrinks a l p q f)
 
 fin-moves : (f : Format) (s : Bool) (m : ℕ) (e : ℤ) (t : Bool) (n : ℕ) (d : ℤ) (u : Bool) (k : ℕ) (g : ℤ) → (s ≡ true → m ≡ 0) → (t ≡ true → n ≡ 0) → (u ≡ true → k ≡ 0)
     → le (fin s m e) (fin t n d) ≡ true → le (add f (fin s m e) (fin u k g)) (add f (fin t n d) (fin u k g)) ≡ true
@@ -613,12 +616,41 @@ fin-moves f s m e t n d u k g z w v h =
     (is-true (le (round f false x c) (round f false y b)) (round-mono f x c y b (mul-pos (down-pos e) (down-pos g)) (mul-pos (down-pos d) (down-pos g)) (moved (m * up e) (down e) (n * up d) (down d) (k * up g) (down g) l)))
     (fin-add f t n d u k g w v .from))
 
+-- nothing that is a number is above the infinity
+le-top : (x : Float) → isNan x ≡ false → le x (inf false) ≡ true
+unfolding le lt isNan
+le-top nan h = never h
+le-top (inf true) h = refl
+le-top (inf false) h = refl
+le-top (fin s m e) h = refl
+
+-- a size and the infinity are the infinity
+add-top : (a : Float) → Size a → add binary64 a (inf false) ≡ inf false
+unfolding add
+add-top = size-cases (λ (x : Float). add binary64 x (inf false) ≡ inf false) refl (λ s m e p. refl)
+
+top-add : (l : Float) → Size l → add binary64 (inf false) l ≡ inf false
+unfolding add
+top-add = size-cases (λ (x : Float). add binary64 (inf false) x ≡ inf false) refl (λ s m e p. refl)
+
+top-above : (t : Bool) (n : ℕ) (d : ℤ) (X : Type 0) → le (inf false) (fin t n d) ≡ true → X
+unfolding le lt
+top-above t n d X h = never (sym h)
+
 -- Of two sizes the larger, with a third added to both, is no smaller
 pub add-mono-left : (a b l : Float) → Size a → Size b → Size l → le a b ≡ true → le (add binary64 a l) (add binary64 b l) ≡ true
-unfolding tableFloat
-add-mono-left a b nan p q r h = never (sym (r .bounded))
-add-mono-left a b (inf u) p q r h = never (sym (r .bounded))
-add-mono-left a b (fin u k g) p q r h =
-    both-finite (λ (x y : Float). le x y ≡ true → le (add binary64 x (fin u k g)) (add binary64 y (fin u k g)) ≡ true)
-    (λ s m e t n d (i : Size (fin s m e)) (j : Size (fin t n d)). fin-moves binary64 s m e t n d u k g (no-sign s m e (i .plus)) (no-sign t n d (j .plus)) (no-sign u k g (r .plus)))
-    a b p q h
+add-mono-left a b l p q r =
+    size-cases (λ (z : Float). Size z → le a b ≡ true → le (add binary64 a z) (add binary64 b z) ≡ true) (λ (z : Size (inf false)) (h : le a b ≡ true). to-top a (inf false) (add binary64 b (inf false)) p z (add-top b q))
+    (λ u k g (v : Size (fin u k g)) (z : Size (fin u k g)).
+    size-cases (λ (y : Float). le a y ≡ true → le (add binary64 a (fin u k g)) (add binary64 y (fin u k g)) ≡ true) (λ (h : le a (inf false) ≡ true). to-top a (fin u k g) (add binary64 (inf false) (fin u k g)) p v (top-add (fin u k g) v))
+    (λ t n d (j : Size (fin t n d)).
+    size-cases (λ (x : Float). le x (fin t n d) ≡ true → le (add binary64 x (fin u k g)) (add binary64 (fin t n d) (fin u k g)) ≡ true) (top-above t n d (le (add binary64 (inf false) (fin u k g)) (add binary64 (fin t n d) (fin u k g)) ≡ true))
+    (λ s m e (i : Size (fin s m e)). fin-moves binary64 s m e t n d u k g (no-sign s m e (i .plus)) (no-sign t n d (j .plus)) (no-sign u k g (v .plus))) a p) b q) l r r
+  where
+    to-top : (a l y : Float) → Size a → Size l → y ≡ inf false → le (add binary64 a l) y ≡ true
+    to-top a l y p r e = ap (le (add binary64 a l)) e ∙ le-top (add binary64 a l) (add-number a l p r)
+
+-- A lent value that a book may hold is a size, and finite
+pub size-of-value : (x : Float) → T (fits binary64 x) → bookValue x ≡ true → Size x
+unfolding bookValue
+size-of-value x f h = subst Size (ofBits-toBits binary64 x f) (size-of-bits (toBits binary64 x) h)

@@ -1,10 +1,11 @@
 -- The float tests and choices of document 01, in the terms of `lib.Ieee`, for every value: `nan`, both infinities and both zeros too.
 -- A value that stands in a book is still a bit pattern there; one that stands in a lent table is an f64 already.
-use mathlib.Core.Bool.{Bool, false, _&&_, cond}
+use mathlib.Core.Path.{_≡_}
+use mathlib.Core.Bool.{Bool, true, false, _&&_, cond}
 use Prim.Native.Nat.{ℕ}
-use lib.Dec.{ltb}
+use lib.Dec.{T, ltb}
 use lib.IntN.{pos}
-use lib.Ieee.{Float, nan, inf, fin, binary64, top, sub, lt, le, isNan, ofBits, ofInt}
+use lib.Ieee.{Float, nan, inf, fin, binary64, top, sub, lt, le, isNan, fits, ofBits, toBits, ofInt}
 
 -- Row 4's largest size: 1,000,000,000.
 unfoldable pub billion : Float
@@ -36,3 +37,13 @@ gap a b = abs (sub binary64 a b)
 -- The smaller of two offsets as the source takes it (`a.min(b)`): where one is not a number the other, and the first of two equal ones.
 unfoldable pub smaller : Float → Float → Float
 smaller a b = cond (isNan a) b (cond (lt b a) b a)
+
+-- "book signs" of a value that is lent as an f64: its own pattern is one that a book may hold. A NaN's is not, nor that of -0.
+unfoldable pub bookValue : Float → Bool
+unfolding bookFloat
+bookValue x = bookFloat (toBits binary64 x)
+
+-- An offset or a length: an f64 that is not below zero. A running sum of lengths may be any of them, the infinity too.
+pub record Size (a : Float) : Type 0 where
+  pub fit : T (fits binary64 a)
+  pub plus : le (fin false 0 (pos 0)) a ≡ true

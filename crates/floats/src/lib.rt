@@ -1,6 +1,6 @@
 // The float tests and choices that document 01 names, one function each. Contracts: specs/Floats.antt.
 ghost use mathlib.Core.Path.{_≡_};
-ghost use Rattle.floats.specs.Floats.{tableFloat, bookFloat, gap, smaller};
+ghost use Rattle.floats.specs.Floats.{tableFloat, bookFloat, bookValue, gap, smaller};
 
 const INFINITY: u64 = 0x7ff0_0000_0000_0000;
 
@@ -47,4 +47,14 @@ pub fn smaller_offset(a: f64, b: f64) -> f64
         return b;
     }
     if b < a { b } else { a }
+}
+
+// Whether a value that is lent as an f64 is one that a book may hold, by its sign too.
+pub fn is_book_value(x: f64) -> bool
+    ensures { λ r. ⌜ r ≡ bookValue x ⌝ }
+{
+    if x != x {
+        return false;
+    }
+    is_book_float(f64::to_bits(x))
 }

@@ -30,7 +30,7 @@ module _ {b : List ℕ} {s : Sections} (r : Readable b s) where
 -- ---- two samples, one after the other
 
 sample-is : (b : List ℕ) (k : ℕ) (x : Sample) → x ≡ sampleAt b k → (x .time ≡ floatOf (sampleTime b k)) × (x .offset ≡ floatOf (sampleOffset b k))
-unfolding sampleAt
+unfolding sampleAt sampleTime sampleOffset
 sample-is b k x e = (ap (λ (y : Sample). y .time) e, ap (λ (y : Sample). y .offset) e)
 
 falls-is : (b : List ℕ) (k : ℕ) (x y : Sample) → x ≡ sampleAt b k → y ≡ sampleAt b (k + 1) → falls b k ≡ (not (lt (x .time) (y .time)) || lt (y .offset) (x .offset))

@@ -1,21 +1,18 @@
--- `book::sample_at` meets its contract: each float is that of its pattern.
-use borrow.Author.Needs.{needs}
-use Rattle.book.proofs.Floats.{sample-floats}
-use Rattle.book.proofs.Records.{sample-of}
+-- `book::sample_at` meets its contract: the sample stands in its row.
+use mathlib.Core.Path.{_≡_}
+use Rattle.book.proofs.Places.{sized-samples-at, sample-stands, from-section}
+use Rattle.book.proofs.Records.{sample-of, sample-bad}
 use Rattle.book.proofs.sample_at.Statement.{statement}
 use Rattle.book.proofs.sample_at.Tie as tie
 
-float-of-requires : tie.Need-float-of-requires
-float-of-requires c κs = sample-floats _ _ (c .sample-patterns .ensures) (c .before .before .pre .1 .1) .time
+row-place-requires : tie.Need-row-place-requires
+row-place-requires c κs = sample-stands (c .before .pre .0) _ (c .before .pre .1 .0)
 
-float-of-requires-2 : tie.Need-float-of-requires-2
-float-of-requires-2 c κs = sample-floats _ _ (c .before .sample-patterns .ensures) (c .before .before .before .pre .1 .1) .offset
-
-float-of-requires-3 : tie.Need-float-of-requires-3
-float-of-requires-3 c κs = sample-floats _ _ (c .before .before .sample-patterns .ensures) (c .before .before .before .before .pre .1 .1) .speed
+sample-from-requires : tie.Need-sample-from-requires
+sample-from-requires c κs = (c .row-place .ensures .1, sample-bad _ _ (from-section _ (c .row-place .ensures .0) (sized-samples-at (c .before .before .pre .0))) (c .before .before .pre .1 .1))
 
 returns : tie.Need-returns
-returns c = sample-of _ _ (c .before .before .before .sample-patterns .ensures) (c .before .before .float-of .ensures) (c .before .float-of2 .ensures) (c .float-of3 .ensures)
+returns c = sample-of _ _ (from-section _ (c .before .row-place .ensures .0) (sized-samples-at (c .before .before .before .pre .0))) (c .sample-from .ensures)
 
 pub sample-at-spec : {M : Type 1} → statement M
-sample-at-spec = tie.close (tie.spec (λ c κs. search needs) float-of-requires float-of-requires-2 float-of-requires-3 returns)
+sample-at-spec = tie.close (tie.spec row-place-requires sample-from-requires returns)

@@ -1,0 +1,4 @@
+pub mod Searches
+pub mod Turns
+pub mod Starts
+pub mod Steps
