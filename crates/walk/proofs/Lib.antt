@@ -2,3 +2,5 @@ pub mod Searches
 pub mod Turns
 pub mod Starts
 pub mod Steps
+pub mod Theorems
+pub mod Examples

@@ -87,6 +87,9 @@ module _ {c : Course} (w : Walkable c) where
   pub start-within : (b f : ℕ) → b ≡ back → f ≡ front → Within c (heads 1 b f)
   start-within b f p q = record { after = omega arith; order = omega (arith, back-first-too); inside = omega (arith, front-inside) }
 
+  pub within-start : Within c (start c)
+  within-start = subst (Within c) (start-is back front refl refl) (start-within back front refl refl)
+
 -- ---- in the code's words
 
 module _ (b : List ℕ) (offsets : List Float) (m : Movement) (w : Walkable (courseOf b offsets m)) where

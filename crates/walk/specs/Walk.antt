@@ -105,6 +105,23 @@ unfoldable pub pointsPassed : Course → List PassedPoint
 unfolding passedFrom start
 pointsPassed c = passedFrom c (start c)
 
+-- ---- what is said of all events
+
+unfoldable pub Each : (PassedPoint → Type 0) → List PassedPoint → Type 0
+Each P [] = Unit
+Each P (p ∷ ps) = P p × Each P ps
+
+-- the first event, if there is one, lies at x or beyond
+unfoldable pub FromOn : Float → List PassedPoint → Type 0
+FromOn x [] = Unit
+FromOn x (p ∷ ps) = le x (p .offset) ≡ true
+
+-- each event lies where the one before it does or beyond
+unfoldable pub NeverFall : List PassedPoint → Type 0
+unfolding FromOn
+NeverFall [] = Unit
+NeverFall (p ∷ ps) = FromOn (p .offset) ps × NeverFall ps
+
 -- ---- row 11
 
 -- "a sample offset reaches the last point"
