@@ -42,6 +42,10 @@ one-answer Ordering·gt Ordering·lt a b x y = absurd (omega arith)
 one-answer Ordering·gt Ordering·eq a b x y = absurd (omega arith)
 one-answer Ordering·gt Ordering·gt a b x y = refl
 
+-- what is decided by an answer that is right is what `compare` decides
+pub decided : (o : Ordering) (q part half : ℕ) → Cmp o part half → nearest q o ≡ nearest q (compare part half)
+decided o q part half h = ap (nearest q) (one-answer o (compare part half) part half h (cmp part half))
+
 -- with a part z taken off both, and the rest in units of c
 scaled-answer : (o : Ordering) (a b z c : ℕ) → 0 < c → Cmp o a b → Cmp o ((z + a) * c) ((z + b) * c)
 scaled-answer Ordering·lt a b z c p x = let h : z + a < z + b = omega arith in mul-lt-mul-of-pos-right h p

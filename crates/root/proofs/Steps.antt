@@ -61,12 +61,9 @@ turned-at {a} {i} {q} {r} {left} {q′} {r′} e d t = subst (λ (x : ℕ). Turn
 all-digits : (s left a : ℕ) → s * 18014398509481984 + left ≡ a * 81129638414606681695789005144064 → left < 18014398509481984 → s ≡ a * 4503599627370496
 all-digits s left a e h = omega arith
 
-pub turned-all : {a i q r left : ℕ} → Turned a i q r left → 53 ≤ i → 4503599627370496 ≤ a → Rooted a q r
-turned-all {a} {i} {q} {r} {left} t h l =
-    let z : i ≡ 53 = let u : i ≤ 53 = t .turns in omega arith in
-    let v : q * q + r ≡ a * 4503599627370496 = all-digits (q * q + r) left a (subst (λ (n : ℕ). (q * q + r) * 18014398509481984 + left ≡ a * 4 ^ n) z (t .value)) (t .part) in
-    let m : r ≤ 2 * q = t .rest in
-    record { value = v; rest = m; least = enough a q r v m l; most = turned-small t }
+-- the root of a number that has its leading digit in place has it too
+pub rooted : (a q r : ℕ) → 4503599627370496 ≤ a → q < 9007199254740992 → q * q + r ≡ a * 4503599627370496 → r ≤ 2 * q → Rooted a q r
+rooted a q r l s v m = record { value = v; rest = m; least = next 4503599627370496 q large; most = s }
   where
     reached : (s a H : ℕ) → s ≡ a * H → H ≤ a → H * H ≤ s
     reached s a H e h = subst (λ (x : ℕ). H * H ≤ x) (sym e) (mul-le-mul-right H h)
@@ -77,11 +74,17 @@ turned-all {a} {i} {q} {r} {left} t h l =
     next : (a b : ℕ) → a < b + 1 → a ≤ b
     next a b h = omega arith
 
-    enough : (a q r : ℕ) → q * q + r ≡ a * 4503599627370496 → r ≤ 2 * q → 4503599627370496 ≤ a → 4503599627370496 ≤ q
-    enough a q r e m l =
-        let g : 4503599627370496 * 4503599627370496 ≤ q * q + r = reached (q * q + r) a 4503599627370496 e l in
-        let k : 4503599627370496 < q + 1 = square-back 4503599627370496 (q + 1) (beyond (4503599627370496 * 4503599627370496) q r g m) in
-        next 4503599627370496 q k
+    large : 4503599627370496 < q + 1
+    large =
+        square-back 4503599627370496 (q + 1)
+        (beyond (4503599627370496 * 4503599627370496) q r (reached (q * q + r) a 4503599627370496 v l) m)
+
+pub turned-all : {a i q r left : ℕ} → Turned a i q r left → 53 ≤ i → 4503599627370496 ≤ a → Rooted a q r
+turned-all {a} {i} {q} {r} {left} t h l =
+    let z : i ≡ 53 = let u : i ≤ 53 = t .turns in omega arith in
+    rooted a q r l (turned-small t)
+    (all-digits (q * q + r) left a (subst (λ (n : ℕ). (q * q + r) * 18014398509481984 + left ≡ a * 4 ^ n) z (t .value)) (t .part))
+    (t .rest)
 
 -- ---- the significand
 

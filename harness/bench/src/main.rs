@@ -38,6 +38,20 @@ fn events(name: &str, items: &[Vec<u8>]) {
     println!("{name:<44} {ours:>9.3} {theirs:>9.3} {:>7.2}", ours / theirs);
 }
 
+/// A root of each number, in nanoseconds a root.
+fn each_root(numbers: &[f64], root: impl Fn(f64) -> f64) -> f64 {
+    let total = || numbers.iter().map(|&x| root(black_box(x))).sum::<f64>();
+    best(200, || black_box(total()) as u32) * 1e6 / numbers.len() as f64
+}
+
+/// Roots of numbers from a millionth to a million with scattered digits: ours and the machine's.
+fn roots() {
+    let number = |k: u64| f64::from_bits((1_003 + k % 40) << 52 | k.wrapping_mul(0x9e37_79b9_7f4a_7c15) >> 12);
+    let numbers: Vec<f64> = (0..4_096).map(number).collect();
+    let (ours, machine) = (each_root(&numbers, replay::roots::root), each_root(&numbers, f64::sqrt));
+    println!("{:<44} {ours:>9.1} {machine:>9.1} {:>7.2}", "a root (ns; beside it the machine's)", ours / machine);
+}
+
 fn main() {
     println!("{:<44} {:>9} {:>9} {:>7}", "event lists", "ours, ms", "ref., ms", "ratio");
     events("1,000,000 samples, 1,000 points", &[lists::even(1_000_000, 1_000)]);
@@ -51,4 +65,5 @@ fn main() {
     }
     reading("1,000 legs in a chain, 192 places", &large::book(1_000, 15, true), 192);
     reading("10,000 legs in a chain, 192 places", &large::book(10_000, 15, true), 192);
+    roots();
 }

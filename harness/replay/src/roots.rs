@@ -18,10 +18,15 @@ fn pattern(x: f64) -> u64 {
     }
 }
 
+/// The library's root.
+pub fn root(x: f64) -> f64 {
+    // The function takes any f64, and is proved for every one.
+    unsafe { keldurap_root(x) }
+}
+
 /// The library's root of a pattern.
 fn ours(bits: u64) -> u64 {
-    // The function takes any f64, and is proved for every one.
-    pattern(unsafe { keldurap_root(f64::from_bits(bits)) })
+    pattern(root(f64::from_bits(bits)))
 }
 
 fn machine(bits: u64) -> u64 {

@@ -1,16 +1,13 @@
 -- `root::nearest_even` meets its contract: each branch knows what `compare` answers.
 use borrow.Author.Needs.{needs}
-use mathlib.Core.Path.{_≡_, ap, _∙_}
-use Prim.Native.Nat.{ℕ, _+_, _%_, _≤_, compare, Ordering, Ordering·lt, Ordering·eq, Ordering·gt}
+use mathlib.Core.Path.{_≡_, _∙_}
+use Prim.Native.Nat.{ℕ, _+_, _%_, _≤_, compare, Ordering·lt, Ordering·eq, Ordering·gt}
 use native.Mathlib.Numerals.{add-one}
 use native.Mathlib.Omega.{arith}
 use lib.Ieee.{nearest}
-use Rattle.root.proofs.Rounded.{Cmp, cmp, one-answer}
+use Rattle.root.proofs.Rounded.{decided}
 use Rattle.root.proofs.nearest_even.Statement.{statement}
 use Rattle.root.proofs.nearest_even.Tie as tie
-
-decided : (o : Ordering) (q part half : ℕ) → Cmp o part half → nearest q o ≡ nearest q (compare part half)
-decided o q part half h = ap (nearest q) (one-answer o (compare part half) part half h (cmp part half))
 
 -- r is q, or one more where q is odd
 tied : (r q part half : ℕ) → half ≤ part → part ≤ half → r ≡ q + q % 2 → r ≡ nearest q (compare part half)
