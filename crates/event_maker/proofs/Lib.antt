@@ -1,0 +1,3 @@
+pub mod Sweeps
+pub mod Lists
+pub mod Walks
