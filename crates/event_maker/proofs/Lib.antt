@@ -1,3 +1,4 @@
 pub mod Sweeps
+pub mod Rows
 pub mod Lists
 pub mod Walks

@@ -72,11 +72,11 @@ module _ (ps : List PassedPoint) (p : PassedPoint) (k size : ℕ) (e : k ≡ len
   numbers-put links h =
       let a = eventNumbers links ps in
       let l = getD links (p .point) 0 in
-      let b = replicate (size - (k + 1) * 2) 0 in
+      let b : List ℕ = replicate (size - (k + 1) * 2) 0 in
       let n : k * 2 ≡ length a = ap (λ (i : ℕ). i * 2) e ∙ sym (numbers-length links ps) in
       let one : k * 2 + 1 ≡ suc (length a) = omega arith in
       let left : size - k * 2 ≡ suc (suc (size - (k + 1) * 2)) = omega arith in
-      ap (λ (i : ℕ). set (set (a ++ replicate i 0) (k * 2) l) (k * 2 + 1) (kindNumber (p .«est_type»))) left
+      ap (λ (i : ℕ). set (set (a ++ replicate {A = ℕ} i 0) (k * 2) l) (k * 2 + 1) (kindNumber (p .«est_type»))) left
       ∙ ap (λ (i : ℕ). set (set (a ++ 0 ∷ 0 ∷ b) i l) (k * 2 + 1) (kindNumber (p .«est_type»))) n
       ∙ ap (λ (i : ℕ). set (set (a ++ 0 ∷ 0 ∷ b) (length a) l) i (kindNumber (p .«est_type»))) one
       ∙ store-two a b 0 0 l (kindNumber (p .«est_type»))
