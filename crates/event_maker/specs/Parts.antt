@@ -8,6 +8,7 @@ use lib.ListN.{length, set, getD}
 use lib.Ieee.{Float, nan, lt}
 use Rattle.fields.specs.Below.{someBelow}
 use Rattle.floats.specs.Floats.{bookValue}
+use Rattle.space.specs.Space.{zeros, zeroFloats}
 use Rattle.book.specs.Format.{sampleFrom}
 use Rattle.book.specs.Rows.{badSampleFrom}
 use Rattle.network.specs.Table.{kindNumber}
@@ -78,3 +79,12 @@ FloatsListed (Refused n) c size fs = Unit
 abbrev pub NumbersListed : Made → Course → List ℕ → ℕ → List ℕ → Type 0
 NumbersListed (Listed n) c links size us = us ≡ numbersAs (Listed n) c links size
 NumbersListed (Refused n) c links size us = Unit
+
+-- a refused list is made zero
+abbrev pub keptFloats : Made → List Float → List Float
+keptFloats (Listed n) fs = fs
+keptFloats (Refused n) fs = zeroFloats (length fs)
+
+abbrev pub keptNumbers : Made → List ℕ → List ℕ
+keptNumbers (Listed n) us = us
+keptNumbers (Refused n) us = zeros (length us)

@@ -13,7 +13,7 @@ ghost use Rattle.book.specs.Rows.{outside, badSampleFrom};
 ghost use Rattle.walk.specs.Course.{courseOf, Held, Walkable};
 ghost use Rattle.walk.specs.Walk.{reachesLast};
 ghost use Rattle.event_maker.specs.Maker.{lentCourse, answerOf, listPlaces, floatsAs, numbersAs};
-ghost use Rattle.event_maker.specs.Parts.{countAnswer, walkAnswer, lowestOf, firstNumber, sweepNumber, badOffset, offsetFalls, badAt, fallsAt, putEventFloats, putEventNumbers, FloatsListed, NumbersListed};
+ghost use Rattle.event_maker.specs.Parts.{countAnswer, walkAnswer, lowestOf, firstNumber, sweepNumber, badOffset, offsetFalls, badAt, fallsAt, putEventFloats, putEventNumbers, FloatsListed, NumbersListed, keptFloats, keptNumbers};
 
 // How many events are in the list, or the number of a refusal.
 pub enum Made {
@@ -222,6 +222,9 @@ fn list_events(
 
 // Makes a refused list zero again.
 fn clear_refused(made: Made, floats: &mut [f64], numbers: &mut [u32]) -> Made
+    ensures answer { λ r. ⌜ r ≡ made ⌝ }
+    ensures floats { λ _. ⌜ now (floats .exit) ≡ keptFloats made (now (floats .entry)) ⌝ }
+    ensures numbers { λ _. ⌜ now (numbers .exit) ≡ keptNumbers made (now (numbers .entry)) ⌝ }
 {
     let Made::Refused(number) = made else {
         return made;
