@@ -2,3 +2,4 @@ pub mod Sweeps
 pub mod Rows
 pub mod Lists
 pub mod Walks
+pub mod Makes
