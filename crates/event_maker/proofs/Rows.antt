@@ -92,6 +92,10 @@ inside limit n e = let z = eqb-false n 0 (none-left (eqb n 0) (ltb limit n) e) i
     some zero z = absurd (z refl)
     some (suc n) z = omega arith
 
+pub within-counts : (c : Course) → badCounts c ≡ false → (c .samples ≤ 1000000) × (c .points ≤ 65536)
+unfolding badCounts
+within-counts c e = (inside 1000000 (c .samples) (none-left (outside 1000000 (c .samples)) (outside 65536 (c .points)) e) .1, inside 65536 (c .points) (none-right (outside 1000000 (c .samples)) (outside 65536 (c .points)) e) .1)
+
 table-finite : (x : Float) → tableFloat x ≡ true → finite x ≡ true
 unfolding tableFloat
 table-finite nan h = h
