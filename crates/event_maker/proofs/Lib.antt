@@ -3,3 +3,4 @@ pub mod Rows
 pub mod Lists
 pub mod Walks
 pub mod Makes
+pub mod Examples
