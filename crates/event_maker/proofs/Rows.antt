@@ -371,16 +371,15 @@ module _ (b : List ℕ) (offsets : List Float) (m : Movement) where
     from-zero e =
         let q = zero-of (badCounts course) (bad-train || bad-samples || bad-points) (falling course) (reachesLast course) e in
         let r = sym falling-is ∙ q .2 in
-        let l = none-left (bad-train || bad-samples) bad-points (q .1) in
-        (
+        let l = none-left (bad-train || bad-samples) bad-points (q .1) in (
           record {
-                counted = q .0;
-                train = not-false (bookValue (m .length)) (none-left bad-train bad-samples l);
-                good-samples = none-right bad-train bad-samples l;
-                good-points = none-right (bad-train || bad-samples) bad-points (q .1);
-                rising-samples = none-left samples-fall points-fall r;
-                rising-points = none-right samples-fall points-fall r;
-              },
+            counted = q .0;
+            train = not-false (bookValue (m .length)) (none-left bad-train bad-samples l);
+            good-samples = none-right bad-train bad-samples l;
+            good-points = none-right (bad-train || bad-samples) bad-points (q .1);
+            rising-samples = none-left samples-fall points-fall r;
+            rising-points = none-right samples-fall points-fall r;
+          },
           q .3,
         )
 
