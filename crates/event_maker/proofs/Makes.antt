@@ -14,7 +14,7 @@ use Rattle.walk.specs.Walk.{pointsPassed, row11}
 use Rattle.event_maker.specs.declared.Made.{Made}
 use Rattle.event_maker.specs.declared.Made.the-variants.{Listed, Refused}
 use Rattle.event_maker.specs.Maker.{movementOf, lentCourse, badCounts, badFloats, falling, pick, answerOf, madeNumber, madeCount, listPlaces, floatsAs, numbersAs}
-use Rattle.event_maker.specs.Parts.{firstNumber, walkAnswer, FloatsListed, NumbersListed, keptFloats, keptNumbers}
+use Rattle.event_maker.specs.Parts.{firstNumber, walkAnswer, FloatsListed, NumbersListed, isRefused, keptFloats, keptNumbers}
 use Rattle.event_maker.proofs.Rows.{within-counts, left-held, left-walkable, answer-refused, answer-walk}
 use Rattle.event_maker.proofs.Walks.{passed-most, floats-kept, numbers-kept}
 
@@ -48,23 +48,22 @@ module _ (train : Float) (samples : List ℕ) (offsets : List Float) (links : Li
     lent-walkable f g = left-walkable samples offsets (moved points) refl d (λ k h. f k) (subst T (sym g) tt)
 
     -- the answer and the list behind the walk
-    module _ (r s : Made) (a : s ≡ r) where
-      pub made-answer : (f u F U : ℕ) → f ≡ F → u ≡ U → r ≡ walkAnswer course (listPlaces f u) → s ≡ answerOf lent samples (listPlaces F U)
+    module _ (r : Made) where
+      pub made-answer : (f u F U : ℕ) → f ≡ F → u ≡ U → r ≡ walkAnswer course (listPlaces f u) → r ≡ answerOf lent samples (listPlaces F U)
       made-answer f u F U p q w =
-          a
-          ∙ w
+          w
           ∙ answer-walk samples offsets (moved points) (listPlaces f u) d
           ∙ ap (λ (c : Course). answerOf c samples (listPlaces f u)) course-is
           ∙ ap (λ (n : ℕ). answerOf lent samples (listPlaces n u)) p
           ∙ ap (λ (n : ℕ). answerOf lent samples (listPlaces F n)) q
 
-      pub made-floats : (f F : ℕ) → f ≡ F → (fs gs : List Float) → FloatsListed r course f fs → gs ≡ keptFloats r fs → length fs ≡ f → gs ≡ floatsAs s lent F
-      made-floats f F p fs gs l k n =
-          floats-kept r course f fs gs l k n ∙ ap (λ (c : Course). floatsAs r c f) course-is ∙ ap (λ (x : Made). floatsAs x lent f) (sym a) ∙ ap (floatsAs s lent) p
+      module _ (t : Bool) (a : t ≡ isRefused r) where
+        pub made-floats : (f F : ℕ) → f ≡ F → (fs gs : List Float) → FloatsListed r course f fs → gs ≡ keptFloats t fs → length fs ≡ f → gs ≡ floatsAs r lent F
+        made-floats f F p fs gs l k n = floats-kept r course f fs gs l (k ∙ ap (λ (x : Bool). keptFloats x fs) a) n ∙ ap (λ (c : Course). floatsAs r c f) course-is ∙ ap (floatsAs r lent) p
 
-      pub made-numbers : (u U : ℕ) → u ≡ U → (us vs : List ℕ) → NumbersListed r course links u us → vs ≡ keptNumbers r us → length us ≡ u → vs ≡ numbersAs s lent links U
-      made-numbers u U p us vs l k n =
-          numbers-kept r course links u us vs l k n ∙ ap (λ (c : Course). numbersAs r c links u) course-is ∙ ap (λ (x : Made). numbersAs x lent links u) (sym a) ∙ ap (numbersAs s lent links) p
+        pub made-numbers : (u U : ℕ) → u ≡ U → (us vs : List ℕ) → NumbersListed r course links u us → vs ≡ keptNumbers t us → length us ≡ u → vs ≡ numbersAs r lent links U
+        made-numbers u U p us vs l k n =
+            numbers-kept r course links u us vs l (k ∙ ap (λ (x : Bool). keptNumbers x us) a) n ∙ ap (λ (c : Course). numbersAs r c links u) course-is ∙ ap (numbersAs r lent links) p
 
 -- ---- how many events an accepted list has at most
 

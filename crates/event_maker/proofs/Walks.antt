@@ -21,7 +21,7 @@ use Rattle.walk.proofs.Theorems.{never-the-last}
 use Rattle.event_maker.specs.declared.Made.{Made}
 use Rattle.event_maker.specs.declared.Made.the-variants.{Listed, Refused}
 use Rattle.event_maker.specs.Maker.{pick, listPlaces, eventFloats, eventNumbers, floatsAs, numbersAs}
-use Rattle.event_maker.specs.Parts.{countAnswer, walkAnswer, putEventFloats, putEventNumbers, FloatsListed, NumbersListed, keptFloats, keptNumbers}
+use Rattle.event_maker.specs.Parts.{countAnswer, walkAnswer, putEventFloats, putEventNumbers, FloatsListed, NumbersListed, isRefused, keptFloats, keptNumbers}
 use Rattle.event_maker.proofs.Lists.{places-fit, floats-put, numbers-put}
 
 -- ---- the answer to a count
@@ -180,10 +180,10 @@ module _ {c : Course} {links : List ℕ} {F U places : ℕ} {floats : List Float
 
 -- ---- behind a refusal
 
-pub floats-kept : (r : Made) (c : Course) (size : ℕ) (fs gs : List Float) → FloatsListed r c size fs → gs ≡ keptFloats r fs → length fs ≡ size → gs ≡ floatsAs r c size
+pub floats-kept : (r : Made) (c : Course) (size : ℕ) (fs gs : List Float) → FloatsListed r c size fs → gs ≡ keptFloats (isRefused r) fs → length fs ≡ size → gs ≡ floatsAs r c size
 floats-kept (Listed n) c size fs gs d e l = e ∙ d
 floats-kept (Refused n) c size fs gs d e l = e ∙ ap zeroFloats l
 
-pub numbers-kept : (r : Made) (c : Course) (links : List ℕ) (size : ℕ) (us vs : List ℕ) → NumbersListed r c links size us → vs ≡ keptNumbers r us → length us ≡ size → vs ≡ numbersAs r c links size
+pub numbers-kept : (r : Made) (c : Course) (links : List ℕ) (size : ℕ) (us vs : List ℕ) → NumbersListed r c links size us → vs ≡ keptNumbers (isRefused r) us → length us ≡ size → vs ≡ numbersAs r c links size
 numbers-kept (Listed n) c links size us vs d e l = e ∙ d
 numbers-kept (Refused n) c links size us vs d e l = e ∙ ap zeros l

@@ -81,10 +81,14 @@ NumbersListed (Listed n) c links size us = us ≡ numbersAs (Listed n) c links s
 NumbersListed (Refused n) c links size us = Unit
 
 -- a refused list is made zero
-abbrev pub keptFloats : Made → List Float → List Float
-keptFloats (Listed n) fs = fs
-keptFloats (Refused n) fs = zeroFloats (length fs)
+abbrev pub isRefused : Made → Bool
+isRefused (Listed n) = false
+isRefused (Refused n) = true
 
-abbrev pub keptNumbers : Made → List ℕ → List ℕ
-keptNumbers (Listed n) us = us
-keptNumbers (Refused n) us = zeros (length us)
+abbrev pub keptFloats : Bool → List Float → List Float
+keptFloats false fs = fs
+keptFloats true fs = zeroFloats (length fs)
+
+abbrev pub keptNumbers : Bool → List ℕ → List ℕ
+keptNumbers false us = us
+keptNumbers true us = zeros (length us)

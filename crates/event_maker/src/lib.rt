@@ -13,7 +13,7 @@ ghost use Rattle.book.specs.Rows.{outside, badSampleFrom};
 ghost use Rattle.walk.specs.Course.{courseOf, Held, Walkable};
 ghost use Rattle.walk.specs.Walk.{reachesLast};
 ghost use Rattle.event_maker.specs.Maker.{lentCourse, answerOf, listPlaces, floatsAs, numbersAs};
-ghost use Rattle.event_maker.specs.Parts.{countAnswer, walkAnswer, lowestOf, firstNumber, sweepNumber, badOffset, offsetFalls, badAt, fallsAt, putEventFloats, putEventNumbers, FloatsListed, NumbersListed, keptFloats, keptNumbers};
+ghost use Rattle.event_maker.specs.Parts.{countAnswer, walkAnswer, lowestOf, firstNumber, sweepNumber, badOffset, offsetFalls, badAt, fallsAt, putEventFloats, putEventNumbers, FloatsListed, NumbersListed, isRefused, keptFloats, keptNumbers};
 
 // How many events are in the list, or the number of a refusal.
 pub enum Made {
@@ -168,9 +168,10 @@ fn list_event(
     floats[k * 3] = p.time;
     floats[k * 3 + 1] = p.offset;
     floats[k * 3 + 2] = p.speed;
-    numbers[k * 2] = link;
     let est_type = p.est_type;
-    numbers[k * 2 + 1] = network::kind_number(est_type);
+    let kind = network::kind_number(est_type);
+    numbers[k * 2] = link;
+    numbers[k * 2 + 1] = kind;
 }
 
 // The answer to so many events, none of them bad.
@@ -220,18 +221,25 @@ fn list_events(
     }
 }
 
-// Makes a refused list zero again.
-fn clear_refused(made: Made, floats: &mut [f64], numbers: &mut [u32]) -> Made
-    ensures answer { λ r. ⌜ r ≡ made ⌝ }
-    ensures floats { λ _. ⌜ now (floats .exit) ≡ keptFloats made (now (floats .entry)) ⌝ }
-    ensures numbers { λ _. ⌜ now (numbers .exit) ≡ keptNumbers made (now (numbers .entry)) ⌝ }
+fn is_refused(made: Made) -> bool
+    ensures { λ r. ⌜ r ≡ isRefused made ⌝ }
 {
-    let Made::Refused(number) = made else {
-        return made;
-    };
+    match made {
+        Made::Listed(_) => false,
+        Made::Refused(_) => true,
+    }
+}
+
+// Makes the list zero again where it is refused.
+fn clear_refused(refused: bool, floats: &mut [f64], numbers: &mut [u32])
+    ensures floats { λ _. ⌜ now (floats .exit) ≡ keptFloats refused (now (floats .entry)) ⌝ }
+    ensures numbers { λ _. ⌜ now (numbers .exit) ≡ keptNumbers refused (now (numbers .entry)) ⌝ }
+{
+    if !refused {
+        return;
+    }
     space::clear_floats(floats);
     space::clear_numbers(numbers);
-    Made::Refused(number)
 }
 
 // The events of one leg, into the list that is lent in two slices: how many there are, or the number of a refusal.
@@ -260,5 +268,6 @@ pub fn make_events(
         return Made::Refused(number);
     }
     let made = list_events(samples, offsets, links, m, floats, numbers);
-    clear_refused(made, floats, numbers)
+    clear_refused(is_refused(made), floats, numbers);
+    made
 }
