@@ -1,9 +1,8 @@
 -- Worked examples of the event maker, computed on bytes: document 01's leg 2 and its marked cases.
 use mathlib.Core.Path.{_≡_, refl}
-use mathlib.Core.Bool.{true, false, cond}
+use mathlib.Core.Bool.{true}
 use mathlib.Core.List.{List, [], _∷_, _++_}
-use Prim.Native.Nat.{ℕ, zero, suc, _*_, _/_, _%_, min}
-use lib.Dec.{ltb}
+use Prim.Native.Nat.{ℕ, zero, suc, _*_, _/_, _%_}
 use lib.IntN.{pos}
 use lib.ListN.{length}
 use lib.Ieee.{Float, nan, fin, binary64, add, sub, mul, div, lt, le, isNan, ofBits, toBits, ofInt}
@@ -15,7 +14,7 @@ use Rattle.root.specs.Root.{sqrt}
 use Rattle.book.specs.Format.{sampleFrom}
 use Rattle.book.specs.Rows.{badSampleFrom}
 use Rattle.events.specs.Event.{eventOffset, clears, passingAt, badPassing}
-use Rattle.walk.specs.Course.{Course, courseOf}
+use Rattle.walk.specs.Course.{courseOf}
 use Rattle.walk.specs.Walk.{firstBeyond, start, offsetNext, inRange, clearsNext, emits, turned, turn, passedAs, passedNext, walk, turnsLeft, passedFrom, pointsPassed, reachesLast, someBad, row11}
 use Rattle.event_maker.specs.declared.Made.{Made}
 use Rattle.event_maker.specs.declared.Made.the-variants.{Listed, Refused}

@@ -1,9 +1,9 @@
 -- The list: an event more in it, and as many of its places are left.
-use mathlib.Core.Path.{_≡_, refl, sym, ap, _∙_, subst}
-use mathlib.Core.List.{List, [], _∷_, _++_, append-assoc, append-nil}
-use Prim.Native.Nat.{ℕ, zero, suc, _+_, _-_, _*_, _/_, _≤_, _<_, min}
+use mathlib.Core.Path.{_≡_, refl, sym, ap, _∙_}
+use mathlib.Core.List.{List, [], _∷_, _++_}
+use Prim.Native.Nat.{ℕ, suc, _+_, _-_, _*_, _≤_, _<_}
 use native.Mathlib.Omega.{arith}
-use lib.ListN.{length, set, getD, replicate, length-append}
+use lib.ListN.{length, set, getD, replicate}
 use lib.Ieee.{Float, binary64, ofBits}
 use Rattle.space.specs.Space.{zeros, zeroFloats}
 use Rattle.network.specs.Table.{kindNumber}

@@ -2,12 +2,12 @@
 use mathlib.Core.Path.{_≡_, refl, sym, ap, _∙_, subst}
 use mathlib.Core.Bool.{Bool, true, false}
 use mathlib.Core.List.{List}
-use Prim.Native.Nat.{ℕ, _+_, _*_, _/_, _≤_, _<_, min}
+use Prim.Native.Nat.{ℕ, _/_, _≤_, min}
 use native.Mathlib.Omega.{arith}
 use lib.Dec.{T, ltb}
 use lib.ListN.{length, getD}
 use lib.Ieee.{Float, nan, binary64, fits}
-use Rattle.space.specs.Space.{zeros, zeroFloats}
+use Rattle.space.specs.Space.{zeroFloats}
 use Rattle.walk.specs.declared.Movement.{Movement}
 use Rattle.walk.specs.Course.{Course, courseOf, Held, Walkable}
 use Rattle.walk.specs.Walk.{pointsPassed, row11}

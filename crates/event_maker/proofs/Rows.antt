@@ -4,10 +4,10 @@ use mathlib.Core.Bool.{Bool, true, false, not, _&&_, _||_, true≢false}
 use mathlib.Core.List.{List}
 use Prim.Native.Nat.{ℕ, zero, suc, _+_, _-_, _*_, _≤_, _<_}
 use native.Mathlib.Omega.{arith}
-use borrow.Author.Tests.{ltb-false, eqb-false, not-true, not-false}
+use borrow.Author.Tests.{ltb-false, eqb-false, not-false}
 use lib.Dec.{T, ltb, eqb}
 use lib.ListN.{length, getD}
-use lib.Ieee.{Float, nan, inf, fin, binary64, lt, le, isNan, fits, ofBits, toBits, top}
+use lib.Ieee.{Float, nan, inf, fin, binary64, lt, le, fits, ofBits, toBits, top}
 use lib.Ieee.Bits.{ofBits-toBits}
 use lib.Ieee.Scale.{finite}
 use Rattle.fields.specs.Below.{someBelow}

@@ -4,18 +4,16 @@ use mathlib.Core.Bool.{Bool, true, false, _||_, cond}
 use mathlib.Core.List.{List, [], _∷_, _++_, append-assoc, append-nil}
 use Prim.Native.Nat.{ℕ, zero, suc, _+_, _-_, _*_, _≤_, _<_}
 use native.Mathlib.Omega.{arith}
-use borrow.Author.Tests.{lt-ltb, le-ltb, ltb-true, ltb-false}
+use borrow.Author.Tests.{lt-ltb, le-ltb, ltb-false}
 use lib.Dec.{ltb}
 use lib.ListN.{length, getD, length-append}
 use lib.Ieee.{Float}
 use Rattle.fields.proofs.Below.{or-left, or-right, none-left, none-right}
 use Rattle.space.specs.Space.{zeros, zeroFloats}
 use Rattle.walk.specs.declared.Heads.{Heads}
-use Rattle.walk.specs.declared.Movement.{Movement}
 use Rattle.walk.specs.declared.PassedPoint.{PassedPoint}
-use Rattle.walk.specs.declared.Next.{Next}
-use Rattle.walk.specs.declared.Next.the-variants.{Passed, End}
-use Rattle.walk.specs.Course.{Course, courseOf, Held, Walkable}
+use Rattle.walk.specs.declared.Next.the-variants.{Passed}
+use Rattle.walk.specs.Course.{Course, Walkable}
 use Rattle.walk.specs.Walk.{start, turn, emits, passedNext, walk, turnsLeft, passedFrom, pointsPassed, badPoint, someBad, Each, Within, NextOf}
 use Rattle.walk.proofs.Theorems.{never-the-last}
 use Rattle.event_maker.specs.declared.Made.{Made}

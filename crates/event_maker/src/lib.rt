@@ -3,15 +3,12 @@ use walk::Movement;
 use walk::Next;
 use walk::PassedPoint;
 ghost use mathlib.Core.Path.{_≡_};
-ghost use mathlib.Core.Bool.{true, false, not, _||_};
+ghost use mathlib.Core.Bool.{true, false, not};
 ghost use Prim.Native.Nat.{suc, _+_, _*_, _-_, _/_, _≤_, _<_, min};
-ghost use lib.ListN.{length, getD};
-ghost use lib.Ieee.{nan, le};
-ghost use Rattle.fields.specs.Below.{someBelow};
+ghost use lib.ListN.{length};
 ghost use Rattle.space.specs.Space.{zeros, zeroFloats};
 ghost use Rattle.book.specs.Rows.{outside, badSampleFrom};
 ghost use Rattle.walk.specs.Course.{courseOf, Held, Walkable};
-ghost use Rattle.walk.specs.Walk.{reachesLast};
 ghost use Rattle.event_maker.specs.Maker.{lentCourse, answerOf, listPlaces, floatsAs, numbersAs};
 ghost use Rattle.event_maker.specs.Parts.{countAnswer, walkAnswer, lowestOf, firstNumber, sweepNumber, badOffset, offsetFalls, badAt, fallsAt, putEventFloats, putEventNumbers, FloatsListed, NumbersListed, isRefused, keptFloats, keptNumbers};
 

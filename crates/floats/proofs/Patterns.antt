@@ -1,15 +1,15 @@
 -- Of patterns whose sign bit is clear the larger has the larger value, so a book's floats are the patterns up to that of 1,000,000,000. Assumes nothing.
 use mathlib.Core.Path.{_≡_, refl, sym, ap, _∙_, subst}
 use mathlib.Core.Logic.{_⊎_, inl, inr}
-use mathlib.Core.Bool.{Bool, true, false, _&&_, true≢false}
-use Prim.Native.Nat.{ℕ, zero, suc, _+_, _-_, _*_, _/_, _%_, _^_, _≤_, _<_}
+use mathlib.Core.Bool.{Bool, true, false, true≢false}
+use Prim.Native.Nat.{ℕ, zero, suc, _+_, _*_, _/_, _%_, _^_, _≤_, _<_}
 use native.Mathlib.Nat.{le-refl, mod-eq-of-lt, mul-le-mul-right, mul-le-mul-left, lt-of-mul-lt-mul-right, mul-lt-mul-of-pos-right, eq-or-lt-of-le}
 use native.Mathlib.Omega.{arith}
-use borrow.Author.Tests.{ltb-true, ltb-false, leb-true, leb-false, lt-ltb, lt-leb, le-leb, eqb-true, ne-eqb}
-use lib.Dec.{T, ltb, leb, eqb, leb→le}
-use lib.IntN.{ℤ, pos}
+use borrow.Author.Tests.{ltb-true, ltb-false, leb-true, leb-false, lt-ltb, lt-leb, ne-eqb}
+use lib.Dec.{ltb, leb, eqb, leb→le}
+use lib.IntN.{ℤ}
 use lib.Pow.{pow-pos, pow-lt}
-use lib.Ieee.{Float, nan, inf, fin, binary64, prec, low, up, down, top, ones, hid, odd, lt, le, ofInt, ofFields, ofBits}
+use lib.Ieee.{Float, nan, inf, fin, binary64, prec, low, up, down, top, ones, hid, lt, le, ofInt, ofFields, ofBits}
 use lib.Ieee.Bits.{is-true}
 use lib.Ieee.Exact.{HasValue, odd-sign}
 use lib.Ieee.Fits.{down-pos}

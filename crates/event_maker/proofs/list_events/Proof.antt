@@ -1,11 +1,10 @@
 -- `event_maker::list_events` meets its contract: `Listing` is the loop's invariant.
-use mathlib.Core.Path.{_≡_, sym, ap, _∙_, subst}
-use Prim.Native.Nat.{ℕ, _+_, _*_, _≤_, _<_}
+use mathlib.Core.Path.{sym, _∙_, subst}
+use Prim.Native.Nat.{_<_}
 use native.Mathlib.Omega.{arith}
 use borrow.Author.Needs.{needs}
 use lib.ListN.{length}
-use Rattle.walk.specs.declared.Next.{Next}
-use Rattle.walk.specs.declared.Next.the-variants.{Passed, End}
+use Rattle.walk.specs.declared.Next.the-variants.{Passed}
 use Rattle.walk.specs.Course.{courseOf}
 use Rattle.walk.specs.Walk.{passedFrom, NextOf}
 use Rattle.event_maker.proofs.Walks.{Listing, listing-start, end-answer, end-floats, end-numbers, bad-answer, point-before, fewer-left, count-most, listing-room, listing-on}

@@ -1,7 +1,4 @@
 -- `event_maker::listed` meets its contract.
-use mathlib.Core.Path.{sym, ap}
-use mathlib.Core.Bool.{Bool}
-use borrow.Author.Tests.{lt-ltb, le-ltb}
 use Rattle.event_maker.proofs.Walks.{too-short, long-enough}
 use Rattle.event_maker.proofs.listed.Statement.{statement}
 use Rattle.event_maker.proofs.listed.Tie as tie

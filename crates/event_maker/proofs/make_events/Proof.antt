@@ -1,11 +1,8 @@
 -- `event_maker::make_events` meets its contract.
-use mathlib.Core.Path.{_≡_, refl, sym, ap, _∙_, subst}
-use Prim.Native.Nat.{ℕ, _≤_}
+use mathlib.Core.Path.{sym, _∙_}
 use native.Mathlib.Omega.{arith}
 use borrow.Author.Needs.{needs}
-use lib.ListN.{length}
 use Rattle.space.proofs.Zeros.{zeros-again}
-use Rattle.event_maker.specs.Maker.{listPlaces}
 use Rattle.event_maker.proofs.Makes.{zero-again, rows-answer, lent-held, lent-walkable, made-answer, made-floats, made-numbers}
 use Rattle.event_maker.proofs.make_events.Statement.{statement}
 use Rattle.event_maker.proofs.make_events.Tie as tie

@@ -1,6 +1,6 @@
 -- `event_maker::samples_number` meets its contract: `Swept` is the loop's invariant.
-use mathlib.Core.Path.{_≡_, sym, _∙_}
-use Prim.Native.Nat.{_+_, _-_, _*_}
+use mathlib.Core.Path.{sym, _∙_}
+use Prim.Native.Nat.{_+_, _-_}
 use native.Mathlib.Omega.{arith}
 use borrow.Author.Needs.{needs}
 use Rattle.event_maker.specs.Parts.{badAt, fallsAt}
