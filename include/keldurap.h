@@ -19,6 +19,14 @@ double keldurap_root(double x);
  * The four slices must not overlap. A slice of no elements may have any pointer that is not null. */
 uint32_t keldurap_check_book(const uint8_t *book, size_t book_len, size_t places, double *reals, size_t reals_len, uint32_t *cells, size_t cells_len, uint32_t *marks, size_t marks_len);
 
+/* The events of one leg: where a train's front (Arrive) and end (Clear) pass the points of its path, and when and how fast.
+ * samples: 24 bytes each, as a book has them: time, offset, speed as little-endian f64. offsets and links: the path's points, as many as both have;
+ * a point names the link that starts there. The list is lent in two slices, 3 doubles (time, offset, speed) and 2 numbers (link; kind, 0 Arrive or 1 Clear)
+ * to an event, as many places as both have. Gives 0 or the number of a refusal, 3, 4, 7, 11 or 12 of docs/REFUSALS.md, and in count how many events there are.
+ * The rest of the list is zero; on a refusal the whole list and count are. What bytes and slices have past the last whole sample, point or place is not looked at.
+ * The slices and count must not overlap. A slice of no elements may have any pointer that is not null. */
+uint32_t keldurap_make_events(double train_length, const uint8_t *samples, size_t samples_len, const double *offsets, size_t offsets_len, const uint32_t *links, size_t links_len, double *floats, size_t floats_len, uint32_t *numbers, size_t numbers_len, uint32_t *count);
+
 #ifdef __cplusplus
 }
 #endif

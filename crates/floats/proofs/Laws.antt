@@ -71,10 +71,6 @@ pattern-nan n h = nanBits-above binary64 n ∙ ap (ltb infinity) (mod-eq-of-lt h
 pub book-number : (n : ℕ) → n ≤ infinity → T (not (nanBits binary64 n))
 book-number n l = rw (pattern-nan n (unsigned n l), le-ltb infinity n l) tt
 
-pub book-low : (n : ℕ) → n ≤ infinity → tableFloat (ofBits binary64 n) ≡ bookFloat n
-unfolding bookFloat
-book-low n l = rw (lt-ltb n (top binary64) (unsigned n l))
-
 table-nan : (x : Float) → isNan x ≡ true → tableFloat x ≡ false
 unfolding isNan tableFloat
 table-nan nan h = refl

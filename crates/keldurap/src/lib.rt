@@ -1,10 +1,12 @@
 // The entries for other languages. Each is thin: it calls the proved function of its crate and has its contract. include/keldurap.h has the C side.
+use event_maker::Made;
 ghost use mathlib.Core.Path.{_≡_};
 ghost use lib.Ieee.{binary64};
 ghost use lib.ListN.{length};
 ghost use Rattle.root.specs.Root.{sqrt};
 ghost use Rattle.space.specs.Space.{bytesOf, zeros, zeroFloats};
 ghost use Rattle.reader.specs.Reader.{readNumber};
+ghost use Rattle.event_maker.specs.Maker.{lentCourse, answerOf, listPlaces, madeNumber, madeCount, floatsAs, numbersAs};
 
 // The square root of x, rounded to nearest, a tie to even.
 #[no_mangle]
@@ -29,4 +31,33 @@ pub extern "C" fn keldurap_check_book(
     ensures marks { λ _. ⌜ now (marks .exit) ≡ zeros (length (now (marks .entry))) ⌝ }
 {
     reader::check_book(book, places, reals, cells, marks)
+}
+
+// The events of one leg, into a list that is lent in two slices: 0 and how many there are, or the number of a refusal.
+#[no_mangle]
+pub extern "C" fn keldurap_make_events(
+    train_length: f64,
+    samples: &[u8],
+    offsets: &[f64],
+    links: &[u32],
+    floats: &mut [f64],
+    numbers: &mut [u32],
+    count: &mut u32,
+) -> u32
+    ensures number { λ r. ⌜ r ≡ madeNumber (answerOf (lentCourse «train_length» (now (samples .entry)) (now (offsets .entry)) (now (links .entry))) (now (samples .entry)) (listPlaces (length (now (floats .entry))) (length (now (numbers .entry))))) ⌝ }
+    ensures count { λ _. ⌜ now (count .exit) ≡ madeCount (answerOf (lentCourse «train_length» (now (samples .entry)) (now (offsets .entry)) (now (links .entry))) (now (samples .entry)) (listPlaces (length (now (floats .entry))) (length (now (numbers .entry))))) ⌝ }
+    ensures floats { λ _. ⌜ now (floats .exit) ≡ floatsAs (answerOf (lentCourse «train_length» (now (samples .entry)) (now (offsets .entry)) (now (links .entry))) (now (samples .entry)) (listPlaces (length (now (floats .entry))) (length (now (numbers .entry))))) (lentCourse «train_length» (now (samples .entry)) (now (offsets .entry)) (now (links .entry))) (length (now (floats .entry))) ⌝ }
+    ensures numbers { λ _. ⌜ now (numbers .exit) ≡ numbersAs (answerOf (lentCourse «train_length» (now (samples .entry)) (now (offsets .entry)) (now (links .entry))) (now (samples .entry)) (listPlaces (length (now (floats .entry))) (length (now (numbers .entry))))) (lentCourse «train_length» (now (samples .entry)) (now (offsets .entry)) (now (links .entry))) (now (links .entry)) (length (now (numbers .entry))) ⌝ }
+{
+    let made = event_maker::make_events(train_length, samples, offsets, links, floats, numbers);
+    match made {
+        Made::Listed(n) => {
+            *count = n as u32;
+            0
+        }
+        Made::Refused(n) => {
+            *count = 0;
+            n
+        }
+    }
 }

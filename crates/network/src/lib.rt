@@ -88,7 +88,7 @@ fn kind_of(n: u32) -> EstType
     }
 }
 
-fn kind_number(k: EstType) -> u32
+pub fn kind_number(k: EstType) -> u32
     ensures { λ r. ⌜ r ≡ kindNumber k ⌝ }
 {
     match k {

@@ -1,5 +1,6 @@
 //! Times of the proved library against the reference, on the same inputs in one run.
 mod large;
+mod lists;
 
 use std::hint::black_box;
 use std::time::Instant;
@@ -26,6 +27,17 @@ fn reading(name: &str, bytes: &[u8], places: usize) {
     println!("{name:<44} {ours:>9.3} {theirs:>9.3} {:>7.2}", ours / theirs);
 }
 
+/// Event lists: ours is the whole entry (rows 3, 4, 7, 11 and 12, the list made zero and filled), the reference's `update_est_times_add` alone.
+fn events(name: &str, items: &[Vec<u8>]) {
+    let mut lent: Vec<_> = items.iter().map(|item| replay::events::Lent::new(item)).collect();
+    for (lent, item) in lent.iter_mut().zip(items) {
+        assert_eq!(lent.make(), (0, reference::time_events(item).1 as u32), "{name}");
+    }
+    let ours = best(9, || lent.iter_mut().map(|lent| lent.make().1).sum());
+    let theirs = (0..9).map(|_| items.iter().map(|item| reference::time_events(item).0.as_secs_f64() * 1e3).sum()).fold(f64::INFINITY, f64::min);
+    println!("{name:<44} {ours:>9.3} {theirs:>9.3} {:>7.2}", ours / theirs);
+}
+
 /// A root of each number, in nanoseconds a root.
 fn each_root(numbers: &[f64], root: impl Fn(f64) -> f64) -> f64 {
     let total = || numbers.iter().map(|&x| root(black_box(x))).sum::<f64>();
@@ -41,6 +53,11 @@ fn roots() {
 }
 
 fn main() {
+    println!("{:<44} {:>9} {:>9} {:>7}", "event lists", "ours, ms", "ref., ms", "ratio");
+    events("1,000,000 samples, 1,000 points", &[lists::even(1_000_000, 1_000)]);
+    events("1,000,000 samples, 65,536 points", &[lists::even(1_000_000, 65_536)]);
+    events("65,536 points between two samples", &[lists::even(2, 65_536)]);
+    events("1,000 lists of 30 samples and 6 points", &vec![lists::even(30, 6); 1_000]);
     println!("{:<44} {:>9} {:>9} {:>7}", "reading a book", "ours, ms", "ref., ms", "ratio");
     for places in [192, 65_535] {
         reading(&format!("largest, legs in a chain, {places} places"), &large::chain(), places);

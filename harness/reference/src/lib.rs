@@ -89,6 +89,14 @@ pub fn events(item: &[u8]) -> Vec<u8> {
     })
 }
 
+/// How long the published `update_est_times_add` takes for an accepted item, by itself, and how many events it makes: for timing.
+pub fn time_events(item: &[u8]) -> (std::time::Duration, usize) {
+    let (book, _) = read_events(item).unwrap();
+    let orders = Orders { places: MOST_PLACES, stop: Stop::Events, ..Orders::default() };
+    let events = caught(run(book, orders)).unwrap();
+    (watch::making(), events.len())
+}
+
 /// The bits of a float to those of its square root, NaN being 7ff8000000000000.
 pub fn root(bits: u64) -> u64 {
     // Unseen by the compiler: where this is inlined it may take the test for a NaN, and the

@@ -4,6 +4,7 @@
 use std::cell::{Cell, RefCell};
 use std::panic::{catch_unwind, resume_unwind, set_hook, take_hook, AssertUnwindSafe};
 use std::sync::Once;
+use std::time::{Duration, Instant};
 
 use crate::meet_pass::disp_structs::{EstIdx, EstType};
 use crate::meet_pass::est_times::EstTime;
@@ -63,6 +64,9 @@ thread_local! {
     /// Node indices that may still be looked up before a walk counts as endless.
     static STEPS: Cell<u64> = const { Cell::new(0) };
     static GAP: Cell<f64> = const { Cell::new(0.0) };
+    /// When the last leg's samples were handed out, and how long its events took.
+    static MOVED: Cell<Option<Instant>> = const { Cell::new(None) };
+    static MAKING: Cell<Duration> = const { Cell::new(Duration::ZERO) };
     static WATCH: RefCell<Watch> = RefCell::default();
 }
 
@@ -142,10 +146,17 @@ pub fn options_found() {
 /// The samples are handed out, the events follow.
 pub fn leg_moved() {
     NUMBER.set(11);
+    MOVED.set(Some(Instant::now()));
+}
+
+/// How long the events of the last leg took to make.
+pub fn making() -> Duration {
+    MAKING.get()
 }
 
 /// The events are made, none inserted yet.
 pub fn events_made(events: &[EstTime]) {
+    MAKING.set(MOVED.take().map_or(Duration::ZERO, |moved| moved.elapsed()));
     if !events.iter().all(within) {
         refuse(11)
     }

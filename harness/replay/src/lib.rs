@@ -1,3 +1,4 @@
 //! Drives the proved static library, and holds it to outside answers.
 pub mod books;
+pub mod events;
 pub mod roots;

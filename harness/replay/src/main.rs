@@ -1,8 +1,8 @@
 //! The programs over the proved static library.
-use replay::{books, roots};
+use replay::{books, events, roots};
 use std::process::ExitCode;
 
-const USAGE: &str = "replay roots | check-roots [N [SEED]] | check-books [N [SEED]] | check-damage [N [SEED]] | check-limits";
+const USAGE: &str = "replay roots | events | check-roots [N [SEED]] | check-events [N [SEED]] | check-books [N [SEED]] | check-damage [N [SEED]] | check-limits";
 
 fn verdict(differences: u64) -> ExitCode {
     if differences == 0 {
@@ -12,18 +12,24 @@ fn verdict(differences: u64) -> ExitCode {
     }
 }
 
+fn replayed(result: std::io::Result<()>) -> ExitCode {
+    match result {
+        Ok(()) => ExitCode::SUCCESS,
+        Err(_) => ExitCode::FAILURE,
+    }
+}
+
 fn main() -> ExitCode {
     let words: Vec<String> = std::env::args().skip(1).collect();
     let number = |i: usize, or: u64| words.get(i).and_then(|w| w.parse().ok()).unwrap_or(or);
     match words.first().map(String::as_str) {
-        Some("roots") => match roots::replay() {
-            Ok(()) => ExitCode::SUCCESS,
-            Err(_) => ExitCode::FAILURE,
-        },
+        Some("roots") => replayed(roots::replay()),
+        Some("events") => replayed(events::replay()),
+        Some("check-events") => verdict(events::check(number(1, 1_000_000), number(2, 1))),
         Some("check-roots") => verdict(roots::check(number(1, 10_000_000), number(2, 1))),
         Some("check-books") => verdict(books::check(number(1, 1_000_000), number(2, 1))),
         Some("check-damage") => verdict(books::check_damage(number(1, 200), number(2, 1))),
-        Some("check-limits") => verdict(books::check_limits()),
+        Some("check-limits") => verdict(books::check_limits() + events::check_limits()),
         _ => {
             eprintln!("{USAGE}");
             ExitCode::from(2)

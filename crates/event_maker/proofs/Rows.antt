@@ -1,0 +1,419 @@
+-- Rows 3, 4 and 7, and 11 for the samples: the number by what the code met, and what is left where none holds.
+use mathlib.Core.Path.{_≡_, refl, sym, ap, _∙_, subst}
+use mathlib.Core.Bool.{Bool, true, false, not, _&&_, _||_, true≢false}
+use mathlib.Core.List.{List}
+use Prim.Native.Nat.{ℕ, zero, suc, _+_, _-_, _*_, _≤_, _<_}
+use native.Mathlib.Omega.{arith}
+use borrow.Author.Tests.{ltb-false, eqb-false, not-false}
+use lib.Dec.{T, ltb, eqb}
+use lib.ListN.{length, getD}
+use lib.Ieee.{Float, nan, inf, fin, binary64, lt, le, fits, ofBits, toBits, top}
+use lib.Ieee.Bits.{ofBits-toBits}
+use lib.Ieee.Scale.{finite}
+use Rattle.fields.specs.Below.{someBelow}
+use Rattle.fields.proofs.Below.{none-left, none-right, none-at, none-all, some-at}
+use Rattle.floats.specs.Floats.{tableFloat, bookFloat, bookValue, Size}
+use Rattle.floats.proofs.Order.{not-lt, not-le, le-trans, size-of-bits, size-of-value}
+use Rattle.book.specs.declared.Sample.{Sample}
+use Rattle.book.specs.Format.{sampleFrom}
+use Rattle.book.specs.Rows.{outside, badSampleFrom}
+use Rattle.book.proofs.Floats.{sample-floats}
+use Rattle.walk.specs.declared.Movement.{Movement}
+use Rattle.walk.specs.Course.{Course, courseOf, Held, Rises, Walkable}
+use Rattle.walk.specs.Walk.{pointsPassed, reachesLast, someBad, row11}
+use Rattle.walk.proofs.Searches.{size-number, rises-le}
+use Rattle.event_maker.specs.declared.Made.{Made}
+use Rattle.event_maker.specs.declared.Made.the-variants.{Listed, Refused}
+use Rattle.event_maker.specs.Maker.{badCounts, badFloats, falling, pick, answerOf}
+use Rattle.event_maker.specs.Parts.{lowestOf, firstNumber, sweepNumber, badOffset, offsetFalls, badAt, fallsAt, countAnswer, walkAnswer}
+
+-- ---- the lowest of the rows, by their tests
+
+zero-of : (a b c d : Bool) → lowestOf a b c d ≡ 0 → (a ≡ false) × (b ≡ false) × (c ≡ false) × (d ≡ false)
+unfolding lowestOf
+zero-of true b c d e = absurd (omega arith)
+zero-of false true c d e = absurd (omega arith)
+zero-of false false true d e = absurd (omega arith)
+zero-of false false false true e = absurd (omega arith)
+zero-of false false false false e = (refl, refl, refl, refl)
+
+four-of : (a b : Bool) → lowestOf false a b false ≡ 4 → a ≡ true
+unfolding lowestOf
+four-of true b e = refl
+four-of false true e = absurd (omega arith)
+four-of false false e = absurd (omega arith)
+
+not-four : (a b : Bool) → (lowestOf false a b false ≡ 4 → ⊥) → a ≡ false
+unfolding lowestOf
+not-four true b n = absurd (n refl)
+not-four false b n = refl
+
+not-zero : (b : Bool) → (lowestOf false false b false ≡ 0 → ⊥) → b ≡ true
+unfolding lowestOf
+not-zero true n = refl
+not-zero false n = absurd (n refl)
+
+-- row 4 of length, samples and points; row 7 of samples and points
+by-length : (l s p f r : Bool) → l ≡ true → 4 ≡ lowestOf false (l || s || p) f r
+unfolding lowestOf
+by-length true s p f r e = refl
+by-length false s p f r e = absurd (true≢false (sym e))
+
+by-points : (l s p f r : Bool) → p ≡ true → 4 ≡ lowestOf false (l || s || p) f r
+unfolding lowestOf
+by-points true s p f r e = refl
+by-points false true p f r e = refl
+by-points false false true f r e = refl
+by-points false false false f r e = absurd (true≢false (sym e))
+
+by-samples : (l s p f g r : Bool) → l ≡ false → p ≡ false → (lowestOf false s f false ≡ 0 → ⊥) → lowestOf false s f false ≡ lowestOf false (l || s || p) (f || g) r
+unfolding lowestOf
+by-samples true s p f g r e h n = absurd (true≢false e)
+by-samples false true p f g r e h n = refl
+by-samples false false true f g r e h n = absurd (true≢false h)
+by-samples false false false true g r e h n = refl
+by-samples false false false false g r e h n = absurd (n refl)
+
+by-fall : (l s p f g r : Bool) → l ≡ false → s ≡ false → p ≡ false → g ≡ true → 7 ≡ lowestOf false (l || s || p) (f || g) r
+unfolding lowestOf
+by-fall true s p f g r a b c d = absurd (true≢false a)
+by-fall false true p f g r a b c d = absurd (true≢false b)
+by-fall false false true f g r a b c d = absurd (true≢false c)
+by-fall false false false true g r a b c d = refl
+by-fall false false false false true r a b c d = refl
+by-fall false false false false false r a b c d = absurd (true≢false (sym d))
+
+-- ---- a count, and a lent length
+
+inside : (limit n : ℕ) → outside limit n ≡ false → (0 < n) × (n ≤ limit)
+inside limit n e = let z = eqb-false n 0 (none-left (eqb n 0) (ltb limit n) e) in (some n z, ltb-false limit n (none-right (eqb n 0) (ltb limit n) e))
+  where
+    some : (n : ℕ) → (n ≡ 0 → ⊥) → 0 < n
+    some zero z = absurd (z refl)
+    some (suc n) z = omega arith
+
+pub within-counts : (c : Course) → badCounts c ≡ false → (c .samples ≤ 1000000) × (c .points ≤ 65536)
+unfolding badCounts
+within-counts c e = (inside 1000000 (c .samples) (none-left (outside 1000000 (c .samples)) (outside 65536 (c .points)) e) .1, inside 65536 (c .points) (none-right (outside 1000000 (c .samples)) (outside 65536 (c .points)) e) .1)
+
+table-finite : (x : Float) → tableFloat x ≡ true → finite x ≡ true
+unfolding tableFloat
+table-finite nan h = h
+table-finite (inf s) h = h
+table-finite (fin s m e) h = refl
+
+value-finite : (x : Float) → T (fits binary64 x) → bookValue x ≡ true → finite x ≡ true
+unfolding bookValue bookFloat
+value-finite x f h = table-finite x (subst (λ (y : Float). tableFloat y ≡ true) (ofBits-toBits binary64 x f) (second (ltb (toBits binary64 x) (top binary64)) (tableFloat (ofBits binary64 (toBits binary64 x))) h))
+  where
+    second : (p q : Bool) → (p && q) ≡ true → q ≡ true
+    second true q e = e
+    second false q e = absurd (true≢false (sym e))
+
+some-same : (n : ℕ) (p q : ℕ → Bool) → ((i : ℕ) → p i ≡ q i) → someBelow n p ≡ someBelow n q
+unfolding someBelow
+some-same zero p q f = refl
+some-same (suc n) p q f = ap (λ (t : Bool). t || p n) (some-same n p q f) ∙ ap (λ (t : Bool). someBelow n q || t) (f n)
+
+-- ---- what rows 3, 4 and 7 leave
+
+pub record Counted (m : Movement) : Type 0 where
+  pub some : 0 < m .samples
+  pub most : m .samples ≤ 1000000
+  pub some-points : 0 < m .points
+  pub most-points : m .points ≤ 65536
+
+pub record Tested (b : List ℕ) (offsets : List Float) (m : Movement) : Type 0 where
+  pub counted : badCounts (courseOf b offsets m) ≡ false
+  pub train : bookValue (m .length) ≡ true
+  pub good-samples : someBelow (m .samples) (badAt b) ≡ false
+  pub good-points : someBelow (m .points) (badOffset offsets) ≡ false
+  pub rising-samples : someBelow (m .samples - 1) (fallsAt b) ≡ false
+  pub rising-points : someBelow (m .points - 1) (offsetFalls offsets) ≡ false
+
+module _ (b : List ℕ) (offsets : List Float) (m : Movement) where
+  abbrev course : Course
+  course = courseOf b offsets m
+
+  abbrev bad-train : Bool
+  bad-train = not (bookValue (m .length))
+
+  abbrev bad-samples : Bool
+  bad-samples = someBelow (m .samples) (badAt b)
+
+  abbrev bad-points : Bool
+  bad-points = someBelow (m .points) (badOffset offsets)
+
+  abbrev samples-fall : Bool
+  samples-fall = someBelow (m .samples - 1) (fallsAt b)
+
+  abbrev points-fall : Bool
+  points-fall = someBelow (m .points - 1) (offsetFalls offsets)
+
+  counts-are : (x y : Bool) → x ≡ outside 1000000 (m .samples) → y ≡ outside 65536 (m .points) → badCounts course ≡ (x || y)
+  unfolding badCounts courseOf
+  counts-are x y e f = sym (ap (λ (t : Bool). t || y) e ∙ ap (λ (t : Bool). outside 1000000 (m .samples) || t) f)
+
+  pub counts : badCounts course ≡ false → Counted m
+  unfolding badCounts courseOf
+  counts e =
+      let s = inside 1000000 (m .samples) (none-left (outside 1000000 (m .samples)) (outside 65536 (m .points)) e) in
+      let p = inside 65536 (m .points) (none-right (outside 1000000 (m .samples)) (outside 65536 (m .points)) e) in
+      record { some = s .0; most = s .1; some-points = p .0; most-points = p .1 }
+
+  pub counts-left : (x y : Bool) → x ≡ outside 1000000 (m .samples) → y ≡ outside 65536 (m .points) → (x || y) ≡ false → badCounts course ≡ false
+  counts-left x y e f h = counts-are x y e f ∙ h
+
+  pub first-3 : (x y : Bool) → x ≡ outside 1000000 (m .samples) → y ≡ outside 65536 (m .points) → (x || y) ≡ true → 3 ≡ firstNumber course b
+  unfolding firstNumber
+  first-3 x y e f h = sym (ap (λ (t : Bool). lowestOf t (badFloats course b) (falling course) (reachesLast course)) (counts-are x y e f ∙ h))
+
+  module _ (z : m .at ≡ 0) where
+    sample-is : (i : ℕ) → course .sample i ≡ sampleFrom b (i * 24)
+    unfolding courseOf
+    sample-is i = let e : m .at + i * 24 ≡ i * 24 = omega arith in ap (sampleFrom b) e
+
+    falling-is : falling course ≡ (samples-fall || points-fall)
+    unfolding falling courseOf offsetFalls fallsAt
+    falling-is = ap (λ (t : Bool). t || points-fall) (some-same (m .samples - 1) (λ i. fall (course .sample i) (course .sample (suc i))) (fallsAt b) same)
+      where
+        fall : Sample → Sample → Bool
+        fall s t = not (lt (s .time) (t .time)) || lt (t .offset) (s .offset)
+
+        same : (i : ℕ) → fall (course .sample i) (course .sample (suc i)) ≡ fallsAt b i
+        same i = ap (λ (s : Sample). fall s (course .sample (suc i))) (sample-is i) ∙ ap (fall (sampleFrom b (i * 24))) (sample-is (suc i))
+
+    number-is : badCounts course ≡ false → firstNumber course b ≡ lowestOf false (bad-train || bad-samples || bad-points) (samples-fall || points-fall) (reachesLast course)
+    unfolding firstNumber badFloats courseOf badAt badOffset
+    number-is e =
+        ap (λ (t : Bool). lowestOf t (bad-train || bad-samples || bad-points) (falling course) (reachesLast course)) e
+        ∙ ap (λ (t : Bool). lowestOf false (bad-train || bad-samples || bad-points) t (reachesLast course)) falling-is
+
+    module _ (k : badCounts course ≡ false) where
+      pub first-length : (v : Bool) → v ≡ bookValue (m .length) → not v ≡ true → 4 ≡ firstNumber course b
+      first-length v e h = by-length bad-train bad-samples bad-points (samples-fall || points-fall) (reachesLast course) (ap not (sym e) ∙ h) ∙ sym (number-is k)
+
+      module _ (p : ℕ) (e : p ≡ sweepNumber (m .points) (badOffset offsets) (offsetFalls offsets)) where
+        pub first-points : p ≡ 4 → 4 ≡ firstNumber course b
+        unfolding sweepNumber
+        first-points h = by-points bad-train bad-samples bad-points (samples-fall || points-fall) (reachesLast course) (four-of bad-points points-fall (sym e ∙ h)) ∙ sym (number-is k)
+
+        module _ (v : Bool) (f : v ≡ bookValue (m .length)) (h : not v ≡ false) (n : p ≡ 4 → ⊥) (s : ℕ) (g : s ≡ sweepNumber (m .samples) (badAt b) (fallsAt b)) where
+          points-good : bad-points ≡ false
+          unfolding sweepNumber
+          points-good = not-four bad-points points-fall (λ x. n (e ∙ x))
+
+          pub first-samples : (s ≡ 0 → ⊥) → s ≡ firstNumber course b
+          unfolding sweepNumber
+          first-samples o = g ∙ by-samples bad-train bad-samples bad-points samples-fall points-fall (reachesLast course) (ap not (sym f) ∙ h) points-good (λ x. o (g ∙ x)) ∙ sym (number-is k)
+
+          samples-good : s ≡ 0 → (bad-samples ≡ false) × (samples-fall ≡ false)
+          unfolding sweepNumber
+          samples-good o = let q = zero-of false bad-samples samples-fall false (sym g ∙ o) in (q .1, q .2)
+
+          pub first-fall : s ≡ 0 → (p ≡ 0 → ⊥) → 7 ≡ firstNumber course b
+          unfolding sweepNumber
+          first-fall o u =
+              by-fall bad-train bad-samples bad-points samples-fall points-fall (reachesLast course) (ap not (sym f) ∙ h) (samples-good o .0) points-good
+              (not-zero points-fall (λ x. u (e ∙ ap (λ (t : Bool). lowestOf false t points-fall false) points-good ∙ x)))
+              ∙ sym (number-is k)
+
+          pub tested : s ≡ 0 → p ≡ 0 → Tested b offsets m
+          unfolding sweepNumber
+          tested o u = record {
+            counted = k;
+            train = not-false (bookValue (m .length)) (ap not (sym f) ∙ h);
+            good-samples = samples-good o .0;
+            good-points = points-good;
+            rising-samples = samples-good o .1;
+            rising-points = zero-of false bad-points points-fall false (sym e ∙ u) .2;
+          }
+
+    module _ (t : Tested b offsets m) where
+      good-at : (i : ℕ) → i < m .samples → badSampleFrom b (i * 24) ≡ false
+      unfolding badAt
+      good-at i h = none-at (m .samples) (badAt b) i h (t .good-samples)
+
+      pub farthest-held : m .samples * 24 ≤ length b → ((m .samples - 1) * 24 + 24 ≤ length b) × (badSampleFrom b ((m .samples - 1) * 24) ≡ false)
+      farthest-held h = let c = counts (t .counted) in (omega (arith, c .some), good-at (m .samples - 1) (omega (arith, c .some)))
+
+      sizes : (i : ℕ) → i < m .samples → Size (sampleFrom b (i * 24) .offset)
+      unfolding sampleFrom
+      sizes i h = size-of-bits _ (sample-floats b (i * 24) (good-at i h) .offset)
+
+      samples-rise : Rises (λ i. sampleFrom b (i * 24) .offset) (m .samples)
+      unfolding fallsAt
+      samples-rise = record {
+        sized = sizes;
+        rising = λ i h.
+            not-lt (sampleFrom b (suc i * 24) .offset) (sampleFrom b (i * 24) .offset) (size-number (sampleFrom b (suc i * 24) .offset) (sizes (suc i) h)) (size-number (sampleFrom b (i * 24) .offset) (sizes i (less i (m .samples) h)))
+            (none-right (not (lt (sampleFrom b (i * 24) .time) (sampleFrom b (suc i * 24) .time))) (lt (sampleFrom b (suc i * 24) .offset) (sampleFrom b (i * 24) .offset)) (none-at (m .samples - 1) (fallsAt b) i (before i (m .samples) h) (t .rising-samples)));
+      }
+        where
+          less : (i n : ℕ) → suc i < n → i < n
+          less i n h = omega arith
+
+          before : (i n : ℕ) → suc i < n → i < n - 1
+          before i n h = omega arith
+
+      abbrev last : Float
+      last = getD offsets (m .points - 1) nan
+
+      abbrev farthest : Float
+      farthest = sampleFrom b ((m .samples - 1) * 24) .offset
+
+      -- offsets never fall, so the last sample tells for all
+      reaches-is : reachesLast course ≡ le last farthest
+      unfolding reachesLast courseOf
+      reaches-is = go (le last farthest) refl
+        where
+          c : Counted m
+          c = counts (t .counted)
+
+          reached : ℕ → Bool
+          reached i = le last (course .sample i .offset)
+
+          reached-is : (i : ℕ) → reached i ≡ le last (sampleFrom b (i * 24) .offset)
+          reached-is i = ap (λ (s : Sample). le last (s .offset)) (sample-is i)
+
+          none : le last farthest ≡ false → (i : ℕ) → i < m .samples → (r : Bool) → le last (sampleFrom b (i * 24) .offset) ≡ r → r ≡ false
+          none e i h true f =
+              absurd
+              (true≢false
+              (sym (le-trans last (sampleFrom b (i * 24) .offset) farthest f (rises-le samples-rise i (m .samples - 1) (omega arith) (omega (arith, c .some))))
+              ∙ e))
+          none e i h false f = refl
+
+          go : (r : Bool) → le last farthest ≡ r → someBelow (m .samples) reached ≡ r
+          go true e = some-at (m .samples) reached (m .samples - 1) (omega (arith, c .some)) (reached-is (m .samples - 1) ∙ e)
+          go false e = none-all (m .samples) reached (λ i h. reached-is i ∙ none e i h (le last (sampleFrom b (i * 24) .offset)) refl)
+
+      number-left : firstNumber course b ≡ lowestOf false false false (le last farthest)
+      number-left =
+          number-is (t .counted)
+          ∙ ap (λ (r : Bool). lowestOf false (not r || bad-samples || bad-points) (samples-fall || points-fall) (reachesLast course)) (t .train)
+          ∙ ap (λ (r : Bool). lowestOf false (false || r || bad-points) (samples-fall || points-fall) (reachesLast course)) (t .good-samples)
+          ∙ ap (λ (r : Bool). lowestOf false r (samples-fall || points-fall) (reachesLast course)) (t .good-points)
+          ∙ ap (λ (r : Bool). lowestOf false false (r || points-fall) (reachesLast course)) (t .rising-samples)
+          ∙ ap (λ (r : Bool). lowestOf false false r (reachesLast course)) (t .rising-points)
+          ∙ ap (lowestOf false false false) reaches-is
+
+      pub first-11 : (s : Sample) → s ≡ sampleFrom b ((m .samples - 1) * 24) → le last (s .offset) ≡ true → 11 ≡ firstNumber course b
+      unfolding lowestOf
+      first-11 s e h = sym (number-left ∙ ap (lowestOf false false false) (ap (λ (x : Sample). le last (x .offset)) (sym e) ∙ h))
+
+      pub first-0 : (s : Sample) → s ≡ sampleFrom b ((m .samples - 1) * 24) → le last (s .offset) ≡ false → 0 ≡ firstNumber course b
+      unfolding lowestOf
+      first-0 s e h = sym (number-left ∙ ap (lowestOf false false false) (ap (λ (x : Sample). le last (x .offset)) (sym e) ∙ h))
+
+      -- ---- what the number 0 leaves, for the walk
+
+      points-rise : ((k : ℕ) → k < m .points → T (fits binary64 (getD offsets k nan))) → Rises (λ k. getD offsets k nan) (m .points)
+      unfolding badOffset offsetFalls
+      points-rise f = record {
+        sized = sized;
+        rising = λ k h.
+            not-lt (getD offsets (suc k) nan) (getD offsets k nan) (size-number (getD offsets (suc k) nan) (sized (suc k) h)) (size-number (getD offsets k nan) (sized k (less k (m .points) h)))
+            (none-at (m .points - 1) (offsetFalls offsets) k (before k (m .points) h) (t .rising-points));
+      }
+        where
+          sized : (k : ℕ) → k < m .points → Size (getD offsets k nan)
+          sized k h = size-of-value (getD offsets k nan) (f k h) (not-false (bookValue (getD offsets k nan)) (none-at (m .points) (badOffset offsets) k h (t .good-points)))
+
+          less : (i n : ℕ) → suc i < n → i < n
+          less i n h = omega arith
+
+          before : (i n : ℕ) → suc i < n → i < n - 1
+          before i n h = omega arith
+
+      held-of : m .samples * 24 ≤ length b → m .points ≤ length offsets → Held b offsets m
+      held-of h g = record {
+        bytes = omega arith;
+        points = g;
+        floats = λ i l. ap (badSampleFrom b) (at-is i) ∙ good-at i l;
+      }
+        where
+          at-is : (i : ℕ) → m .at + i * 24 ≡ i * 24
+          at-is i = omega arith
+
+      walkable-of : reachesLast course ≡ false → ((k : ℕ) → k < m .points → T (fits binary64 (getD offsets k nan))) → T (fits binary64 (m .length)) → Walkable course
+      unfolding reachesLast courseOf
+      walkable-of r f g = record {
+        some = c .some;
+        some-points = c .some-points;
+        rises = p;
+        sizes = size;
+        train = size-of-value (m .length) g (t .train);
+        bounded = value-finite (m .length) g (t .train);
+        before-last = λ i h.
+            not-le last (course .sample i .offset) (size-number last (p .sized (m .points - 1) (under (m .points) (c .some-points)))) (size-number (course .sample i .offset) (size i h)) (unreached i h);
+      }
+        where
+          c : Counted m
+          c = counts (t .counted)
+
+          under : (n : ℕ) → 0 < n → n - 1 < n
+          under n h = omega arith
+
+          p : Rises (λ k. getD offsets k nan) (m .points)
+          p = points-rise f
+
+          size : (i : ℕ) → i < m .samples → Size (course .sample i .offset)
+          size i h = subst (λ (s : Sample). Size (s .offset)) (sym (sample-is i)) (sizes i h)
+
+          unreached : (i : ℕ) → i < m .samples → le last (course .sample i .offset) ≡ false
+          unreached i h = none-at (m .samples) (λ j. le last (course .sample j .offset)) i h r
+
+    -- ---- the answer, by the number
+
+    from-zero : firstNumber course b ≡ 0 → Tested b offsets m × (reachesLast course ≡ false)
+    unfolding firstNumber badFloats courseOf badAt badOffset
+    from-zero e =
+        let q = zero-of (badCounts course) (bad-train || bad-samples || bad-points) (falling course) (reachesLast course) e in
+        let r = sym falling-is ∙ q .2 in
+        let l = none-left (bad-train || bad-samples) bad-points (q .1) in (
+          record {
+            counted = q .0;
+            train = not-false (bookValue (m .length)) (none-left bad-train bad-samples l);
+            good-samples = none-right bad-train bad-samples l;
+            good-points = none-right (bad-train || bad-samples) bad-points (q .1);
+            rising-samples = none-left samples-fall points-fall r;
+            rising-points = none-right samples-fall points-fall r;
+          },
+          q .3,
+        )
+
+    module _ (e : firstNumber course b ≡ 0) where
+      pub left-counted : Counted m
+      left-counted = counts (from-zero e .0 .counted)
+
+      pub left-held : m .samples * 24 ≤ length b → m .points ≤ length offsets → Held b offsets m
+      left-held = held-of (from-zero e .0)
+
+      pub left-walkable : ((k : ℕ) → k < m .points → T (fits binary64 (getD offsets k nan))) → T (fits binary64 (m .length)) → Walkable course
+      left-walkable = walkable-of (from-zero e .0) (from-zero e .1)
+
+  pub answer-refused : (places n : ℕ) → n ≡ firstNumber course b → (n ≡ 0 → ⊥) → Refused n ≡ answerOf course b places
+  unfolding answerOf firstNumber row11 lowestOf
+  answer-refused places n e o =
+      ap Refused e
+      ∙ refuses (badCounts course) (badFloats course b) (falling course) (reachesLast course) (someBad (pointsPassed course))
+      (pick (ltb places (length (pointsPassed course))) (Refused 12) (Listed (length (pointsPassed course)))) (λ x. o (e ∙ x))
+    where
+      refuses : (p q r s x : Bool) (rest : Made) → (lowestOf p q r s ≡ 0 → ⊥) → Refused (lowestOf p q r s) ≡ pick p (Refused 3) (pick q (Refused 4) (pick r (Refused 7) (pick (s || x) (Refused 11) rest)))
+      refuses true q r s x rest o = refl
+      refuses false true r s x rest o = refl
+      refuses false false true s x rest o = refl
+      refuses false false false true x rest o = refl
+      refuses false false false false x rest o = absurd (o refl)
+
+  pub answer-walk : (places : ℕ) → firstNumber course b ≡ 0 → walkAnswer course places ≡ answerOf course b places
+  unfolding answerOf firstNumber row11 walkAnswer countAnswer
+  answer-walk places e =
+      let q = zero-of (badCounts course) (badFloats course b) (falling course) (reachesLast course) e in
+      walks (badCounts course) (badFloats course b) (falling course) (reachesLast course) (someBad (pointsPassed course))
+      (pick (ltb places (length (pointsPassed course))) (Refused 12) (Listed (length (pointsPassed course)))) (q .0) (q .1) (q .2) (q .3)
+    where
+      walks : (p q r s x : Bool) (rest : Made) → p ≡ false → q ≡ false → r ≡ false → s ≡ false
+          → pick x (Refused 11) rest ≡ pick p (Refused 3) (pick q (Refused 4) (pick r (Refused 7) (pick (s || x) (Refused 11) rest)))
+      walks p q r s x rest d e f g = rw (d, e, f, g)

@@ -1,0 +1,2 @@
+pub mod Maker
+pub mod Parts

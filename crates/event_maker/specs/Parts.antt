@@ -1,0 +1,94 @@
+-- Words of the event maker's parts. Only the contracts of private functions use them.
+use mathlib.Core.Path.{_≡_}
+use mathlib.Core.Bool.{Bool, true, false, not, _||_}
+use mathlib.Core.List.{List}
+use Prim.Native.Nat.{ℕ, suc, _+_, _-_, _*_}
+use lib.Dec.{ltb}
+use lib.ListN.{length, set, getD}
+use lib.Ieee.{Float, nan, lt}
+use Rattle.fields.specs.Below.{someBelow}
+use Rattle.floats.specs.Floats.{bookValue}
+use Rattle.space.specs.Space.{zeros, zeroFloats}
+use Rattle.book.specs.Format.{sampleFrom}
+use Rattle.book.specs.Rows.{badSampleFrom}
+use Rattle.network.specs.Table.{kindNumber}
+use Rattle.walk.specs.declared.PassedPoint.{PassedPoint}
+use Rattle.walk.specs.Course.{Course}
+use Rattle.walk.specs.Walk.{pointsPassed, reachesLast, someBad}
+use Rattle.event_maker.specs.declared.Made.{Made}
+use Rattle.event_maker.specs.declared.Made.the-variants.{Listed, Refused}
+use Rattle.event_maker.specs.Maker.{badCounts, badFloats, falling, pick, floatsAs, numbersAs}
+
+-- ---- the rows
+
+-- the lowest row of four that holds, and 0 where none does
+unfoldable pub lowestOf : Bool → Bool → Bool → Bool → ℕ
+lowestOf true four seven eleven = 3
+lowestOf false true seven eleven = 4
+lowestOf false false true eleven = 7
+lowestOf false false false true = 11
+lowestOf false false false false = 0
+
+-- rows 3, 4 and 7, and 11 for the samples
+unfoldable pub firstNumber : Course → List ℕ → ℕ
+unfolding lowestOf
+firstNumber c samples = lowestOf (badCounts c) (badFloats c samples) (falling c) (reachesLast c)
+
+-- one sweep over n rows: 4 if one is bad, 7 if one falls against the row before it
+unfoldable pub sweepNumber : ℕ → (ℕ → Bool) → (ℕ → Bool) → ℕ
+unfolding lowestOf
+sweepNumber n bad falls = lowestOf false (someBelow n bad) (someBelow (n - 1) falls) false
+
+unfoldable pub badOffset : List Float → ℕ → Bool
+badOffset offsets k = not (bookValue (getD offsets k nan))
+
+unfoldable pub offsetFalls : List Float → ℕ → Bool
+offsetFalls offsets k = lt (getD offsets (suc k) nan) (getD offsets k nan)
+
+unfoldable pub badAt : List ℕ → ℕ → Bool
+badAt samples i = badSampleFrom samples (i * 24)
+
+unfoldable pub fallsAt : List ℕ → ℕ → Bool
+fallsAt samples i =
+    not (lt (sampleFrom samples (i * 24) .time) (sampleFrom samples (suc i * 24) .time))
+    || lt (sampleFrom samples (suc i * 24) .offset) (sampleFrom samples (i * 24) .offset)
+
+-- ---- the events
+
+-- 12 where the list is too short
+unfoldable pub countAnswer : ℕ → ℕ → Made
+countAnswer count places = pick (ltb places count) (Refused 12) (Listed count)
+
+-- what is left of the answer behind the rows
+unfoldable pub walkAnswer : Course → ℕ → Made
+unfolding countAnswer
+walkAnswer c places = pick (someBad (pointsPassed c)) (Refused 11) (countAnswer (length (pointsPassed c)) places)
+
+-- the list with an event at place k
+unfoldable pub putEventFloats : List Float → ℕ → PassedPoint → List Float
+putEventFloats fs k p = set (set (set fs (k * 3) (p .time)) (k * 3 + 1) (p .offset)) (k * 3 + 2) (p .speed)
+
+unfoldable pub putEventNumbers : List ℕ → ℕ → PassedPoint → ℕ → List ℕ
+putEventNumbers us k p link = set (set us (k * 2) link) (k * 2 + 1) (kindNumber (p .«est_type»))
+
+-- the list where no refusal leaves it to be made zero
+abbrev pub FloatsListed : Made → Course → ℕ → List Float → Type 0
+FloatsListed (Listed n) c size fs = fs ≡ floatsAs (Listed n) c size
+FloatsListed (Refused n) c size fs = Unit
+
+abbrev pub NumbersListed : Made → Course → List ℕ → ℕ → List ℕ → Type 0
+NumbersListed (Listed n) c links size us = us ≡ numbersAs (Listed n) c links size
+NumbersListed (Refused n) c links size us = Unit
+
+-- a refused list is made zero
+abbrev pub isRefused : Made → Bool
+isRefused (Listed n) = false
+isRefused (Refused n) = true
+
+abbrev pub keptFloats : Bool → List Float → List Float
+keptFloats false fs = fs
+keptFloats true fs = zeroFloats (length fs)
+
+abbrev pub keptNumbers : Bool → List ℕ → List ℕ
+keptNumbers false us = us
+keptNumbers true us = zeros (length us)
