@@ -12,7 +12,7 @@ use Rattle.floats.specs.Floats.{bookFloat}
 use Rattle.book.specs.declared.Link.{Link}
 use Rattle.book.specs.declared.Origin.{Origin}
 use Rattle.book.specs.declared.Leg.{Leg}
-use Rattle.book.specs.Format.{linkAt, originAt, legAt, links, origins, destinations, legs, samples, linkLength, linkNext, linkNextAlt, linkPrev, linkPrevAlt, originLink, originOffset, originFront, destinationLink, legLink, legParent, legSamples, joinBits, departureBits, lengthBits}
+use Rattle.book.specs.Format.{linkAt, originAt, legAt, links, origins, destinations, legs, samples, linkLength, linkNext, linkNextAlt, linkPrev, linkPrevAlt, originLink, originOffset, originFront, destinationLink, legLink, legParent, legSamples, joinBits, departureBits, lengthBits, floatOf}
 use Rattle.book.specs.Rows.{outside, badCount, badOriginValue, badSample, row4, noLink, linkZero, badLink, badLegIndex, row5, badLeg}
 
 -- ---- the limits
@@ -61,6 +61,11 @@ module _ (b : List ℕ) (h : row4 b ≡ false) where
   floats : (heads || some-links || some-origins) ≡ false
   unfolding row4
   floats = none-left (heads || some-links || some-origins) (someBelow (samples b) (badSample b)) h
+
+  pub length-float : bookFloat (lengthBits b) ≡ true
+  length-float =
+      let p = not (bookFloat (joinBits b)) || not (bookFloat (departureBits b)) in
+      not-false (bookFloat (lengthBits b)) (none-right p (not (bookFloat (lengthBits b))) (none-left heads some-links (none-left (heads || some-links) some-origins floats)))
 
   pub link-float : (l : ℕ) → l < links b → bookFloat (linkLength b l) ≡ true
   link-float l g =
@@ -152,6 +157,10 @@ link-prev b l e = ap (λ (r : Link). r .«idx_prev») e
 pub link-prev-alt : (b : List ℕ) (l : ℕ) {r : Link} → r ≡ linkAt b l → r .«idx_prev_alt» ≡ linkPrevAlt b l
 unfolding linkAt
 link-prev-alt b l e = ap (λ (r : Link). r .«idx_prev_alt») e
+
+pub link-length : (b : List ℕ) (l : ℕ) {r : Link} → r ≡ linkAt b l → r .length ≡ floatOf (linkLength b l)
+unfolding linkAt
+link-length b l e = ap (λ (r : Link). r .length) e
 
 pub leg-link : (b : List ℕ) (i : ℕ) (l : Leg) → l ≡ legAt b i → l .«link_idx» ≡ legLink b i
 unfolding legAt

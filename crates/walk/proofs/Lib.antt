@@ -4,3 +4,4 @@ pub mod Starts
 pub mod Steps
 pub mod Theorems
 pub mod Examples
+pub mod Alike

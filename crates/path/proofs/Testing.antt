@@ -1,0 +1,69 @@
+-- Row 11 over a leg's events: the test goes from event to event, and what is left has a bad one just if the leg has.
+use mathlib.Core.Path.{_≡_, refl, sym, ap, _∙_}
+use mathlib.Core.Bool.{Bool, true, false, _||_}
+use mathlib.Core.List.{List, [], _∷_}
+use Prim.Native.Nat.{ℕ, _-_, _≤_, _<_}
+use native.Mathlib.Omega.{arith}
+use lib.ListN.{length}
+use lib.Ieee.{lt, le}
+use Rattle.fields.proofs.Below.{or-left, none-at}
+use Rattle.floats.proofs.Order.{not-le}
+use Rattle.walk.specs.declared.Heads.{Heads}
+use Rattle.walk.specs.declared.PassedPoint.{PassedPoint}
+use Rattle.walk.specs.Course.{Course, Walkable}
+use Rattle.walk.specs.Walk.{start, passedFrom, pointsPassed, reachesLast, badPoint, someBad, row11, Within}
+use Rattle.walk.proofs.Searches.{size-number}
+use Rattle.path.specs.Kept.{Sound}
+
+-- ---- the loop
+
+pub record Testing (c : Course) (h : Heads) : Type 0 where
+  pub within : Within c h
+  pub left : someBad (passedFrom c h) ≡ someBad (pointsPassed c)
+
+module _ (c : Course) where
+  pub test-start : (h : Heads) → h ≡ start c → Within c h → Testing c h
+  unfolding pointsPassed
+  test-start h e w = record { within = w; left = ap (λ (x : Heads). someBad (passedFrom c x)) e }
+
+  pub test-end : {h : Heads} → Testing c h → passedFrom c h ≡ [] → false ≡ someBad (pointsPassed c)
+  unfolding someBad
+  test-end t e = sym (sym (t .left) ∙ ap someBad e)
+
+  pub test-bad : {h : Heads} (g : Heads) (p : PassedPoint) → Testing c h → passedFrom c h ≡ p ∷ passedFrom c g → badPoint p ≡ true → true ≡ someBad (pointsPassed c)
+  unfolding someBad
+  test-bad {h} g p t e b = sym (sym (t .left) ∙ ap someBad e ∙ or-left (badPoint p) (someBad (passedFrom c g)) b)
+
+  pub test-on : {h : Heads} (g : Heads) (p : PassedPoint) → Testing c h → passedFrom c h ≡ p ∷ passedFrom c g → Within c g → badPoint p ≡ false → Testing c g
+  unfolding someBad
+  test-on {h} g p t e w b = record { within = w; left = ap (λ (x : Bool). x || someBad (passedFrom c g)) (sym b) ∙ sym (ap someBad e) ∙ t .left }
+
+  pub test-less : (h g : Heads) (p : PassedPoint) → passedFrom c h ≡ p ∷ passedFrom c g → length (passedFrom c g) < length (passedFrom c h)
+  test-less h g p e =
+      let l : length (passedFrom c h) ≡ length (p ∷ passedFrom c g) = ap length e in
+      omega arith
+
+-- ---- both parts of row 11
+
+pub reaches : (c : Course) → true ≡ reachesLast c → true ≡ row11 c
+unfolding row11
+reaches c e = ap (λ (t : Bool). t || someBad (pointsPassed c)) e
+
+pub passes : (c : Course) (r : Bool) → false ≡ reachesLast c → r ≡ someBad (pointsPassed c) → r ≡ row11 c
+unfolding row11
+passes c r e f = f ∙ ap (λ (t : Bool). t || someBad (pointsPassed c)) e
+
+-- a leg whose samples don't reach the last point can be walked
+pub walkable : (c : Course) → Sound c → false ≡ reachesLast c → Walkable c
+unfolding reachesLast
+walkable c s e = record {
+  some = s .some;
+  some-points = s .some-points;
+  rises = s .rises;
+  sizes = s .sizes;
+  train = s .train;
+  bounded = s .bounded;
+  before-last = λ i h.
+      not-le (c .offset (c .points - 1)) (c .sample i .offset) (size-number (c .offset (c .points - 1)) (s .rises .sized (c .points - 1) (omega (arith, s .some-points))))
+      (size-number (c .sample i .offset) (s .sizes i h)) (none-at (c .samples) (λ k. le (c .offset (c .points - 1)) (c .sample k .offset)) i h (sym e));
+}
