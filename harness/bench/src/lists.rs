@@ -20,3 +20,8 @@ pub fn even(samples: usize, points: usize) -> Vec<u8> {
     item.extend((2 * points as u32).to_le_bytes());
     item
 }
+
+/// The accepted ones of the first random lists that the comparisons use.
+pub fn accepted(n: u64) -> Vec<Vec<u8>> {
+    (0..n).map(|k| generator::events(1, k)).filter(|item| reference::events(item).starts_with(b"events")).collect()
+}

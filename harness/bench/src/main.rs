@@ -27,7 +27,7 @@ fn reading(name: &str, bytes: &[u8], places: usize) {
     println!("{name:<44} {ours:>9.3} {theirs:>9.3} {:>7.2}", ours / theirs);
 }
 
-/// Event lists: ours is the whole entry (rows 3, 4, 7, 11 and 12, the list made zero and filled), the reference's `update_est_times_add` alone.
+/// Event lists: ours is the whole entry (rows 3, 4, 7, 11 and 12, the list made zero and filled); the reference's is the same tests but 12, and `update_est_times_add` into its own vector.
 fn events(name: &str, items: &[Vec<u8>]) {
     let mut lent: Vec<_> = items.iter().map(|item| replay::events::Lent::new(item)).collect();
     for (lent, item) in lent.iter_mut().zip(items) {
@@ -58,6 +58,7 @@ fn main() {
     events("1,000,000 samples, 65,536 points", &[lists::even(1_000_000, 65_536)]);
     events("65,536 points between two samples", &[lists::even(2, 65_536)]);
     events("1,000 lists of 30 samples and 6 points", &vec![lists::even(30, 6); 1_000]);
+    events("accepted ones of 10,000 random lists", &lists::accepted(10_000));
     println!("{:<44} {:>9} {:>9} {:>7}", "reading a book", "ours, ms", "ref., ms", "ratio");
     for places in [192, 65_535] {
         reading(&format!("largest, legs in a chain, {places} places"), &large::chain(), places);

@@ -89,12 +89,18 @@ pub fn events(item: &[u8]) -> Vec<u8> {
     })
 }
 
-/// How long the published `update_est_times_add` takes for an accepted item, by itself, and how many events it makes: for timing.
+/// How long the event maker's work takes for an accepted item, from vectors that are there: the tests of rows 3, 4 and 7, and the published `update_est_times_add`
+/// with row 11's test. And how many events there are. For timing.
 pub fn time_events(item: &[u8]) -> (std::time::Duration, usize) {
-    let (book, _) = read_events(item).unwrap();
+    let (length, samples, points, _) = split_events(item).unwrap();
+    let start = std::time::Instant::now();
+    test_events(length, &samples, &points).unwrap();
+    let tests = start.elapsed();
+    let book = Book::made_up(length, samples);
+    book.path.replace(Path { legs: vec![1], points });
     let orders = Orders { places: MOST_PLACES, stop: Stop::Events, ..Orders::default() };
     let events = caught(run(book, orders)).unwrap();
-    (watch::making(), events.len())
+    (tests + watch::making(), events.len())
 }
 
 /// The bits of a float to those of its square root, NaN being 7ff8000000000000.
@@ -205,23 +211,32 @@ fn indices_hold(node: &EstTime, count: usize) -> bool {
 /// A book whose first leg has the samples and whose path has the points, and the list's
 /// places: rows 3, 4 and 7.
 fn read_events(item: &[u8]) -> Result<(Book, usize), u32> {
+    let (length, samples, points, places) = split_events(item)?;
+    test_events(length, &samples, &points)?;
+    let book = Book::made_up(length, samples);
+    book.path.replace(Path { legs: vec![1], points });
+    Ok((book, places))
+}
+
+/// An item's length, samples, points and list places.
+fn split_events(item: &[u8]) -> Result<(f64, Vec<Sample>, Vec<LinkPoint>, usize), u32> {
     let mut fields = Fields(item);
     let length = fields.take(8)?.f64();
     let samples = fields.section(24)?;
     let points = fields.section(12)?;
     let places = fields.take(4)?.u32() as usize;
     fields.end()?;
-    let samples: Vec<Sample> = samples.rows(24).map(book::sample).collect();
-    let points: Vec<LinkPoint> = points.rows(12).map(point).collect();
+    Ok((length, samples.rows(24).map(book::sample).collect(), points.rows(12).map(point).collect(), places))
+}
+
+/// Rows 3, 4 and 7.
+fn test_events(length: f64, samples: &[Sample], points: &[LinkPoint]) -> Result<(), u32> {
     refuse_if(!(1..=1_000_000).contains(&samples.len()), 3)?;
     refuse_if(!(1..=65_536).contains(&points.len()), 3)?;
-    refuse_if(!event_floats_hold(length, &samples, &points), 4)?;
+    refuse_if(!event_floats_hold(length, samples, points), 4)?;
     refuse_if(!samples.windows(2).all(|pair| pair[0].time < pair[1].time), 7)?;
     refuse_if(!samples.windows(2).all(|pair| pair[0].offset <= pair[1].offset), 7)?;
-    refuse_if(!points.windows(2).all(|pair| pair[0].offset <= pair[1].offset), 7)?;
-    let book = Book::made_up(length, samples);
-    book.path.replace(Path { legs: vec![1], points });
-    Ok((book, places))
+    refuse_if(!points.windows(2).all(|pair| pair[0].offset <= pair[1].offset), 7)
 }
 
 fn event_floats_hold(length: f64, samples: &[Sample], points: &[LinkPoint]) -> bool {

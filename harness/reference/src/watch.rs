@@ -149,17 +149,17 @@ pub fn leg_moved() {
     MOVED.set(Some(Instant::now()));
 }
 
-/// How long the events of the last leg took to make.
+/// How long the events of the last leg took to make and to test.
 pub fn making() -> Duration {
     MAKING.get()
 }
 
 /// The events are made, none inserted yet.
 pub fn events_made(events: &[EstTime]) {
-    MAKING.set(MOVED.take().map_or(Duration::ZERO, |moved| moved.elapsed()));
     if !events.iter().all(within) {
         refuse(11)
     }
+    MAKING.set(MOVED.take().map_or(Duration::ZERO, |moved| moved.elapsed()));
     NUMBER.set(9);
     stop_at(Stop::Events, events);
 }
