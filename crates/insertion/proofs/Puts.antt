@@ -28,11 +28,11 @@ put-room t i x places r = record {
   most = r .most;
 }
 
-put-same : (t : Table) (i : ℕ) (x : EstTime) (places : ℕ) → RoomIn t places → i < places → at (put t i x) i ≡ x
+pub put-same : (t : Table) (i : ℕ) (x : EstTime) (places : ℕ) → RoomIn t places → i < places → at (put t i x) i ≡ x
 unfolding put at
 put-same t i x places r h = node-put-same (t .floats) (t .numbers) i x (omega (arith, r .floats)) (omega (arith, r .numbers))
 
-put-other : (t : Table) (i : ℕ) (x : EstTime) (j : ℕ) → j ≢ i → at (put t i x) j ≡ at t j
+pub put-other : (t : Table) (i : ℕ) (x : EstTime) (j : ℕ) → j ≢ i → at (put t i x) j ≡ at t j
 unfolding put at
 put-other t i x j h = node-put-other (t .floats) (t .numbers) i x j h
 
@@ -56,15 +56,15 @@ module _ (t : Table) (i k : ℕ) (x y : EstTime) where
 
 -- ---- what a woven network asks of node i
 
-record Fits (x : EstTime) (i n : ℕ) : Type 0 where
-  next : x .«idx_next» < n
-  next-alt : x .«idx_next_alt» < n
-  prev : x .«idx_prev» < n
-  prev-alt : x .«idx_prev_alt» < n
-  next-alt-rises : 0 < x .«idx_next_alt» → i < x .«idx_next_alt»
-  prev-alt-rises : 0 < x .«idx_prev_alt» → i < x .«idx_prev_alt»
+pub record Fits (x : EstTime) (i n : ℕ) : Type 0 where
+  pub next : x .«idx_next» < n
+  pub next-alt : x .«idx_next_alt» < n
+  pub prev : x .«idx_prev» < n
+  pub prev-alt : x .«idx_prev_alt» < n
+  pub next-alt-rises : 0 < x .«idx_next_alt» → i < x .«idx_next_alt»
+  pub prev-alt-rises : 0 < x .«idx_prev_alt» → i < x .«idx_prev_alt»
 
-fits-at : {node : ℕ → EstTime} {n : ℕ} → Woven node n → (i m : ℕ) → i < n → n ≤ m → Fits (node i) i m
+pub fits-at : {node : ℕ → EstTime} {n : ℕ} → Woven node n → (i m : ℕ) → i < n → n ≤ m → Fits (node i) i m
 fits-at w i m h g = record {
   next = omega (arith, w .next i h);
   next-alt = omega (arith, w .next-alt i h);
@@ -74,7 +74,7 @@ fits-at w i m h g = record {
   prev-alt-rises = w .prev-alt-rises i h;
 }
 
-fits-woven : {node : ℕ → EstTime} {n : ℕ} → ((i : ℕ) → i < n → Fits (node i) i n) → Woven node n
+pub fits-woven : {node : ℕ → EstTime} {n : ℕ} → ((i : ℕ) → i < n → Fits (node i) i n) → Woven node n
 fits-woven f = record {
   next = λ i h. f i h .next;
   next-alt = λ i h. f i h .next-alt;
@@ -84,7 +84,7 @@ fits-woven f = record {
   prev-alt-rises = λ i h. f i h .prev-alt-rises;
 }
 
-either : (a b : ℕ) → (a ≡ b) ⊎ (a ≡ b → ⊥)
+pub either : (a b : ℕ) → (a ≡ b) ⊎ (a ≡ b → ⊥)
 either a b = go (eqb a b) refl
   where
     go : (t : Bool) → eqb a b ≡ t → (a ≡ b) ⊎ (a ≡ b → ⊥)

@@ -72,7 +72,7 @@ fn seek_place(
 }
 
 // A node to which the next is set: the time and offset it holds become those up to the event that follows.
-fn link_to(node: EstTime, next: u32, e: TimedEvent) -> EstTime
+pub fn link_to(node: EstTime, next: u32, e: TimedEvent) -> EstTime
     ensures { λ r. ⌜ r ≡ linkedTo node next e ⌝ }
 {
     let link_event = node.link_event;

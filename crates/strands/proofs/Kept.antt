@@ -29,7 +29,7 @@ abbrev pub Kept : ℕ → Option (List EstJoinPath) → Type 0
 Kept n none = Unit
 Kept n (some es) = Sound n es
 
-kept-then : (n : ℕ) (a : Option (List EstJoinPath)) (f : List EstJoinPath → Option (List EstJoinPath)) → Kept n a → ((es : List EstJoinPath) → Sound n es → Kept n (f es)) → Kept n (andThen a f)
+pub kept-then : (n : ℕ) (a : Option (List EstJoinPath)) (f : List EstJoinPath → Option (List EstJoinPath)) → Kept n a → ((es : List EstJoinPath) → Sound n es → Kept n (f es)) → Kept n (andThen a f)
 kept-then n none f h g = tt
 kept-then n (some es) f h g = g es h
 
@@ -46,7 +46,7 @@ valid-more es x n v h = record { node = λ k l. at k (eqb k (length es)) refl (s
         subst (λ (j : ℕ). j < n) (sym (node-front es (x ∷ []) k l)) (v .node k l)
 
 module _ (n : ℕ) (es : List EstJoinPath) (x : EstJoinPath) (v : Sound n es) (h : x .«est_idx_next» < n) where
-  kept-push : Kept n (push es x)
+  pub kept-push : Kept n (push es x)
   unfolding push
   kept-push = go (ltb (length es) 1024) refl
     where

@@ -1,0 +1,9 @@
+pub mod Choosing
+pub mod Chains
+pub mod Stores
+pub mod Lists
+pub mod Marking
+pub mod Appending
+pub mod Answers
+pub mod Kept
+pub mod Examples
