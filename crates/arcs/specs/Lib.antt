@@ -1,0 +1,3 @@
+pub mod Arcs
+pub mod Shape
+pub mod Runs

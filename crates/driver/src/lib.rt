@@ -1,0 +1,1 @@
+// Growth of a book's network: the definitions, and examples. The code is to come.

@@ -1,0 +1,14 @@
+pub mod Sets
+pub mod Roles
+pub mod Frames
+pub mod Ways
+pub mod Swapped
+pub mod Sums
+pub mod Arcs
+pub mod Stores
+pub mod Answers
+pub mod ForwardRelinks
+pub mod ForwardKeeps
+pub mod BackwardRelinks
+pub mod BackwardKeeps
+pub mod PassesKeep

@@ -1,0 +1,1 @@
+// Both passes keep the arcs: theorems alone. See proofs/.

@@ -1,0 +1,5 @@
+pub mod Checks
+pub mod Net
+pub mod Forward
+pub mod Backward
+pub mod Passes
