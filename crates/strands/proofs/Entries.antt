@@ -42,7 +42,7 @@ module _ (s : List ℕ) (n : ℕ) (x : EstJoinPath) where
   abbrev pub behind : List ℕ
   behind = set (set s (n * 2) (x .«link_idx_match»)) (n * 2 + 1) (x .«est_idx_next»)
 
-  entries-behind : n * 2 + 2 ≤ length s → entriesIn behind (n + 1) ≡ entriesIn s n ++ (x ∷ [])
+  pub entries-behind : n * 2 + 2 ≤ length s → entriesIn behind (n + 1) ≡ entriesIn s n ++ (x ∷ [])
   unfolding entryAt
   entries-behind h =
       let s′ : List ℕ = set s (n * 2) (x .«link_idx_match») in
