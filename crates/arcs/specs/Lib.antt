@@ -1,3 +1,5 @@
 pub mod Arcs
 pub mod Shape
 pub mod Runs
+pub mod Noted
+pub mod Read

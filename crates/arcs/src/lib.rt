@@ -1,1 +1,1 @@
-// Arcs: definitions and theorems alone. See specs/Arcs.antt, specs/Shape.antt and specs/Runs.antt.
+// Arcs: definitions and theorems alone. See specs/Arcs.antt and proofs/.

@@ -1,1 +1,4 @@
+mod Sets
+mod Held
+mod Walking
 mod Examples

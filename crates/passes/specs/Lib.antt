@@ -3,3 +3,4 @@ pub mod Net
 pub mod Forward
 pub mod Backward
 pub mod Passes
+pub mod Walks

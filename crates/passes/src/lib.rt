@@ -1,1 +1,388 @@
-// The checks and the time passes: the definitions, and examples. The code is to come.
+// The checks before the time passes, and the relinks of both. Contracts: specs/.
+use network::EstTime;
+use network::EstType;
+ghost use mathlib.Core.Path.{_≡_};
+ghost use mathlib.Core.Bool.{not, _&&_, _||_};
+ghost use Prim.Native.Nat.{ℕ, _+_, _-_, _*_, _≤_, _<_};
+ghost use lib.Dec.{eqb};
+ghost use lib.ListN.{length};
+ghost use Rattle.network.specs.Table.{nodeAt, Room};
+ghost use Rattle.insertion.specs.Insertion.{Table, flagged};
+ghost use Rattle.passes.specs.Checks.{fakeKind, differ, prevHolds, nextHolds, fakeHolds, prevLeads, nextLeads, nodeHolds, row14};
+ghost use Rattle.passes.specs.Net.{Pass, withTime, withNext, withPrev, withArc, setTime, setNext, setPrev, setArc};
+ghost use Rattle.passes.specs.Forward.{swapJoin, isPassable as Forward·isPassable};
+ghost use Rattle.passes.specs.Backward.{swapSplit, isPassable as Backward·isPassable};
+ghost use Rattle.passes.specs.Walks.{Inside, passOf, ForwardWalk, BackwardWalk};
+
+// Where a relink walk ends, or that it has passed more Fakes than there are nodes.
+pub enum Walked {
+    Found(u32),
+    Endless,
+}
+
+// Whether a kind is Fake.
+fn is_fake(kind: EstType) -> bool
+    ensures { λ r. ⌜ r ≡ fakeKind kind ⌝ }
+{
+    network::kind_number(kind) == 2
+}
+
+// Whether one of two holds and the other does not.
+fn is_one(a: bool, b: bool) -> bool
+    ensures { λ r. ⌜ r ≡ differ a b ⌝ }
+{
+    if a { !b } else { b }
+}
+
+// The checks of a node by itself.
+fn own_links_hold(here: EstTime, n: usize, i: usize) -> bool
+    requires { ⌜ i < n ⌝ }
+    ensures { λ r. ⌜ r ≡ (prevHolds (λ _. here) n i && (nextHolds (λ _. here) n i && fakeHolds (λ _. here) n i)) ⌝ }
+{
+    let prev = is_one(!(here.idx_prev == 0), i <= 1);
+    let next = is_one(!(here.idx_next == 0), i == n - 1);
+    let event = here.link_event;
+    let kind = event.est_type;
+    let fake = is_fake(kind);
+    let alone = !fake | ((here.idx_prev_alt == 0) | (here.idx_next_alt == 0));
+    prev & (next & alone)
+}
+
+// The checks of a node by those before and after it.
+fn neighbours_hold(before: EstTime, after: EstTime, n: usize, i: usize) -> bool
+    requires { ⌜ i < n ⌝ }
+    ensures { λ r. ⌜ r ≡ (prevLeads (λ _. before) n i && (nextLeads (λ _. after) n i && (not (eqb (before .«idx_next_alt») i) || (not (eqb (after .«idx_prev_alt») i) || (eqb i 0 || eqb i (n - 1)))))) ⌝ }
+{
+    let last = i == n - 1;
+    let next_alt = before.idx_next_alt as usize == i;
+    let prev_alt = after.idx_prev_alt as usize == i;
+    let prev_leads = (before.idx_next as usize == i) | next_alt;
+    let next_leads = (after.idx_prev as usize == i) | (prev_alt | last);
+    let not_both = !next_alt | (!prev_alt | ((i == 0) | last));
+    prev_leads & (next_leads & not_both)
+}
+
+// Whether all checks of a node hold.
+fn node_holds(floats: &[f64], numbers: &[u32], n: usize, i: usize) -> bool
+    requires { ⌜ Room (now floats) (now numbers) n ⌝ }
+    requires { ⌜ Inside (nodeAt (now floats) (now numbers)) n ⌝ }
+    requires { ⌜ i < n ⌝ }
+    ensures { λ r. ⌜ r ≡ nodeHolds (nodeAt (now (floats .entry)) (now (numbers .entry))) n i ⌝ }
+{
+    let here = network::load(floats, numbers, i);
+    let before = network::load(floats, numbers, here.idx_prev as usize);
+    let after = network::load(floats, numbers, here.idx_next as usize);
+    let own = own_links_hold(here, n, i);
+    let near = neighbours_hold(before, after, n, i);
+    own & near
+}
+
+// Row 14: whether a check of some node fails.
+pub fn checks_fail(floats: &[f64], numbers: &[u32], n: usize) -> bool
+    requires { ⌜ Room (now floats) (now numbers) n ⌝ }
+    requires { ⌜ Inside (nodeAt (now floats) (now numbers)) n ⌝ }
+    ensures { λ r. ⌜ r ≡ row14 (nodeAt (now (floats .entry)) (now (numbers .entry))) n ⌝ }
+{
+    let mut i = 0;
+    while i < n {
+        if !node_holds(floats, numbers, n, i) {
+            return true;
+        }
+        i += 1;
+    }
+    false
+}
+
+// A node with another time.
+fn with_time(node: EstTime, time: f64) -> EstTime
+    ensures { λ r. ⌜ r ≡ withTime node time ⌝ }
+{
+    let link_event = node.link_event;
+    EstTime {
+        time_sched: time,
+        time_to_next: node.time_to_next,
+        dist_to_next: node.dist_to_next,
+        speed: node.speed,
+        idx_next: node.idx_next,
+        idx_next_alt: node.idx_next_alt,
+        idx_prev: node.idx_prev,
+        idx_prev_alt: node.idx_prev_alt,
+        link_event,
+    }
+}
+
+// A node with another next.
+fn with_next(node: EstTime, next: u32) -> EstTime
+    ensures { λ r. ⌜ r ≡ withNext node next ⌝ }
+{
+    let link_event = node.link_event;
+    EstTime {
+        time_sched: node.time_sched,
+        time_to_next: node.time_to_next,
+        dist_to_next: node.dist_to_next,
+        speed: node.speed,
+        idx_next: next,
+        idx_next_alt: node.idx_next_alt,
+        idx_prev: node.idx_prev,
+        idx_prev_alt: node.idx_prev_alt,
+        link_event,
+    }
+}
+
+// A node with another previous.
+fn with_prev(node: EstTime, prev: u32) -> EstTime
+    ensures { λ r. ⌜ r ≡ withPrev node prev ⌝ }
+{
+    let link_event = node.link_event;
+    EstTime {
+        time_sched: node.time_sched,
+        time_to_next: node.time_to_next,
+        dist_to_next: node.dist_to_next,
+        speed: node.speed,
+        idx_next: node.idx_next,
+        idx_next_alt: node.idx_next_alt,
+        idx_prev: prev,
+        idx_prev_alt: node.idx_prev_alt,
+        link_event,
+    }
+}
+
+// A node with another time and distance to next.
+fn with_arc(node: EstTime, time: f64, distance: f64) -> EstTime
+    ensures { λ r. ⌜ r ≡ withArc node time distance ⌝ }
+{
+    let link_event = node.link_event;
+    EstTime {
+        time_sched: node.time_sched,
+        time_to_next: time,
+        dist_to_next: distance,
+        speed: node.speed,
+        idx_next: node.idx_next,
+        idx_next_alt: node.idx_next_alt,
+        idx_prev: node.idx_prev,
+        idx_prev_alt: node.idx_prev_alt,
+        link_event,
+    }
+}
+
+// Sets a node's time.
+pub fn set_time(floats: &mut [f64], numbers: &mut [u32], i: usize, time: f64)
+    requires { ⌜ i * 4 + 4 ≤ length (now floats) ⌝ }
+    requires { ⌜ i * 6 + 6 ≤ length (now numbers) ⌝ }
+    ensures floats { λ _. ⌜ now (floats .exit) ≡ setTime (record { floats = now (floats .entry); numbers = now (numbers .entry) }) i time .floats ⌝ }
+    ensures numbers { λ _. ⌜ now (numbers .exit) ≡ setTime (record { floats = now (floats .entry); numbers = now (numbers .entry) }) i time .numbers ⌝ }
+{
+    let node = network::load(floats, numbers, i);
+    let changed = with_time(node, time);
+    network::store(floats, numbers, i, changed);
+}
+
+// Sets a node's next.
+fn set_next(floats: &mut [f64], numbers: &mut [u32], i: usize, next: u32)
+    requires { ⌜ i * 4 + 4 ≤ length (now floats) ⌝ }
+    requires { ⌜ i * 6 + 6 ≤ length (now numbers) ⌝ }
+    ensures floats { λ _. ⌜ now (floats .exit) ≡ setNext (record { floats = now (floats .entry); numbers = now (numbers .entry) }) i next .floats ⌝ }
+    ensures numbers { λ _. ⌜ now (numbers .exit) ≡ setNext (record { floats = now (floats .entry); numbers = now (numbers .entry) }) i next .numbers ⌝ }
+{
+    let node = network::load(floats, numbers, i);
+    let changed = with_next(node, next);
+    network::store(floats, numbers, i, changed);
+}
+
+// Sets a node's previous.
+fn set_prev(floats: &mut [f64], numbers: &mut [u32], i: usize, prev: u32)
+    requires { ⌜ i * 4 + 4 ≤ length (now floats) ⌝ }
+    requires { ⌜ i * 6 + 6 ≤ length (now numbers) ⌝ }
+    ensures floats { λ _. ⌜ now (floats .exit) ≡ setPrev (record { floats = now (floats .entry); numbers = now (numbers .entry) }) i prev .floats ⌝ }
+    ensures numbers { λ _. ⌜ now (numbers .exit) ≡ setPrev (record { floats = now (floats .entry); numbers = now (numbers .entry) }) i prev .numbers ⌝ }
+{
+    let node = network::load(floats, numbers, i);
+    let changed = with_prev(node, prev);
+    network::store(floats, numbers, i, changed);
+}
+
+// Sets a node's time and distance to next.
+fn set_arc(floats: &mut [f64], numbers: &mut [u32], i: usize, time: f64, distance: f64)
+    requires { ⌜ i * 4 + 4 ≤ length (now floats) ⌝ }
+    requires { ⌜ i * 6 + 6 ≤ length (now numbers) ⌝ }
+    ensures floats { λ _. ⌜ now (floats .exit) ≡ setArc (record { floats = now (floats .entry); numbers = now (numbers .entry) }) i time distance .floats ⌝ }
+    ensures numbers { λ _. ⌜ now (numbers .exit) ≡ setArc (record { floats = now (floats .entry); numbers = now (numbers .entry) }) i time distance .numbers ⌝ }
+{
+    let node = network::load(floats, numbers, i);
+    let changed = with_arc(node, time, distance);
+    network::store(floats, numbers, i, changed);
+}
+
+// Forward: whether a node is a Fake whose next is neither timed nor the end.
+fn is_passable_forward(
+    floats: &[f64],
+    numbers: &[u32],
+    cells: &[u32],
+    done_at: usize,
+    n: usize,
+    i: u32,
+) -> bool
+    requires { ⌜ Room (now floats) (now numbers) n ⌝ }
+    requires { ⌜ Inside (nodeAt (now floats) (now numbers)) n ⌝ }
+    requires { ⌜ «done_at» + n * 8 ≤ length (now cells) + 7 ⌝ }
+    requires { ⌜ i < n ⌝ }
+    ensures { λ r. ⌜ r ≡ Forward·isPassable (passOf (record { floats = now (floats .entry); numbers = now (numbers .entry) }) (flagged (now (cells .entry)) «done_at»)) n i ⌝ }
+{
+    let node = network::load(floats, numbers, i as usize);
+    let event = node.link_event;
+    let kind = event.est_type;
+    let fake = is_fake(kind);
+    let to = node.idx_next as usize;
+    let done = 0 < cells[done_at + to * 8];
+    fake & (!done & !(to == n - 1))
+}
+
+// Forward: from node i along Fakes whose next is neither timed nor the end. A node is timed whose cell is set.
+pub fn relink_walk_forward(
+    floats: &[f64],
+    numbers: &[u32],
+    cells: &[u32],
+    done_at: usize,
+    n: usize,
+    i: u32,
+) -> Walked
+    requires { ⌜ Room (now floats) (now numbers) n ⌝ }
+    requires { ⌜ Inside (nodeAt (now floats) (now numbers)) n ⌝ }
+    requires { ⌜ «done_at» + n * 8 ≤ length (now cells) + 7 ⌝ }
+    requires { ⌜ i < n ⌝ }
+    ensures { λ r. ⌜ ForwardWalk (record { floats = now (floats .entry); numbers = now (numbers .entry) }) (flagged (now (cells .entry)) «done_at») n i r ⌝ }
+{
+    let mut at = i;
+    let mut count = 0;
+    loop {
+        if !is_passable_forward(floats, numbers, cells, done_at, n, at) {
+            return Walked::Found(at);
+        }
+        if n <= count {
+            return Walked::Endless;
+        }
+        let node = network::load(floats, numbers, at as usize);
+        at = node.idx_next;
+        count += 1;
+    }
+}
+
+// Forward: the node and the base of the join that is reached exchange their nexts.
+pub fn swap_join(
+    floats: &mut [f64],
+    numbers: &mut [u32],
+    n: usize,
+    curr: u32,
+    save: u32,
+    found: u32,
+)
+    requires { ⌜ Room (now floats) (now numbers) n ⌝ }
+    requires { ⌜ Inside (nodeAt (now floats) (now numbers)) n ⌝ }
+    requires { ⌜ curr < n ⌝ }
+    requires { ⌜ save < n ⌝ }
+    requires { ⌜ found < n ⌝ }
+    ensures floats { λ _. ⌜ now (floats .exit) ≡ swapJoin (record { floats = now (floats .entry); numbers = now (numbers .entry) }) curr save found .floats ⌝ }
+    ensures numbers { λ _. ⌜ now (numbers .exit) ≡ swapJoin (record { floats = now (floats .entry); numbers = now (numbers .entry) }) curr save found .numbers ⌝ }
+{
+    let node = network::load(floats, numbers, found as usize);
+    let base = node.idx_prev;
+    set_next(floats, numbers, curr as usize, found);
+    set_next(floats, numbers, base as usize, save);
+    set_prev(floats, numbers, save as usize, base);
+    set_prev(floats, numbers, found as usize, curr);
+}
+
+// Backward: whether a node is a Fake whose previous is neither passed nor 0.
+fn is_passable_backward(
+    floats: &[f64],
+    numbers: &[u32],
+    cells: &[u32],
+    done_at: usize,
+    n: usize,
+    i: u32,
+) -> bool
+    requires { ⌜ Room (now floats) (now numbers) n ⌝ }
+    requires { ⌜ Inside (nodeAt (now floats) (now numbers)) n ⌝ }
+    requires { ⌜ «done_at» + n * 8 ≤ length (now cells) + 7 ⌝ }
+    requires { ⌜ i < n ⌝ }
+    ensures { λ r. ⌜ r ≡ Backward·isPassable (passOf (record { floats = now (floats .entry); numbers = now (numbers .entry) }) (flagged (now (cells .entry)) «done_at»)) i ⌝ }
+{
+    let node = network::load(floats, numbers, i as usize);
+    let event = node.link_event;
+    let kind = event.est_type;
+    let fake = is_fake(kind);
+    let to = node.idx_prev as usize;
+    let done = 0 < cells[done_at + to * 8];
+    fake & (!done & !(to == 0))
+}
+
+// Backward: from node i along Fakes whose previous is neither passed nor 0. A node is passed whose cell is set.
+pub fn relink_walk_backward(
+    floats: &[f64],
+    numbers: &[u32],
+    cells: &[u32],
+    done_at: usize,
+    n: usize,
+    i: u32,
+) -> Walked
+    requires { ⌜ Room (now floats) (now numbers) n ⌝ }
+    requires { ⌜ Inside (nodeAt (now floats) (now numbers)) n ⌝ }
+    requires { ⌜ «done_at» + n * 8 ≤ length (now cells) + 7 ⌝ }
+    requires { ⌜ i < n ⌝ }
+    ensures { λ r. ⌜ BackwardWalk (record { floats = now (floats .entry); numbers = now (numbers .entry) }) (flagged (now (cells .entry)) «done_at») n i r ⌝ }
+{
+    let mut at = i;
+    let mut count = 0;
+    loop {
+        if !is_passable_backward(floats, numbers, cells, done_at, n, at) {
+            return Walked::Found(at);
+        }
+        if n <= count {
+            return Walked::Endless;
+        }
+        let node = network::load(floats, numbers, at as usize);
+        at = node.idx_prev;
+        count += 1;
+    }
+}
+
+// Backward: the node and the base of the split that is reached exchange their previous, and time and distance to next go along.
+pub fn swap_split(
+    floats: &mut [f64],
+    numbers: &mut [u32],
+    n: usize,
+    curr: u32,
+    save: u32,
+    found: u32,
+)
+    requires { ⌜ Room (now floats) (now numbers) n ⌝ }
+    requires { ⌜ Inside (nodeAt (now floats) (now numbers)) n ⌝ }
+    requires { ⌜ curr < n ⌝ }
+    requires { ⌜ save < n ⌝ }
+    requires { ⌜ found < n ⌝ }
+    ensures floats { λ _. ⌜ now (floats .exit) ≡ swapSplit (record { floats = now (floats .entry); numbers = now (numbers .entry) }) curr save found .floats ⌝ }
+    ensures numbers { λ _. ⌜ now (numbers .exit) ≡ swapSplit (record { floats = now (floats .entry); numbers = now (numbers .entry) }) curr save found .numbers ⌝ }
+{
+    let node = network::load(floats, numbers, found as usize);
+    let base = node.idx_next;
+    set_prev(floats, numbers, curr as usize, found);
+    set_prev(floats, numbers, base as usize, save);
+    set_next(floats, numbers, save as usize, base);
+    set_next(floats, numbers, found as usize, curr);
+    let a = network::load(floats, numbers, save as usize);
+    let b = network::load(floats, numbers, found as usize);
+    set_arc(
+        floats,
+        numbers,
+        save as usize,
+        b.time_to_next,
+        b.dist_to_next,
+    );
+    set_arc(
+        floats,
+        numbers,
+        found as usize,
+        a.time_to_next,
+        a.dist_to_next,
+    );
+}

@@ -1,0 +1,115 @@
+-- Demand 3 for growth: of every book that the reader lets through and every lent table, the grown network has the shape, the arcs read off it are the noted ones, the two sums hold,
+-- and every noted arc is what document 01 says.
+use mathlib.Core.Path.{_≡_, refl, sym, ap, _∙_, subst}
+use mathlib.Core.Logic.{_⊎_, inl, inr}
+use mathlib.Core.Bool.{Bool, true, false}
+use mathlib.Core.List.{List, [], _∷_}
+use Prim.Native.Nat.{ℕ, zero, suc, _+_, _<_, _≤_}
+use native.Mathlib.Omega.{arith}
+use borrow.Author.Tests.{ltb-true}
+use lib.ListN.{length}
+use lib.Dec.{ltb}
+use Rattle.book.specs.Format.{legs}
+use Rattle.options.specs.Options.{keptOrigins}
+use Rattle.network.specs.Table.{Room}
+use Rattle.insertion.specs.Insertion.{Table, at}
+use Rattle.driver.specs.Run.{Answer, refused, given, andThen, Arc, Net, memberOf}
+use Rattle.driver.specs.Growth.{Growth, firstNodes, originsOf, drive, Tail, endFakes, lastNode, Grown, startAs, grownWith, grow}
+use Rattle.arcs.specs.Arcs.{arcsRead, SameArcs}
+use Rattle.arcs.specs.Shape.{Shape}
+use Rattle.arcs.specs.Noted.{Heard}
+use Rattle.arcs.specs.Read.{Read}
+use Rattle.arcs.proofs.Answers.{Holds, holds-then, holds-given, All, all-so, clash}
+use Rattle.arcs.proofs.Labels.{baseRole}
+use Rattle.arcs.proofs.Faring.{Notes, Driven}
+use Rattle.arcs.proofs.Driving.{drives}
+use Rattle.arcs.proofs.Origins.{Ready, origins-ready}
+use Rattle.arcs.proofs.Ends.{Ending, Ended, ends-keep}
+use Rattle.arcs.proofs.Wholes.{Whole, Finished, last-keeps}
+use Rattle.arcs.proofs.Sheets.{whole-shape}
+use Rattle.arcs.proofs.Readings.{read-same, length-bases}
+
+-- what growth gives
+pub record GrownWell (b : List ℕ) (g : Grown) : Type 0 where
+  pub shape : Shape (at (g .table)) (g .nodes)
+  pub arcs : SameArcs (g .noted) (arcsRead (at (g .table)) (g .nodes))
+  pub counted : length (g .noted) ≡ g .added + g .joined + g .finished
+  pub balanced : 1 + g .splits ≡ g .joined + g .finished
+  pub heard : All (Heard b (at (g .table))) (g .noted)
+
+-- the ends begin where the driver stops
+driven-ending : {b : List ℕ} {places : ℕ} (net : Net) → Driven b places net [] → Ending b places (net .noted) (1 + net .added + net .splits) (net .ends) 0 (record { table = net .table; nodes = net .nodes })
+driven-ending net d = record {
+  labels = d .labels;
+  room = d .grows .body .room;
+  graph = d .grows .body .graph;
+  ended = d .grows .body .ended;
+  distinct = d .grows .distinct;
+  closed = λ i h p z. go i h p z (memberOf (net .ends) i) refl;
+  notes = d .notes;
+  before = λ q. absurd (omega arith);
+}
+  where
+    go : (i : ℕ) → i < net .nodes → baseRole (d .labels .role i) ≡ true → at (net .table) i .«idx_next» ≡ 0 → (c : Bool) → memberOf (net .ends) i ≡ c → c ≡ true
+    go i h p z true e = refl
+    go i h p z false e = absurd (d .waits .owned i h p z e)
+
+finished-well : {b : List ℕ} {places : ℕ} (net : Net) → Driven b places net [] → (t : Tail) → Finished b (net .noted) (1 + net .added + net .splits) t → GrownWell b (grownWith net t)
+unfolding grownWith
+finished-well {b} net d t f =
+    let c = d .grows .count in
+    let l = length-bases (f .whole) in
+    record {
+      shape = subst (Shape (at (t .table))) (sym (f .nodes)) (whole-shape (f .whole));
+      arcs = subst (λ (n : ℕ). SameArcs (net .noted) (arcsRead (at (t .table)) n)) (sym (f .nodes)) (read-same (f .whole));
+      counted = c;
+      balanced = omega arith;
+      heard = all-so (Notes b (at (t .table)) (t .nodes)) (Heard b (at (t .table))) (λ x h. h .1 .1) (net .noted) (f .notes);
+    }
+
+pub growth-well : (b : List ℕ) (places : ℕ) (t : Table) → Read b → Room (t .floats) (t .numbers) places → Holds (GrownWell b) (grow b places t)
+unfolding grow
+growth-well b places t r room =
+    holds-then (λ (s : Growth). (s ≡ record { net = firstNodes b t; saved = [] }) × (1 < places)) (GrownWell b) (startAs (ltb 1 places) (firstNodes b t))
+    (λ (s : Growth). andThen (originsOf b places (keptOrigins b) s)
+    (λ (g : Growth). andThen (drive (legs b) b places (g .net) (g .saved))
+    (λ (net : Net). andThen (endFakes places (net .ends) 0 (record { table = net .table; nodes = net .nodes })) (λ (u : Tail). andThen (lastNode places u) (λ (v : Tail). given (grownWith net v))))))
+    (start (ltb 1 places) refl)
+    (λ s h. holds-then (Ready b places) (GrownWell b) (originsOf b places (keptOrigins b) s)
+    (λ (g : Growth). andThen (drive (legs b) b places (g .net) (g .saved))
+    (λ (net : Net). andThen (endFakes places (net .ends) 0 (record { table = net .table; nodes = net .nodes })) (λ (u : Tail). andThen (lastNode places u) (λ (v : Tail). given (grownWith net v)))))
+    (subst (λ (q : Growth). Holds (Ready b places) (originsOf b places (keptOrigins b) q)) (sym (h .0)) (origins-ready r places t room (h .1)))
+    (λ g d. holds-then (λ (net : Net). Driven b places net []) (GrownWell b) (drive (legs b) b places (g .net) (g .saved))
+    (λ (net : Net). andThen (endFakes places (net .ends) 0 (record { table = net .table; nodes = net .nodes })) (λ (u : Tail). andThen (lastNode places u) (λ (v : Tail). given (grownWith net v))))
+    (drives r (legs b) (g .net) (g .saved) (d .driven) (d .legs-in) (d .light))
+    (λ net e. holds-then (Ended b places (net .noted) (1 + net .added + net .splits)) (GrownWell b) (endFakes places (net .ends) 0 (record { table = net .table; nodes = net .nodes }))
+    (λ (u : Tail). andThen (lastNode places u) (λ (v : Tail). given (grownWith net v)))
+    (ends-keep (net .ends) 0 (record { table = net .table; nodes = net .nodes }) (driven-ending net e))
+    (λ u f. holds-then (Finished b (net .noted) (1 + net .added + net .splits)) (GrownWell b) (lastNode places u) (λ (v : Tail). given (grownWith net v)) (last-keeps (f .alt) u (f .ending)) (λ v w. finished-well net e v w)))))
+  where
+    start : (c : Bool) → ltb 1 places ≡ c → Holds (λ (s : Growth). (s ≡ record { net = firstNodes b t; saved = [] }) × (1 < places)) (startAs c (firstNodes b t))
+    start true e = (refl, ltb-true 1 places e)
+    start false e = tt
+
+-- ---- of a growth that is given
+
+module _ (b : List ℕ) (places : ℕ) (t : Table) (g : Grown) (read : Read b) (room : Room (t .floats) (t .numbers) places) (grown : grow b places t ≡ given g) where
+  well : GrownWell b g
+  well = holds-given (GrownWell b) (grow b places t) g (growth-well b places t read room) grown
+
+  pub grown-shape : Shape (at (g .table)) (g .nodes)
+  grown-shape = well .shape
+
+  -- the arcs read off before the passes are the noted list, as often each, with every bit of time and distance
+  pub grown-arcs : SameArcs (g .noted) (arcsRead (at (g .table)) (g .nodes))
+  grown-arcs = well .arcs
+
+  pub grown-counted : length (g .noted) ≡ g .added + g .joined + g .finished
+  grown-counted = well .counted
+
+  pub grown-balanced : 1 + g .splits ≡ g .joined + g .finished
+  grown-balanced = well .balanced
+
+  -- an arc leads out with zeros, from the start to an origin's Arrive, or between two neighbouring events of a run, with the run's own differences
+  pub grown-heard : All (Heard b (at (g .table))) (g .noted)
+  grown-heard = well .heard

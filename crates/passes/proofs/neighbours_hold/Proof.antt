@@ -1,0 +1,19 @@
+-- `passes::neighbours_hold` meets its contract.
+use borrow.Author.Needs.{needs}
+use Rattle.passes.proofs.Held.{near-holds}
+use Rattle.passes.proofs.neighbours_hold.Statement.{statement}
+use Rattle.passes.proofs.neighbours_hold.Tie as tie
+
+returns : tie.Need-returns
+returns c = near-holds _ _ _ _
+
+pub neighbours-hold-spec : {M : Type 1} → statement M
+neighbours-hold-spec =
+    tie.close
+    (tie.spec
+    (λ c. search needs)
+    (λ c. search needs)
+    (λ c. search needs)
+    (λ c. search needs)
+    (λ c. search needs)
+    returns)

@@ -1,0 +1,33 @@
+-- What the code of the relink walks answers, and what it asks of a network. Only contracts use these words.
+use mathlib.Core.Path.{_≡_}
+use mathlib.Core.Bool.{Bool}
+use mathlib.Core.List.{List, []}
+use Prim.Native.Nat.{ℕ, _<_}
+use Rattle.network.specs.declared.EstTime.{EstTime}
+use Rattle.insertion.specs.Insertion.{Table}
+use Rattle.passes.specs.Net.{Answer, fails, given, Pass}
+use Rattle.passes.specs.Forward as Forward
+use Rattle.passes.specs.Backward as Backward
+use Rattle.passes.specs.declared.Walked.{Walked}
+use Rattle.passes.specs.declared.Walked.the-variants.{Found, Endless}
+
+-- Row 5 leaves this: of the first n nodes each index names one of them.
+pub record Inside (node : ℕ → EstTime) (n : ℕ) : Type 0 where
+  pub next : (i : ℕ) → i < n → node i .«idx_next» < n
+  pub next-alt : (i : ℕ) → i < n → node i .«idx_next_alt» < n
+  pub prev : (i : ℕ) → i < n → node i .«idx_prev» < n
+  pub prev-alt : (i : ℕ) → i < n → node i .«idx_prev_alt» < n
+
+-- a pass's table and done nodes; the walks don't look at the queue
+abbrev pub passOf : Table → (ℕ → Bool) → Pass
+passOf t done = record { table = t; done = done; queue = [] }
+
+abbrev pub WalkAs : Answer ℕ → ℕ → Walked → Type 0
+WalkAs answer n (Found i) = (answer ≡ given i) × (i < n)
+WalkAs answer n Endless = answer ≡ fails
+
+abbrev pub ForwardWalk : Table → (ℕ → Bool) → ℕ → ℕ → Walked → Type 0
+ForwardWalk t done n i r = WalkAs (Forward.relinkWalk n (passOf t done) n i) n r
+
+abbrev pub BackwardWalk : Table → (ℕ → Bool) → ℕ → ℕ → Walked → Type 0
+BackwardWalk t done n i r = WalkAs (Backward.relinkWalk n (passOf t done) i) n r
