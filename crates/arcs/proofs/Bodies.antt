@@ -201,7 +201,7 @@ module _ {L : Labels} {places : ℕ} {t : Table} {n : ℕ} {ends : List ℕ} {ar
     room = split-room t i n p places (v .room);
     woven = subst (Woven half) (add-one n) (split-woven t i n places (v .room) (v .woven) h g p);
     graph = split-graph (v .graph) alternated (split-column (λ (x : EstTime). x .«time_to_next») refl) (split-column (λ (x : EstTime). x .«dist_to_next») refl) base empty (v .no-stops)
-    (ap (λ (x : EstTime). isFake x) fake) (new-end v n (omega arith));
+        (ap (λ (x : EstTime). isFake x) fake) (new-end v n (omega arith));
     no-stops = λ j l q. stops j q (below j n l);
     chains = λ j a l q r s. chain j a q r s (below j n l);
     ended = λ j m. ending j (v .ended j m);

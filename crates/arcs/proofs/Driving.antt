@@ -75,7 +75,7 @@ module _ {b : List ℕ} (r : Read b) where
     past = f .past;
     last = f .last;
     events = run-events-more r i (run .leg - 1) (o .within) (o .parent ∙ is) ∙ ap (λ (j : ℕ). runEventsTo b j ++ legEvents b (suc i)) (sym is)
-    ∙ ap (λ (xs : List TimedEvent). xs ++ legEvents b (suc i)) (f .events) ∙ append-assoc (f .past) (f .last ∷ []) (legEvents b (suc i));
+        ∙ ap (λ (xs : List TimedEvent). xs ++ legEvents b (suc i)) (f .events) ∙ append-assoc (f .past) (f .last ∷ []) (legEvents b (suc i));
     here = f .here;
     time = f .time;
     distance = f .distance;

@@ -80,9 +80,9 @@ module _ (b : List ℕ) (t : Table) (places : ℕ) (room : RoomIn t places) (mor
     prev = both (λ (i : ℕ). at after i .«idx_prev» < 2) (omega (arith, ap (λ (x : EstTime). x .«idx_prev») at-zero)) (omega (arith, ap (λ (x : EstTime). x .«idx_prev») at-one));
     prev-alt = both (λ (i : ℕ). at after i .«idx_prev_alt» < 2) (omega (arith, ap (λ (x : EstTime). x .«idx_prev_alt») at-zero)) (omega (arith, ap (λ (x : EstTime). x .«idx_prev_alt») at-one));
     next-alt-rises = both (λ (i : ℕ). 0 < at after i .«idx_next_alt» → i < at after i .«idx_next_alt»)
-    (λ h. absurd (omega (arith, ap (λ (x : EstTime). x .«idx_next_alt») at-zero))) (λ h. absurd (omega (arith, ap (λ (x : EstTime). x .«idx_next_alt») at-one)));
+        (λ h. absurd (omega (arith, ap (λ (x : EstTime). x .«idx_next_alt») at-zero))) (λ h. absurd (omega (arith, ap (λ (x : EstTime). x .«idx_next_alt») at-one)));
     prev-alt-rises = both (λ (i : ℕ). 0 < at after i .«idx_prev_alt» → i < at after i .«idx_prev_alt»)
-    (λ h. absurd (omega (arith, ap (λ (x : EstTime). x .«idx_prev_alt») at-zero))) (λ h. absurd (omega (arith, ap (λ (x : EstTime). x .«idx_prev_alt») at-one)));
+        (λ h. absurd (omega (arith, ap (λ (x : EstTime). x .«idx_prev_alt») at-zero))) (λ h. absurd (omega (arith, ap (λ (x : EstTime). x .«idx_prev_alt») at-one)));
   }
 
   no-alt-zero : (a : ℕ) → at after 0 .«idx_next_alt» ≡ a → 0 < a → ⊥
@@ -114,32 +114,32 @@ module _ (b : List ℕ) (t : Table) (places : ℕ) (room : RoomIn t places) (mor
     start-prev = ap (λ (x : EstTime). x .«idx_prev») at-one;
     later = λ i p h. absurd (omega arith);
     each = both (Each firstLabels (at after) 2)
-    (record {
-      kind = ap (λ (x : EstTime). isFake x) at-zero;
-      alt = λ a e h. absurd (no-alt-zero a e h);
-      splits = λ p e q. apart isNought {m = nought} refl q refl refl;
-      own = λ q. refl;
-      owned = λ q. omega arith;
-      next = λ r e h q. clash q refl;
-      prev = λ c e q. clash q refl;
-      events = λ q. apart isNought {m = nought} refl q refl refl;
-      joins = λ r e q. apart isNought {m = nought} refl q refl refl;
-      stops = λ q. apart isNought {m = nought} refl q refl refl;
-      prev-alt = λ a e h. absurd (unchained-zero a e h);
-    })
-    (record {
-      kind = ap (λ (x : EstTime). isFake x) at-one;
-      alt = λ a e h. absurd (no-alt-one a e h);
-      splits = λ p e q. apart isStart {m = start} refl q refl refl;
-      own = λ q. refl;
-      owned = λ q. omega arith;
-      next = λ r e h q. absurd (closed r e h);
-      prev = λ c e q. clash q refl;
-      events = λ q. apart isStart {m = start} refl q refl refl;
-      joins = λ r e q. apart isStart {m = start} refl q refl refl;
-      stops = λ q. apart isStart {m = start} refl q refl refl;
-      prev-alt = λ a e h. absurd (unchained-one a e h);
-    });
+        (record {
+          kind = ap (λ (x : EstTime). isFake x) at-zero;
+          alt = λ a e h. absurd (no-alt-zero a e h);
+          splits = λ p e q. apart isNought {m = nought} refl q refl refl;
+          own = λ q. refl;
+          owned = λ q. omega arith;
+          next = λ r e h q. clash q refl;
+          prev = λ c e q. clash q refl;
+          events = λ q. apart isNought {m = nought} refl q refl refl;
+          joins = λ r e q. apart isNought {m = nought} refl q refl refl;
+          stops = λ q. apart isNought {m = nought} refl q refl refl;
+          prev-alt = λ a e h. absurd (unchained-zero a e h);
+        })
+        (record {
+          kind = ap (λ (x : EstTime). isFake x) at-one;
+          alt = λ a e h. absurd (no-alt-one a e h);
+          splits = λ p e q. apart isStart {m = start} refl q refl refl;
+          own = λ q. refl;
+          owned = λ q. omega arith;
+          next = λ r e h q. absurd (closed r e h);
+          prev = λ c e q. clash q refl;
+          events = λ q. apart isStart {m = start} refl q refl refl;
+          joins = λ r e q. apart isStart {m = start} refl q refl refl;
+          stops = λ q. apart isStart {m = start} refl q refl refl;
+          prev-alt = λ a e h. absurd (unchained-one a e h);
+        });
   }
     where
       closed : (r : ℕ) → at after 1 .«idx_next» ≡ r → 0 < r → ⊥

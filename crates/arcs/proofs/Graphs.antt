@@ -117,5 +117,5 @@ split-graph {L} {node} {after} {n} {p} {ends} {noted} {k} g a t u base empty s k
       laid = split-laid (g .laid) a base empty s kind;
       bases = more-bases L n split (L .owner p) 0 0 k (g .bases);
       noted = λ w. g .noted w ∙ sym (sum-alternated node after x ends ends w (λ i h. weigh-same node after x ends ends w i h (a .next i h) (t i h) (u i h) (next-within (g .laid) i h) refl)
-      (weigh-empty M after ends w n (ap baseRole (new-role L n split (L .owner p) 0 0)) (a .new-next) new));
+          (weigh-empty M after ends w n (ap baseRole (new-role L n split (L .owner p) 0 0)) (a .new-next) new));
     }

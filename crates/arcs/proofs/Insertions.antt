@@ -169,14 +169,14 @@ module _ {L : Labels} {places : ℕ} {net : Net} {run : Run} {saved : List Run} 
     later = later;
     grows = record {
       body = subst (Body M places (addBehind t i n e) (suc n) (net .ends) (arcTo (run .place) n e ∷ net .noted)) (omega arith)
-      (event-body (g .body) i h room e (r .base) z o real (arcTo (run .place) n e) (sym (r .owner ∙ p-own)) refl (ap (sub binary64 (e .time)) (sym (held .0))) (ap (sub binary64 (e .offset)) (sym (held .1))));
+          (event-body (g .body) i h room e (r .base) z o real (arcTo (run .place) n e) (sym (r .owner ∙ p-own)) refl (ap (sub binary64 (e .time)) (sym (held .0))) (ap (sub binary64 (e .offset)) (sym (held .1))));
       within = omega arith;
       count = let c = g .count in omega arith;
       distinct = g .distinct;
     };
     waits = waits-added run saved u more later next which
-    (record { within = omega arith; self = ap itself m; holds = λ a b. add-held (g .body) i h room e; listed = listed-more n (suc n) (omega arith) (run .joins) (s .listed) })
-    (record { last = refl; empty = add-empty (g .body) i h room e; no-end = new-end (g .body) n (omega arith) });
+        (record { within = omega arith; self = ap itself m; holds = λ a b. add-held (g .body) i h room e; listed = listed-more n (suc n) (omega arith) (run .joins) (s .listed) })
+        (record { last = refl; empty = add-empty (g .body) i h room e; no-end = new-end (g .body) n (omega arith) });
     closes = subst (λ (k : ℕ). 0 < k) (sym (ap (λ (k : ℕ). at (addBehind t i n e) k .«idx_next») (sym is-place) ∙ a .here)) (omega (arith, v .two));
     happens = a .happens;
     here = add-event (g .body) i h room e;
@@ -251,15 +251,15 @@ module _ {L : Labels} {places : ℕ} {net : Net} {run : Run} {saved : List Run} 
     later = later;
     grows = record {
       body = subst (Body M places (addBehind half n (suc n) e) (suc (suc n)) (net .ends) (arcTo (run .place) (suc n) e ∷ net .noted)) (omega arith)
-      (event-body mid n n-in room′ e (ap baseRole o) (split-empty (g .body) i h here (run .place)) (new-end (g .body) n (omega arith)) real (arcTo (run .place) (suc n) e)
-      (sym n-owner) refl (ap (sub binary64 (e .time)) (sym (held .0))) (ap (sub binary64 (e .offset)) (sym (held .1))));
+          (event-body mid n n-in room′ e (ap baseRole o) (split-empty (g .body) i h here (run .place)) (new-end (g .body) n (omega arith)) real (arcTo (run .place) (suc n) e)
+          (sym n-owner) refl (ap (sub binary64 (e .time)) (sym (held .0))) (ap (sub binary64 (e .offset)) (sym (held .1))));
       within = omega arith;
       count = let c = g .count in omega arith;
       distinct = g .distinct;
     };
     waits = waits-added run saved u more later next which
-    (record { within = omega arith; self = ap itself m; holds = λ c b. add-held mid n n-in room′ e; listed = listed-more n (suc (suc n)) (omega arith) (run .joins) (s .listed) })
-    (record { last = refl; empty = add-empty mid n n-in room′ e; no-end = new-end (g .body) (suc n) (omega arith) });
+        (record { within = omega arith; self = ap itself m; holds = λ c b. add-held mid n n-in room′ e; listed = listed-more n (suc (suc n)) (omega arith) (run .joins) (s .listed) })
+        (record { last = refl; empty = add-empty mid n n-in room′ e; no-end = new-end (g .body) (suc n) (omega arith) });
     closes = subst (λ (k : ℕ). 0 < k) (sym (old p (s .within))) first;
     happens = λ j l. a .happens j (omega arith) ∙ split-column (g .body) i h here (run .place) (λ (y : EstTime). y .«link_event») same-link j l;
     here = add-event mid n n-in room′ e;

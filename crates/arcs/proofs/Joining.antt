@@ -329,7 +329,7 @@ module _ {L : Labels} {places : ℕ} {net : Net} {run : Run} {saved : List Run} 
         room = three-room t n places c e (g .body .room) some-nodes room (chain .within);
         woven = join-woven t n places c e (g .body .room) some-nodes room (chain .within) (g .body .woven);
         graph = subst (Graph M (at after) (suc n) (net .ends) (arcTo (run .place) target e ∷ net .noted)) (omega arith)
-        (join-graph (g .body .graph) attached timed last-base last-empty (λ a q r. absurd (unchained a q r)) (g .body .no-stops) last-out c (chain .within) (chain .lands) (fresh .0) (fresh .1 .0) (arcTo (run .place) target e) arc-is);
+            (join-graph (g .body .graph) attached timed last-base last-empty (λ a q r. absurd (unchained a q r)) (g .body .no-stops) last-out c (chain .within) (chain .lands) (fresh .0) (fresh .1 .0) (arcTo (run .place) target e) arc-is);
         no-stops = λ j l q. stops j q (below j n l);
         chains = λ j a l q r y. chains j a q r y (below j n l);
         ended = λ j o. ending j o (g .body .ended j o);

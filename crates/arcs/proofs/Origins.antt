@@ -223,8 +223,11 @@ module _ {b : List ℕ} (r : Read b) (places : ℕ) (row : ℕ) (kept : memberOf
           labels = j .labels;
           grows = j .grows;
           waits = origin-waits (suc k);
-          fares = (origin-fares, waiting-more b (at (a .net .table)) (at (c .net .table)) (j .later .labels) (j .later .nodes) (j .happens) saved
-          (waiting-more b (at (net .table)) (at (a .net .table)) (i .later .labels) (i .later .nodes) (i .happens) saved (d .fares)));
+          fares = (
+            origin-fares,
+            waiting-more b (at (a .net .table)) (at (c .net .table)) (j .later .labels) (j .later .nodes) (j .happens) saved
+                (waiting-more b (at (net .table)) (at (a .net .table)) (i .later .labels) (i .later .nodes) (i .happens) saved (d .fares)),
+          );
           notes = clear-notes;
           numbers = ((j .time, j .distance), d .numbers);
           legs-in = ((omega arith, omega (arith, o .within)), d .legs-in);
@@ -275,9 +278,10 @@ KeptAll b rows = All (λ (row : ℕ). memberOf (keptOrigins b) row ≡ true) row
 
 member-all : (xs : List ℕ) → All (λ (x : ℕ). memberOf xs x ≡ true) xs
 member-all [] = tt
-member-all (x ∷ xs) =
-    (ap (λ (t : Bool). t || memberOf xs x) (eq-eqb x x refl),
-    all-so (λ (y : ℕ). memberOf xs y ≡ true) (λ (y : ℕ). memberOf (x ∷ xs) y ≡ true) (λ y e. or-right (eqb x y) (memberOf xs y) e) xs (member-all xs))
+member-all (x ∷ xs) = (
+  ap (λ (t : Bool). t || memberOf xs x) (eq-eqb x x refl),
+  all-so (λ (y : ℕ). memberOf xs y ≡ true) (λ (y : ℕ). memberOf (x ∷ xs) y ≡ true) (λ y e. or-right (eqb x y) (memberOf xs y) e) xs (member-all xs),
+)
 
 origins-rest : {b : List ℕ} → Read b → (places : ℕ) (rows : List ℕ) (g : Growth) → RootedWith b places rows g → Apart b rows → KeptAll b rows → Holds (RootedWith b places []) (originsOf b places rows g)
 unfolding originsOf

@@ -60,14 +60,17 @@ Came b places leg saved es (On a) = Running b places (a .net) (a .run) saved es 
 module _ {b : List ℕ} {places : ℕ} {net : Net} {run : Run} {saved : List Run} {e : TimedEvent} {es : List TimedEvent} (d : Running b places net run saved (e ∷ es)) (real : Real e) (limit : Float) where
   inserts-on : (a : After) → Inserts (d .labels) places net run saved e a → Came b places (run .leg) saved es (On a)
   unfolding arcTo
-  inserts-on a i = (record {
-    labels = i .labels;
-    grows = i .grows;
-    waits = i .waits;
-    fares = fares-on (d .fares) (i .waits .stand .0 .within) (subst (λ (k : ℕ). 2 ≤ k) (sym (i .deeper)) deeper) (i .leg) (i .here) (i .time) (i .distance);
-    others = waiting-more b (at (net .table)) (at (a .net .table)) (i .later .labels) (i .later .nodes) (i .happens) saved (d .others);
-    notes = noted (i .noted);
-  }, i .leg)
+  inserts-on a i = (
+    record {
+      labels = i .labels;
+      grows = i .grows;
+      waits = i .waits;
+      fares = fares-on (d .fares) (i .waits .stand .0 .within) (subst (λ (k : ℕ). 2 ≤ k) (sym (i .deeper)) deeper) (i .leg) (i .here) (i .time) (i .distance);
+      others = waiting-more b (at (net .table)) (at (a .net .table)) (i .later .labels) (i .later .nodes) (i .happens) saved (d .others);
+      notes = noted (i .noted);
+    },
+    i .leg,
+  )
     where
       deeper : 2 ≤ suc (d .labels .depth (run .place .«idx_prev»))
       deeper = let k = d .fares .deep in omega arith
@@ -98,8 +101,10 @@ module _ {b : List ℕ} {places : ℕ} {net : Net} {run : Run} {saved : List Run
         grows = j .grows;
         waits = j .waits;
         fares = waiting-more b (at (net .table)) (at (joinedTo net run e target .table)) (j .later .labels) n f saved (d .others);
-        notes = ((omega (arith, d .fares .within, n), (omega (arith, h, n), inr (inr (follows-next (at (net .table)) (at (joinedTo net run e target .table)) (d .fares) f target (f target h ∙ q))))),
-        notes-more b (at (net .table)) (at (joinedTo net run e target .table)) (j .later .labels) n f (net .noted) (d .notes));
+        notes = (
+          (omega (arith, d .fares .within, n), (omega (arith, h, n), inr (inr (follows-next (at (net .table)) (at (joinedTo net run e target .table)) (d .fares) f target (f target h ∙ q))))),
+          notes-more b (at (net .table)) (at (joinedTo net run e target .table)) (j .later .labels) n f (net .noted) (d .notes),
+        );
       }
 
 -- another list of join entries

@@ -331,7 +331,7 @@ module _ {L : Labels} {node : ℕ → EstTime} {n : ℕ} {arcs : List Arc} {k : 
     prev-alt = λ i h p. let a = prev-alt-of i (below i n h) p in receiver-is (node i .«idx_prev_alt») (a .0) (a .1);
     base-next = λ i h e. let a = base-role i h e in let o = v .laid .each i (a .0) .next (node i .«idx_next») refl (v .closed i (a .0) (a .1)) (a .1) in (receiver-is (node i .«idx_next») (o .inside) (o .receiver), o .back);
     receiver-prev = λ r e. let a = receiver-role r e in let o = v .laid .each r (a .1 .0) .prev (node r .«idx_prev») refl (a .1 .1) in
-    (base-is (node r .«idx_prev») (o .inside) ∙ o .base, (omega (arith, o .inside), o .forth));
+        (base-is (node r .«idx_prev») (o .inside) ∙ o .base, (omega (arith, o .inside), o .forth));
     fake-next = λ r e f. fakes r (receiver-role r e .1 .0) (receiver-role r e .1 .1) f;
     settled = λ r m e l. let a = receiver-role r e in goal-is m r (a .1 .0) l (a .1 .1) ∙ sym (goal-is all r (a .1 .0) (omega arith) (a .1 .1));
   }

@@ -25,12 +25,15 @@ use Rattle.arcs.proofs.Faring.{Notes, Driven}
 use Rattle.arcs.proofs.Driving.{drives}
 use Rattle.arcs.proofs.Origins.{Ready, origins-ready}
 use Rattle.arcs.proofs.Ends.{Ending, Ended, ends-keep}
+use Rattle.insertion.proofs.Puts.{RoomIn}
 use Rattle.arcs.proofs.Wholes.{Whole, Finished, last-keeps}
 use Rattle.arcs.proofs.Sheets.{whole-shape}
 use Rattle.arcs.proofs.Readings.{read-same, length-bases}
 
 -- what growth gives
-pub record GrownWell (b : List ℕ) (g : Grown) : Type 0 where
+pub record GrownWell (b : List ℕ) (places : ℕ) (g : Grown) : Type 0 where
+  pub room : RoomIn (g .table) places
+  pub inside : g .nodes ≤ places
   pub shape : Shape (at (g .table)) (g .nodes)
   pub arcs : SameArcs (g .noted) (arcsRead (at (g .table)) (g .nodes))
   pub counted : length (g .noted) ≡ g .added + g .joined + g .finished
@@ -54,12 +57,14 @@ driven-ending net d = record {
     go i h p z true e = refl
     go i h p z false e = absurd (d .waits .owned i h p z e)
 
-finished-well : {b : List ℕ} {places : ℕ} (net : Net) → Driven b places net [] → (t : Tail) → Finished b (net .noted) (1 + net .added + net .splits) t → GrownWell b (grownWith net t)
+finished-well : {b : List ℕ} {places : ℕ} (net : Net) → Driven b places net [] → (t : Tail) → Finished b places (net .noted) (1 + net .added + net .splits) t → GrownWell b places (grownWith net t)
 unfolding grownWith
-finished-well {b} net d t f =
+finished-well {b} {places} net d t f =
     let c = d .grows .count in
     let l = length-bases (f .whole) in
     record {
+      room = f .room;
+      inside = f .inside;
       shape = subst (Shape (at (t .table))) (sym (f .nodes)) (whole-shape (f .whole));
       arcs = subst (λ (n : ℕ). SameArcs (net .noted) (arcsRead (at (t .table)) n)) (sym (f .nodes)) (read-same (f .whole));
       counted = c;
@@ -67,25 +72,25 @@ finished-well {b} net d t f =
       heard = all-so (Notes b (at (t .table)) (t .nodes)) (Heard b (at (t .table))) (λ x h. h .1 .1) (net .noted) (f .notes);
     }
 
-pub growth-well : (b : List ℕ) (places : ℕ) (t : Table) → Read b → Room (t .floats) (t .numbers) places → Holds (GrownWell b) (grow b places t)
+pub growth-well : (b : List ℕ) (places : ℕ) (t : Table) → Read b → Room (t .floats) (t .numbers) places → Holds (GrownWell b places) (grow b places t)
 unfolding grow
 growth-well b places t r room =
-    holds-then (λ (s : Growth). (s ≡ record { net = firstNodes b t; saved = [] }) × (1 < places)) (GrownWell b) (startAs (ltb 1 places) (firstNodes b t))
+    holds-then (λ (s : Growth). (s ≡ record { net = firstNodes b t; saved = [] }) × (1 < places)) (GrownWell b places) (startAs (ltb 1 places) (firstNodes b t))
     (λ (s : Growth). andThen (originsOf b places (keptOrigins b) s)
     (λ (g : Growth). andThen (drive (legs b) b places (g .net) (g .saved))
     (λ (net : Net). andThen (endFakes places (net .ends) 0 (record { table = net .table; nodes = net .nodes })) (λ (u : Tail). andThen (lastNode places u) (λ (v : Tail). given (grownWith net v))))))
     (start (ltb 1 places) refl)
-    (λ s h. holds-then (Ready b places) (GrownWell b) (originsOf b places (keptOrigins b) s)
+    (λ s h. holds-then (Ready b places) (GrownWell b places) (originsOf b places (keptOrigins b) s)
     (λ (g : Growth). andThen (drive (legs b) b places (g .net) (g .saved))
     (λ (net : Net). andThen (endFakes places (net .ends) 0 (record { table = net .table; nodes = net .nodes })) (λ (u : Tail). andThen (lastNode places u) (λ (v : Tail). given (grownWith net v)))))
     (subst (λ (q : Growth). Holds (Ready b places) (originsOf b places (keptOrigins b) q)) (sym (h .0)) (origins-ready r places t room (h .1)))
-    (λ g d. holds-then (λ (net : Net). Driven b places net []) (GrownWell b) (drive (legs b) b places (g .net) (g .saved))
+    (λ g d. holds-then (λ (net : Net). Driven b places net []) (GrownWell b places) (drive (legs b) b places (g .net) (g .saved))
     (λ (net : Net). andThen (endFakes places (net .ends) 0 (record { table = net .table; nodes = net .nodes })) (λ (u : Tail). andThen (lastNode places u) (λ (v : Tail). given (grownWith net v))))
     (drives r (legs b) (g .net) (g .saved) (d .driven) (d .legs-in) (d .light))
-    (λ net e. holds-then (Ended b places (net .noted) (1 + net .added + net .splits)) (GrownWell b) (endFakes places (net .ends) 0 (record { table = net .table; nodes = net .nodes }))
+    (λ net e. holds-then (Ended b places (net .noted) (1 + net .added + net .splits)) (GrownWell b places) (endFakes places (net .ends) 0 (record { table = net .table; nodes = net .nodes }))
     (λ (u : Tail). andThen (lastNode places u) (λ (v : Tail). given (grownWith net v)))
     (ends-keep (net .ends) 0 (record { table = net .table; nodes = net .nodes }) (driven-ending net e))
-    (λ u f. holds-then (Finished b (net .noted) (1 + net .added + net .splits)) (GrownWell b) (lastNode places u) (λ (v : Tail). given (grownWith net v)) (last-keeps (f .alt) u (f .ending)) (λ v w. finished-well net e v w)))))
+    (λ u f. holds-then (Finished b places (net .noted) (1 + net .added + net .splits)) (GrownWell b places) (lastNode places u) (λ (v : Tail). given (grownWith net v)) (last-keeps (f .alt) u (f .ending)) (λ v w. finished-well net e v w)))))
   where
     start : (c : Bool) → ltb 1 places ≡ c → Holds (λ (s : Growth). (s ≡ record { net = firstNodes b t; saved = [] }) × (1 < places)) (startAs c (firstNodes b t))
     start true e = (refl, ltb-true 1 places e)
@@ -94,8 +99,8 @@ growth-well b places t r room =
 -- ---- of a growth that is given
 
 module _ (b : List ℕ) (places : ℕ) (t : Table) (g : Grown) (read : Read b) (room : Room (t .floats) (t .numbers) places) (grown : grow b places t ≡ given g) where
-  well : GrownWell b g
-  well = holds-given (GrownWell b) (grow b places t) g (growth-well b places t read room) grown
+  pub well : GrownWell b places g
+  well = holds-given (GrownWell b places) (grow b places t) g (growth-well b places t read room) grown
 
   pub grown-shape : Shape (at (g .table)) (g .nodes)
   grown-shape = well .shape

@@ -43,15 +43,15 @@ laid-same {L} {node} {after} {n} v f = record {
         record {
           kind = ap (λ (x : EstTime). isFake x) (f i h) ∙ o .kind;
           alt = λ a e p. let q = o .alt a (sym (ap (λ (x : EstTime). x .«idx_next_alt») (f i h)) ∙ e) p in
-          record { rises = q .rises; inside = q .inside; base = q .base; fake = q .fake; back = ap (λ (x : EstTime). x .«idx_prev») (f a (q .inside)) ∙ q .back };
+              record { rises = q .rises; inside = q .inside; base = q .base; fake = q .fake; back = ap (λ (x : EstTime). x .«idx_prev») (f a (q .inside)) ∙ q .back };
           splits = λ p e m. let q = o .splits p (sym (ap (λ (x : EstTime). x .«idx_prev») (f i h)) ∙ e) m in
-          record { earlier = q .earlier; alt = ap (λ (x : EstTime). x .«idx_next_alt») (f p (omega (arith, q .earlier))) ∙ q .alt; base = q .base; owner = q .owner };
+              record { earlier = q .earlier; alt = ap (λ (x : EstTime). x .«idx_next_alt») (f p (omega (arith, q .earlier))) ∙ q .alt; base = q .base; owner = q .owner };
           own = o .own;
           owned = o .owned;
           next = λ r e p m. let q = o .next r (sym (ap (λ (x : EstTime). x .«idx_next») (f i h)) ∙ e) p m in
-          record { inside = q .inside; receiver = q .receiver; back = ap (λ (x : EstTime). x .«idx_prev») (f r (q .inside)) ∙ q .back };
+              record { inside = q .inside; receiver = q .receiver; back = ap (λ (x : EstTime). x .«idx_prev») (f r (q .inside)) ∙ q .back };
           prev = λ c e m. let q = o .prev c (sym (ap (λ (x : EstTime). x .«idx_prev») (f i h)) ∙ e) m in
-          record { inside = q .inside; base = q .base; forth = ap (λ (x : EstTime). x .«idx_next») (f c (q .inside)) ∙ q .forth };
+              record { inside = q .inside; base = q .base; forth = ap (λ (x : EstTime). x .«idx_next») (f c (q .inside)) ∙ q .forth };
           events = λ m. let q = o .events m in record { goal = q .goal; depth = λ c e. q .depth c (sym (ap (λ (x : EstTime). x .«idx_prev») (f i h)) ∙ e) };
           joins = λ r e m. o .joins r (sym (ap (λ (x : EstTime). x .«idx_next») (f i h)) ∙ e) m;
           stops = λ m. let q = o .stops m in record { goal = q .goal; next = ap (λ (x : EstTime). x .«idx_next») (f i h) ∙ q .next; later = q .later };
@@ -69,14 +69,16 @@ pub record Whole (L : Labels) (node : ℕ → EstTime) (n : ℕ) (arcs : List Ar
   pub last-prev : node n .«idx_prev» ≡ n - 1
   pub last-prev-alt : node n .«idx_prev_alt» ≡ 0
 
-pub record Finished (b : List ℕ) (arcs : List Arc) (k : ℕ) (t : Tail) : Type 0 where
+pub record Finished (b : List ℕ) (places : ℕ) (arcs : List Arc) (k : ℕ) (t : Tail) : Type 0 where
+  pub room : RoomIn (t .table) places
+  pub inside : t .nodes ≤ places
   pub labels : Labels
   pub before : ℕ
   pub nodes : t .nodes ≡ suc before
   pub whole : Whole labels (at (t .table)) before arcs k
   pub notes : All (Notes b (at (t .table)) (t .nodes)) arcs
 
-pub last-keeps : {b : List ℕ} {places : ℕ} {arcs : List Arc} {k : ℕ} (alt : ℕ) (t : Tail) → Ending b places arcs k [] alt t → Holds (Finished b arcs k) (lastNode places t)
+pub last-keeps : {b : List ℕ} {places : ℕ} {arcs : List Arc} {k : ℕ} (alt : ℕ) (t : Tail) → Ending b places arcs k [] alt t → Holds (Finished b places arcs k) (lastNode places t)
 unfolding lastNode fakeNode blank noLink
 last-keeps {b} {places} {arcs} {k} alt t d = go (ltb (t .nodes) places) refl
   where
@@ -99,9 +101,11 @@ last-keeps {b} {places} {arcs} {k} alt t d = go (ltb (t .nodes) places) refl
     closed i h p (inl z) = clash (d .closed i h p (sym (ap (λ (y : EstTime). y .«idx_next») (same i h)) ∙ z)) refl
     closed i h p (inr z) = omega arith
 
-    go : (r : Bool) → ltb (t .nodes) places ≡ r → Holds (Finished b arcs k) (roomFor r (record { table = put (t .table) (t .nodes) (fakeNode 0 (t .nodes - 1) 0 (ofBits binary64 0)); nodes = suc (t .nodes) }))
+    go : (r : Bool) → ltb (t .nodes) places ≡ r → Holds (Finished b places arcs k) (roomFor r (record { table = put (t .table) (t .nodes) (fakeNode 0 (t .nodes - 1) 0 (ofBits binary64 0)); nodes = suc (t .nodes) }))
     go false e = tt
     go true e = record {
+      room = put-room (t .table) (t .nodes) last places (d .room);
+      inside = let l = ltb-true (t .nodes) places e in omega arith;
       labels = d .labels;
       before = n;
       nodes = refl;
@@ -109,7 +113,7 @@ last-keeps {b} {places} {arcs} {k} alt t d = go (ltb (t .nodes) places) refl
         laid = laid-same (d .graph .laid) same;
         bases = d .graph .bases;
         noted = λ w. d .graph .noted w ∙ sym (sum-same n (weigh (d .labels) (at (t .table)) [] w) (weigh (d .labels) (at after) [] w)
-        (λ i h. weigh-same (at (t .table)) (at after) x [] [] w i h (ap (λ (y : EstTime). y .«idx_next») (same i h)) (ap (λ (y : EstTime). y .«time_to_next») (same i h)) (ap (λ (y : EstTime). y .«dist_to_next») (same i h)) (next-within (d .graph .laid) i h) refl));
+            (λ i h. weigh-same (at (t .table)) (at after) x [] [] w i h (ap (λ (y : EstTime). y .«idx_next») (same i h)) (ap (λ (y : EstTime). y .«time_to_next») (same i h)) (ap (λ (y : EstTime). y .«dist_to_next») (same i h)) (next-within (d .graph .laid) i h) refl));
         closed = λ i h p. closed i h p (either (at after i .«idx_next») 0);
         last-kind = ap (λ (y : EstTime). isFake y) there;
         last-alt = ap (λ (y : EstTime). y .«idx_next_alt») there;

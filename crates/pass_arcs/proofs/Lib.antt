@@ -12,3 +12,4 @@ pub mod ForwardKeeps
 pub mod BackwardRelinks
 pub mod BackwardKeeps
 pub mod PassesKeep
+pub mod Sheet
