@@ -62,6 +62,19 @@ worked-grown : summary (grow worked 8 (lent 8)) ≡ 8 ∷ 4 ∷ 0 ∷ 0 ∷ 1 �
 unfolding someBelow sumBelow u32At u64At billion tableFloat abs gap smaller rootDigits wholeRoot rootOf sqrt legBelow joinBits departureBits lengthBits links originsAt origins destinationsAt destinations legsAt legs samplesAt samples endOf sectionsOf linkLength linkNext linkNextAlt linkPrev linkPrevAlt originLink originOffset originFront destinationLink legLink legParent legSamples sampleTime sampleOffset sampleSpeed firstSample linkAt originAt legAt sampleFrom sampleAt samplePatterns headPatterns member originBelow stacked pushed enter search optionsOf inSet keptOrigins eventOffset clears twiceAhead speedAt timeAt passingAt badPassing sameKind sameEvent nodeAt putFloats putNumbers noLink blank courseOf firstBeyond startBack startFront start offsetNext inRange clearsNext emits turned turn passedAs passedNext walk turnsLeft passedFrom pointsPassed reachesLast badPoint someBad row11 matches seek linkedTo eventNode splitFake alternating put at addBehind splitAt placeAt soughtIn inserted insertedTable flagged entry entryAt entriesIn push alternatives strandFrom strands extended extendedAll seenIn nodesFrom eventNodes lastOf arriveAt clearAt closer closestOf closest chainEnd joinedBy joinFake joinAt joinedTable names appendedAll appended rebuilt joinStep legsTo pathOf linkOf pointLink pointOffset legCourse eventAt eventsAt legEvents fakeNode firstNodes originEvent originRun seekLeg originsOf badFinish finishedAt waiting onOver saveOver goOn isDestination finishes takeLeg drive leadsToEnd endFakes lastNode grownWith grow arcTo arcToEnd addedTo movedTo insertEvent joinedTo listed runEvent runEvents add sub mul div lt le eq ofBits round sum toBits isNan neg
 worked-grown = refl
 
+-- its noted arcs, the latest first: from, to (0: the end), and the patterns of time and distance, which stand at the nodes of the listing
+abbrev arcs : List Arc → List ℕ
+arcs [] = []
+arcs (a ∷ rest) = a .from ∷ a .to ∷ toBits binary64 (a .time) ∷ toBits binary64 (a .distance) ∷ arcs rest
+
+abbrev notedBy : Answer Grown → List ℕ
+notedBy (refused n) = n ∷ []
+notedBy (given g) = arcs (g .noted)
+
+worked-noted : notedBy (grow worked 8 (lent 8)) ≡ 5 ∷ 0 ∷ 0 ∷ 0 ∷ 4 ∷ 5 ∷ 4613937818241073152 ∷ 4621819117588971520 ∷ 3 ∷ 4 ∷ 4611686018427387904 ∷ 4611686018427387904 ∷ 2 ∷ 3 ∷ 0 ∷ 4621819117588971520 ∷ 1 ∷ 2 ∷ 0 ∷ 0 ∷ []
+unfolding someBelow sumBelow u32At u64At billion tableFloat abs gap smaller rootDigits wholeRoot rootOf sqrt legBelow joinBits departureBits lengthBits links originsAt origins destinationsAt destinations legsAt legs samplesAt samples endOf sectionsOf linkLength linkNext linkNextAlt linkPrev linkPrevAlt originLink originOffset originFront destinationLink legLink legParent legSamples sampleTime sampleOffset sampleSpeed firstSample linkAt originAt legAt sampleFrom sampleAt samplePatterns headPatterns member originBelow stacked pushed enter search optionsOf inSet keptOrigins eventOffset clears twiceAhead speedAt timeAt passingAt badPassing sameKind sameEvent nodeAt putFloats putNumbers noLink blank courseOf firstBeyond startBack startFront start offsetNext inRange clearsNext emits turned turn passedAs passedNext walk turnsLeft passedFrom pointsPassed reachesLast badPoint someBad row11 matches seek linkedTo eventNode splitFake alternating put at addBehind splitAt placeAt soughtIn inserted insertedTable flagged entry entryAt entriesIn push alternatives strandFrom strands extended extendedAll seenIn nodesFrom eventNodes lastOf arriveAt clearAt closer closestOf closest chainEnd joinedBy joinFake joinAt joinedTable names appendedAll appended rebuilt joinStep legsTo pathOf linkOf pointLink pointOffset legCourse eventAt eventsAt legEvents fakeNode firstNodes originEvent originRun seekLeg originsOf badFinish finishedAt waiting onOver saveOver goOn isDestination finishes takeLeg drive leadsToEnd endFakes lastNode grownWith grow arcTo arcToEnd addedTo movedTo insertEvent joinedTo listed runEvent runEvents add sub mul div lt le eq ofBits round sum toBits isNan neg
+worked-noted = refl
+
 -- row 9's example, a lone link as origin and destination: a run never finishes in its first leg
 abbrev lone : List ℕ
 lone =
