@@ -26,3 +26,7 @@ pub mod Sheets
 pub mod Readings
 pub mod Theorems
 pub mod Agreeing
+pub mod Alike
+pub mod AlikeRuns
+pub mod AlikeDrives
+pub mod OneGrowth

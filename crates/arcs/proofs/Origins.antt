@@ -41,13 +41,13 @@ use Rattle.arcs.proofs.Driving.{withLeg, LegIn}
 use Rattle.arcs.proofs.Loads.{legCount, load, Kids, firsts-load}
 
 -- where a train that waits at its origin ends
-abbrev trainEnd : List ℕ → Float
+abbrev pub trainEnd : List ℕ → Float
 trainEnd b = add binary64 (ofBits binary64 0) (floatOf (lengthBits b))
 
-abbrev arrive : List ℕ → ℕ → TimedEvent
+abbrev pub arrive : List ℕ → ℕ → TimedEvent
 arrive b link = originEvent b link Arrive (ofBits binary64 0)
 
-abbrev clear : List ℕ → ℕ → TimedEvent
+abbrev pub clear : List ℕ → ℕ → TimedEvent
 clear b link = originEvent b link Clear (trainEnd b)
 
 -- the runs saved so far stand at origins' Clears, and are to take starting legs, no leg twice
@@ -93,6 +93,10 @@ module _ {b : List ℕ} (r : Read b) (places : ℕ) (row : ℕ) (kept : memberOf
       go : (y : ℕ) → d .labels .role y ≡ event → d .labels .depth y ≡ suc (d .labels .depth 1) → Owned (d .labels) y (originRun b ∷ saved) → ⊥
       go y m k (inl e) = apart fakeRole (ap (d .labels .role) e ∙ d .grows .body .graph .laid .first) m refl refl
       go y m k (inr e) = let w = d .grows .body .bottom in let c = e .0 in omega arith
+
+  pub arrive-keeps : Holds (Inserts (d .labels) places net (originRun b) saved (arrive b link)) (insertEvent places (joinGap b) net (originRun b) (arrive b link))
+  unfolding originRun originEvent
+  arrive-keeps = insert-keeps (d .grows) (d .waits) (joinGap b) (arrive b link) refl safe-arrive
 
   module _ (a : After) (i : Inserts (d .labels) places net (originRun b) saved (arrive b link) a) where
     deep-one : i .labels .depth (a .run .place .«idx_prev») ≡ 1
@@ -254,7 +258,7 @@ module _ {b : List ℕ} (r : Read b) (places : ℕ) (row : ℕ) (kept : memberOf
   origin-keeps =
       holds-then (Inserts (d .labels) places net (originRun b) saved (arrive b link)) (RootedWith b places rows) (insertEvent places (joinGap b) net (originRun b) (arrive b link))
       (λ (a : After). andThen (insertEvent places (joinGap b) (a .net) (a .run) (clear b link)) (λ (c : After). andThen (seekLeg b (c .run) 0 link) (λ (run : Run). given (saves g (c .net) run))))
-      (insert-keeps (d .grows) (d .waits) (joinGap b) (arrive b link) refl safe-arrive)
+      arrive-keeps
       (λ a i. holds-then (Inserts (i .labels) places (a .net) (a .run) saved (clear b link)) (RootedWith b places rows) (insertEvent places (joinGap b) (a .net) (a .run) (clear b link))
       (λ (c : After). andThen (seekLeg b (c .run) 0 link) (λ (run : Run). given (saves g (c .net) run)))
       (insert-keeps (i .grows) (i .waits) (joinGap b) (clear b link) refl (safe-clear a i))
@@ -276,7 +280,7 @@ module _ {b : List ℕ} (r : Read b) (places : ℕ) (row : ℕ) (kept : memberOf
 abbrev pub KeptAll : List ℕ → List ℕ → Type 0
 KeptAll b rows = All (λ (row : ℕ). memberOf (keptOrigins b) row ≡ true) rows
 
-member-all : (xs : List ℕ) → All (λ (x : ℕ). memberOf xs x ≡ true) xs
+pub member-all : (xs : List ℕ) → All (λ (x : ℕ). memberOf xs x ≡ true) xs
 member-all [] = tt
 member-all (x ∷ xs) = (
   ap (λ (t : Bool). t || memberOf xs x) (eq-eqb x x refl),
@@ -324,25 +328,25 @@ rooted-ready {b} r places g d =
       light = firsts-load r (legCount (g .saved)) (o .firsts);
     }
 
-pub origins-ready : {b : List ℕ} → Read b → (places : ℕ) (t : Table) → RoomIn t places → 1 < places → Holds (Ready b places) (originsOf b places (keptOrigins b) (record { net = firstNodes b t; saved = [] }))
+pub first-rooted : (b : List ℕ) (places : ℕ) (t : Table) → RoomIn t places → 1 < places → Rooted b places (record { net = firstNodes b t; saved = [] })
 unfolding firstNodes
+first-rooted b places t room more = record {
+  labels = firstLabels;
+  grows = first-grows b t places room more;
+  waits = first-waits b t places room more;
+  fares = tt;
+  notes = tt;
+  numbers = tt;
+  legs-in = tt;
+  firsts = record { once = λ i h. omega arith; parent = λ i h p. absurd (omega arith) };
+}
+
+pub none-used : (b rows : List ℕ) → Unused b [] rows
+none-used b [] = tt
+none-used b (row ∷ rows) = ((λ x h e. absurd (omega arith)), none-used b rows)
+
+pub origins-ready : {b : List ℕ} → Read b → (places : ℕ) (t : Table) → RoomIn t places → 1 < places → Holds (Ready b places) (originsOf b places (keptOrigins b) (record { net = firstNodes b t; saved = [] }))
 origins-ready {b} r places t room more =
     holds-so (RootedWith b places []) (Ready b places) (originsOf b places (keptOrigins b) (record { net = firstNodes b t; saved = [] }))
-    (origins-all r places (keptOrigins b) (record { net = firstNodes b t; saved = [] }) rooted (none (keptOrigins b)) (r .kept) (r .apart) (member-all (keptOrigins b)))
+    (origins-all r places (keptOrigins b) (record { net = firstNodes b t; saved = [] }) (first-rooted b places t room more) (none-used b (keptOrigins b)) (r .kept) (r .apart) (member-all (keptOrigins b)))
     (rooted-ready r places)
-  where
-    rooted : Rooted b places (record { net = firstNodes b t; saved = [] })
-    rooted = record {
-      labels = firstLabels;
-      grows = first-grows b t places room more;
-      waits = first-waits b t places room more;
-      fares = tt;
-      notes = tt;
-      numbers = tt;
-      legs-in = tt;
-      firsts = record { once = λ i h. omega arith; parent = λ i h p. absurd (omega arith) };
-    }
-
-    none : (rows : List ℕ) → Unused b [] rows
-    none [] = tt
-    none (row ∷ rows) = ((λ x h e. absurd (omega arith)), none rows)

@@ -78,7 +78,7 @@ module _ {S : Type 0} (search : ℕ → ℕ → S) (answer : Bool → Bool → B
       go (inl q) = subst (λ (k : ℕ). 0 < node k .«idx_next») q h
       go (inr q) = q .1
 
-  search-reaches : (k i : ℕ) → n ≤ k + i → Reached L node n first i → P (search k i)
+  pub search-reaches : (k i : ℕ) → n ≤ k + i → Reached L node n first i → P (search k i)
   search-reaches zero i l r = let h = r .within in absurd (omega arith)
   search-reaches (suc k) i l r =
       subst P (sym (turn k i _ _ _ refl refl refl))
