@@ -1,12 +1,11 @@
 -- Two networks that agree in their first n nodes: whatever growth reads of them is the same.
-use mathlib.Core.Path.{_≡_, refl, sym, ap, _∙_, subst}
-use mathlib.Core.Logic.{_⊎_, inl, inr}
-use mathlib.Core.Bool.{Bool, true, false, not, _&&_, _||_, cond}
-use mathlib.Core.List.{List, [], _∷_, _++_}
+use mathlib.Core.Path.{_≡_, refl, ap, _∙_}
+use mathlib.Core.Bool.{Bool, true, false, _&&_, _||_, cond}
+use mathlib.Core.List.{List, [], _∷_}
 use mathlib.Core.Option.{Option, none, some}
 use Prim.Native.Nat.{ℕ, zero, suc, _+_, _<_, _≤_}
 use native.Mathlib.Omega.{arith}
-use lib.Dec.{eqb, ltb}
+use lib.Dec.{eqb}
 use lib.Ieee.{Float, lt}
 use Rattle.floats.specs.Floats.{gap}
 use Rattle.fields.specs.Below.{someBelow}
@@ -17,13 +16,12 @@ use Rattle.network.specs.Table.{sameEvent, Woven}
 use Rattle.insertion.specs.Insertion.{matches, found, seek}
 use Rattle.event_map.specs.EventMap.{seenIn, nodesFrom, eventNodes}
 use Rattle.strands.specs.declared.EstJoinPath.{EstJoinPath}
-use Rattle.strands.specs.Entries.{entry, push, andThen}
+use Rattle.strands.specs.Entries.{entry, andThen}
 use Rattle.strands.specs.Space.{isArrive, pushedIf, onward, alternatives, Strand, strandFrom, Turn, Whole, Over, More, stacked, turnAs, turn, goOn, strands, followed, extendedAs, extended, extendedAll}
 use Rattle.joins.specs.declared.Closest.{Closest}
-use Rattle.joins.specs.Joins.{closer, closerAs, closestOf, closest, endedAs, chainEnd, appendedAll, appended, rebuilt}
-use Rattle.arcs.proofs.Answers.{All, all-so, clash}
+use Rattle.joins.specs.Joins.{closer, closerAs, closestOf, endedAs, chainEnd, appendedAll, appended, rebuilt}
 use Rattle.arcs.proofs.Invariant.{Listed}
-use Rattle.arcs.proofs.Entries.{Right, RightTurn, turn-right, rebuilt-good, Given, GoodAll, given-then, extended-good, nodes-from}
+use Rattle.arcs.proofs.Entries.{Right, RightTurn, turn-right, Given, GoodAll, extended-good}
 
 -- the first n nodes are the same
 abbrev pub Agree : ℕ → (ℕ → EstTime) → (ℕ → EstTime) → Type 0

@@ -1,30 +1,26 @@
 -- Two tables that agree in the nodes so far: an insertion or a join makes the same of both, where neither is refused. Row 12's tests, which look at the places, only refuse.
-use mathlib.Core.Path.{_≡_, refl, sym, ap, _∙_, subst}
-use mathlib.Core.Logic.{_⊎_, inl, inr}
+use mathlib.Core.Path.{_≡_, refl, sym, ap, subst}
+use mathlib.Core.Logic.{inl}
 use mathlib.Core.Bool.{Bool, true, false}
-use mathlib.Core.List.{List, [], _∷_}
-use Prim.Native.Nat.{ℕ, zero, suc, _+_, _-_, _<_, _≤_}
+use Prim.Native.Nat.{ℕ, suc, _+_, _-_, _<_}
 use native.Mathlib.Numerals.{add-one}
 use native.Mathlib.Omega.{arith}
 use borrow.Author.Tests.{ltb-true}
-use lib.Dec.{eqb, ltb}
-use lib.Ieee.{Float, lt}
-use Rattle.network.specs.declared.LinkEvent.{LinkEvent}
+use lib.Dec.{ltb}
+use lib.Ieee.{Float}
 use Rattle.network.specs.declared.EstTime.{EstTime}
 use Rattle.network.specs.declared.TimedEvent.{TimedEvent}
 use Rattle.insertion.specs.declared.Place.{Place}
-use Rattle.insertion.specs.declared.Inserted.{Inserted}
-use Rattle.insertion.specs.declared.Inserted.the-variants.{Added, Moved, Refused}
+use Rattle.insertion.specs.declared.Inserted.the-variants.{Added}
 use Rattle.insertion.specs.Insertion as Insertion
 use Rattle.insertion.specs.Insertion.{Table, put, at, linkedTo, eventNode, splitFake, alternating, addBehind, splitAt, placeAt, addedAs, tableAs, seek, found, soughtIn, inserted, insertedTable}
 use Rattle.insertion.proofs.Seeking.{seek-turn}
 use Rattle.insertion.proofs.Puts.{RoomIn, put-room, add-room, split-room}
 use Rattle.joins.specs.Joins.{joinedBy, joinFake, joinAt}
-use Rattle.driver.specs.Run.{Net, Run, After, arcTo, addedTo, movedTo, memberOf, insertedAs, insertEvent}
+use Rattle.driver.specs.Run.{Net, Run, After, addedTo, movedTo, memberOf, insertedAs, insertEvent}
 use Rattle.arcs.proofs.Answers.{Both, both-refused}
 use Rattle.arcs.proofs.Labels.{Labels}
-use Rattle.arcs.proofs.Laid.{Laid}
-use Rattle.arcs.proofs.Seeks.{Reached, search-reaches}
+use Rattle.arcs.proofs.Seeks.{search-reaches}
 use Rattle.arcs.proofs.Bodies.{self-base}
 use Rattle.arcs.proofs.Invariant.{Grows, Stands}
 use Rattle.arcs.proofs.Agreeing.{Agree, seek-same}

@@ -1,36 +1,28 @@
 -- The driver makes the same of two tables that agree in the nodes so far: legs, finishes, the way on, and the origins.
-use mathlib.Core.Path.{_≡_, refl, sym, ap, _∙_, subst}
-use mathlib.Core.Logic.{_⊎_, inl, inr}
+use mathlib.Core.Path.{_≡_, refl, sym, subst}
 use mathlib.Core.Bool.{Bool, true, false, not, _||_}
 use mathlib.Core.List.{List, [], _∷_}
-use Prim.Native.Nat.{ℕ, zero, suc, _+_, _-_, _<_, _≤_}
+use Prim.Native.Nat.{ℕ, zero, suc, _-_, _<_}
 use native.Mathlib.Omega.{arith}
 use lib.Dec.{eqb, ltb}
-use lib.Ieee.{Float, binary64, add, ofBits}
-use Rattle.book.specs.Format.{legs, linkNext, linkNextAlt, originLink, lengthBits, floatOf}
+use Rattle.book.specs.Format.{legs, linkNext, linkNextAlt, originLink}
 use Rattle.book.specs.Chains.{legBelow}
 use Rattle.options.specs.Options.{inSet, keptOrigins}
 use Rattle.walk.specs.Walk.{row11}
-use Rattle.network.specs.declared.EstType.{EstType}
-use Rattle.network.specs.declared.EstType.the-variants.{Arrive, Clear}
 use Rattle.network.specs.declared.EstTime.{EstTime}
-use Rattle.network.specs.declared.TimedEvent.{TimedEvent}
-use Rattle.insertion.specs.declared.Place.{Place}
 use Rattle.insertion.specs.Insertion.{Table, at}
 use Rattle.insertion.proofs.Puts.{RoomIn}
 use Rattle.path.specs.Path.{linkOf, legCourse, legEvents}
-use Rattle.driver.specs.Run.{Answer, refused, given, andThen, Net, Run, After, arcToEnd, memberOf, insertEvent, Outcome, Ended, On, runEvents}
-use Rattle.driver.specs.Growth.{Growth, joinGap, originEvent, originRun, takes, seekLeg, saves, originAt, originsOf, badFinish, finishedAt, finishAs, waiting, onOver, fitsIn, saveOver, onAs, goOn, finishes, endedAs, legDone, legAs, takeLeg, drive}
-use Rattle.arcs.specs.Read.{Other, Apart, Read}
-use Rattle.arcs.proofs.Answers.{Both, both-then, both-with, both-refused, Holds, All}
-use Rattle.arcs.proofs.Labels.{Labels}
-use Rattle.arcs.proofs.Invariant.{Grows}
+use Rattle.driver.specs.Run.{given, andThen, Net, Run, After, memberOf, insertEvent, Outcome, Ended, On, runEvents}
+use Rattle.driver.specs.Growth.{Growth, joinGap, originRun, takes, seekLeg, saves, originAt, originsOf, badFinish, finishedAt, finishAs, waiting, onOver, fitsIn, saveOver, onAs, goOn, finishes, endedAs, legDone, legAs, takeLeg, drive}
+use Rattle.arcs.specs.Read.{Read}
+use Rattle.arcs.proofs.Answers.{Both, both-then, both-with, All}
 use Rattle.arcs.proofs.Insertions.{Inserts}
 use Rattle.arcs.proofs.Paths.{events-real}
 use Rattle.arcs.proofs.Faring.{Driven, Running}
 use Rattle.arcs.proofs.Running.{Came, events-run}
 use Rattle.arcs.proofs.Driving.{LegIn, Turned, takes-leg}
-use Rattle.arcs.proofs.Loads.{load}
+use Rattle.arcs.proofs.Books.{Other, Apart}
 use Rattle.arcs.proofs.Origins.{Rooted, RootedWith, KeptAll, Unused, arrive, clear, arrive-keeps, origin-keeps}
 use Rattle.arcs.proofs.Agreeing.{Agree}
 use Rattle.arcs.proofs.Alike.{withTable, Alike, AlikeAfter, insert-alike}

@@ -1,32 +1,28 @@
 -- A run's events make the same of two tables that agree in the nodes so far.
-use mathlib.Core.Path.{_≡_, refl, sym, ap, _∙_, subst}
-use mathlib.Core.Logic.{_⊎_, inl, inr}
+use mathlib.Core.Path.{_≡_, refl, sym, subst}
 use mathlib.Core.Bool.{Bool, true, false}
 use mathlib.Core.List.{List, [], _∷_}
 use mathlib.Core.Option.{Option, none, some}
-use Prim.Native.Nat.{ℕ, zero, suc, _+_, _-_, _<_, _≤_}
-use native.Mathlib.Omega.{arith}
+use Prim.Native.Nat.{ℕ, zero, suc, _<_}
 use borrow.Author.Tests.{ltb-true}
-use lib.Dec.{eqb, ltb}
+use lib.Dec.{ltb}
 use lib.Ieee.{Float, lt}
-use Rattle.network.specs.declared.LinkEvent.{LinkEvent}
 use Rattle.network.specs.declared.EstTime.{EstTime}
 use Rattle.network.specs.declared.TimedEvent.{TimedEvent}
 use Rattle.network.specs.Table.{Woven}
-use Rattle.insertion.specs.declared.Place.{Place}
 use Rattle.insertion.specs.Insertion.{Table, at}
 use Rattle.insertion.proofs.Puts.{RoomIn}
 use Rattle.strands.specs.declared.EstJoinPath.{EstJoinPath}
 use Rattle.joins.specs.declared.Closest.{Closest}
 use Rattle.joins.specs.Joins as Joins
-use Rattle.joins.specs.Joins.{endedAs, chainEnd, joinAt, joinedTable, closest, closestOf, appended, rebuilt, JoinStep, JoinsTo, GoesOn, Beyond, joinsIf, chosenAs, chosen, joinStep}
-use Rattle.driver.specs.Run.{Answer, refused, given, andThen, Net, Run, After, arcTo, insertEvent, joinedTo, Outcome, Ended, On, goesOn, listed, joinedAs, eventAs, runEvent, nextEvent, runEvents}
-use Rattle.arcs.proofs.Answers.{Both, both-then, both-with, both-refused, Holds, All, all-so}
+use Rattle.joins.specs.Joins.{endedAs, chainEnd, joinAt, joinedTable, closest, closestOf, appended, rebuilt, chosenAs, chosen, joinStep}
+use Rattle.driver.specs.Run.{Answer, refused, given, Net, Run, After, insertEvent, joinedTo, Outcome, Ended, On, goesOn, listed, joinedAs, eventAs, runEvent, nextEvent, runEvents}
+use Rattle.arcs.proofs.Answers.{Both, both-then, both-with, All, all-so}
 use Rattle.arcs.proofs.Labels.{Labels}
 use Rattle.arcs.proofs.Invariant.{Grows, Listed, Stands}
 use Rattle.arcs.proofs.Entries.{Stepped, step-right, Given, Good, GoodAll, rebuilt-good}
 use Rattle.arcs.proofs.Paths.{Real}
-use Rattle.arcs.proofs.Faring.{Driven, Running}
+use Rattle.arcs.proofs.Faring.{Running}
 use Rattle.arcs.proofs.Running.{Came, event-runs}
 use Rattle.arcs.proofs.Agreeing.{Agree, chain-same, appended-same, closest-same, rebuilt-same}
 use Rattle.arcs.proofs.Alike.{withTable, Alike, AlikeAfter, join-agree, insert-alike}

@@ -2,11 +2,11 @@
 use mathlib.Core.Path.{_≡_, refl, sym, ap, _∙_, subst}
 use mathlib.Core.Logic.{_⊎_, inl, inr}
 use mathlib.Core.Bool.{Bool, true, false}
-use mathlib.Core.List.{List, [], _∷_}
-use Prim.Native.Nat.{ℕ, zero, suc, _+_, _<_, _≤_}
+use mathlib.Core.List.{List, _∷_}
+use Prim.Native.Nat.{ℕ, suc, _+_, _<_, _≤_}
 use native.Mathlib.Numerals.{add-one}
 use native.Mathlib.Omega.{arith}
-use lib.Ieee.{Float, binary64, sub}
+use lib.Ieee.{binary64, sub}
 use Rattle.network.specs.declared.EstTime.{EstTime}
 use Rattle.network.specs.declared.TimedEvent.{TimedEvent}
 use Rattle.network.specs.Table.{Woven, blank, noLink}
@@ -16,7 +16,7 @@ use Rattle.insertion.proofs.Puts.{RoomIn, add-found, add-new, add-woven, add-ot
 use Rattle.driver.specs.Run.{Arc, memberOf}
 use Rattle.arcs.specs.Arcs.{isFake, fakeKind}
 use Rattle.arcs.proofs.Answers.{clash, below, either}
-use Rattle.arcs.proofs.Labels.{Role, nought, start, event, split, join, stop, baseRole, lands, itself, Labels, Extends, labelled, labelled-old, new-role, new-owner, new-goal}
+use Rattle.arcs.proofs.Labels.{Role, nought, start, event, split, join, stop, baseRole, lands, itself, Labels, Extends, labelled, labelled-old, new-role, new-goal}
 use Rattle.arcs.proofs.News.{Attached, Alternated, NoStops, apart}
 use Rattle.arcs.proofs.Weights.{arcThere}
 use Rattle.arcs.proofs.Graphs.{Graph, Timed, event-graph, split-graph}
@@ -107,10 +107,6 @@ module _ {L : Labels} {places : ℕ} {t : Table} {n : ℕ} {ends : List ℕ} {ar
   pub add-held : (at (addBehind t i n e) n .«time_to_next» ≡ e .time) × (at (addBehind t i n e) n .«dist_to_next» ≡ e .offset)
   unfolding eventNode
   add-held = (ap (λ (x : EstTime). x .«time_to_next») added, ap (λ (x : EstTime). x .«dist_to_next») added)
-
-  -- the labels with the new event's
-  abbrev pub withEvent : Labels
-  withEvent = labelled L n event n n (suc (L .depth (L .owner i)))
 
   pub event-body : baseRole (L .role i) ≡ true → at t i .«idx_next» ≡ 0 → memberOf ends i ≡ false → fakeKind (e .«link_event» .«est_type») ≡ false
       → (arc : Arc) → arc .from ≡ L .owner i → arc .to ≡ n → arc .time ≡ sub binary64 (e .time) (at t i .«time_to_next») → arc .distance ≡ sub binary64 (e .offset) (at t i .«dist_to_next»)

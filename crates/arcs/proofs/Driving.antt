@@ -1,35 +1,32 @@
 -- The driver keeps its invariant: a leg's events, then a finish or the way on, with what is saved; and no run waits when it is done.
 use mathlib.Core.Path.{_≡_, refl, sym, ap, _∙_, subst}
-use mathlib.Core.Logic.{_⊎_, inl, inr}
+use mathlib.Core.Logic.{inl, inr}
 use mathlib.Core.Bool.{Bool, true, false}
 use mathlib.Core.List.{List, [], _∷_, _++_}
 use Prim.Native.Nat.{ℕ, zero, suc, _+_, _-_, _<_, _≤_}
 use native.Mathlib.Omega.{arith}
-use borrow.Author.Tests.{eqb-true, eqb-false, eq-eqb, ne-eqb}
+use borrow.Author.Tests.{eqb-true, eqb-false}
 use lib.Dec.{eqb, ltb}
-use lib.Ieee.{Float, binary64, ofBits}
 use Rattle.book.specs.Format.{legs, linkNext, linkNextAlt, legLink, legParent}
 use Rattle.book.specs.Chains.{legBelow}
 use Rattle.options.specs.Options.{inSet}
 use Rattle.walk.specs.Walk.{row11}
 use Rattle.network.specs.declared.EstTime.{EstTime}
 use Rattle.network.specs.declared.TimedEvent.{TimedEvent}
-use Rattle.insertion.specs.declared.Place.{Place}
-use Rattle.insertion.specs.Insertion.{Table, at}
 use Rattle.path.specs.Path.{linkOf, legCourse, legEvents}
-use Rattle.driver.specs.Run.{Answer, refused, given, andThen, Arc, Net, Run, After, arcToEnd, memberOf, Outcome, Ended, On, runEvents}
+use Rattle.driver.specs.Run.{given, andThen, Net, Run, arcToEnd, Outcome, Ended, On, runEvents}
 use Rattle.driver.specs.Growth.{Growth, joinGap, takes, seekLeg, badFinish, finishedAt, finishAs, waiting, onOver, fitsIn, saveOver, onAs, goOn, finishes, endedAs, legDone, legAs, takeLeg, drive}
 use Rattle.arcs.specs.Arcs.{one}
 use Rattle.arcs.specs.Runs.{runEventsTo}
 use Rattle.arcs.specs.Read.{Read}
-use Rattle.arcs.proofs.Answers.{Holds, holds-then, holds-so, All, all-so, either, clash}
-use Rattle.arcs.proofs.Labels.{Labels, Extends}
-use Rattle.arcs.proofs.Invariant.{Grows, Stands, Tip, Waits, Later, Owned}
-use Rattle.arcs.proofs.Finishing.{Finishes, finish-tip, finish-keeps}
+use Rattle.arcs.proofs.Answers.{Holds, holds-then, holds-so, All}
+use Rattle.arcs.proofs.Labels.{Labels}
+use Rattle.arcs.proofs.Invariant.{Stands, Waits, Owned}
+use Rattle.arcs.proofs.Finishing.{finish-tip, finish-keeps}
 use Rattle.arcs.proofs.Paths.{append-assoc, LegOf, leg-found, run-events-more, events-real}
-use Rattle.arcs.proofs.Faring.{Fares, Notes, waiting-more, notes-more, Driven, Running}
+use Rattle.arcs.proofs.Faring.{Fares, Driven, Running}
 use Rattle.arcs.proofs.Running.{Came, events-run}
-use Rattle.arcs.proofs.Loads.{legCount, load, loadOf, load-same, Kids, load-less}
+use Rattle.arcs.proofs.Loads.{legCount, load, load-same, Kids, load-less}
 
 -- a run with another leg, and whether it has added
 abbrev pub withLeg : Run → ℕ → Bool → Run

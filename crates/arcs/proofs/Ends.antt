@@ -3,22 +3,21 @@ use mathlib.Core.Path.{_≡_, refl, sym, ap, _∙_, subst}
 use mathlib.Core.Logic.{_⊎_, inl, inr}
 use mathlib.Core.Bool.{Bool, true, false, _||_}
 use mathlib.Core.List.{List, [], _∷_}
-use Prim.Native.Nat.{ℕ, zero, suc, _+_, _-_, _<_, _≤_}
+use Prim.Native.Nat.{ℕ, suc, _<_}
 use native.Mathlib.Omega.{arith}
-use borrow.Author.Tests.{eqb-true, eqb-false, eq-eqb, ne-eqb, ltb-true}
+use borrow.Author.Tests.{eq-eqb, ne-eqb, ltb-true}
 use lib.Dec.{eqb, ltb}
-use lib.Ieee.{Float, binary64, ofBits}
+use lib.Ieee.{binary64, ofBits}
 use Rattle.fields.proofs.Below.{or-right}
 use Rattle.network.specs.declared.EstTime.{EstTime}
 use Rattle.network.specs.Table.{blank, noLink}
 use Rattle.insertion.specs.Insertion.{Table, put, at}
 use Rattle.insertion.proofs.Puts.{RoomIn, put-room}
-use Rattle.driver.specs.Run.{Answer, refused, given, andThen, Arc, Net, memberOf}
+use Rattle.driver.specs.Run.{Arc, memberOf}
 use Rattle.driver.specs.Growth.{fakeNode, leadsToEnd, Tail, roomFor, endFakes}
 use Rattle.arcs.specs.Arcs.{isFake}
 use Rattle.arcs.proofs.Answers.{Holds, holds-then, All, either, clash, below}
-use Rattle.arcs.proofs.Labels.{Role, stop, baseRole, receives, itself, Labels, Extends, labelled, labelled-old, new-role, new-goal}
-use Rattle.arcs.proofs.Laid.{Each, Laid}
+use Rattle.arcs.proofs.Labels.{stop, baseRole, receives, itself, Labels, Extends, labelled, labelled-old, new-role, new-goal}
 use Rattle.arcs.proofs.News.{Attached}
 use Rattle.arcs.proofs.Weights.{arcThere, arcOut}
 use Rattle.arcs.proofs.Graphs.{Graph, Timed, stop-graph}

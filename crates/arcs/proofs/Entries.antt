@@ -1,12 +1,12 @@
 -- The join step: every entry of its lists names a node, and a node that a run joins has the event.
-use mathlib.Core.Path.{_≡_, refl, sym, ap, _∙_, subst}
+use mathlib.Core.Path.{_≡_, refl, sym, ap, _∙_}
 use mathlib.Core.Logic.{_⊎_, inl, inr}
-use mathlib.Core.Bool.{Bool, true, false, not, _&&_, _||_, cond}
+use mathlib.Core.Bool.{Bool, true, false, _&&_, _||_, cond}
 use mathlib.Core.List.{List, [], _∷_, _++_}
 use mathlib.Core.Option.{Option, none, some}
 use Prim.Native.Nat.{ℕ, zero, suc, _+_, _<_, _≤_}
 use native.Mathlib.Omega.{arith}
-use borrow.Author.Tests.{eqb-true, eqb-false, eq-eqb, ltb-true}
+use borrow.Author.Tests.{eqb-true, eq-eqb, ltb-true}
 use lib.ListN.{length}
 use lib.Dec.{eqb, ltb}
 use lib.Ieee.{Float, lt}
@@ -22,7 +22,7 @@ use Rattle.strands.specs.declared.EstJoinPath.{EstJoinPath}
 use Rattle.strands.specs.Entries.{entry, push, pushedAs, andThen}
 use Rattle.strands.specs.Space.{isArrive, pushedIf, onward, alternatives, Strand, strandFrom, Turn, Whole, Over, More, popped, poppedAfter, stacked, turnAs, turn, goOn, strands, followed, extendedAs, extended, extendedAll}
 use Rattle.joins.specs.declared.Closest.{Closest}
-use Rattle.joins.specs.Joins.{closerAs, closer, closestOf, closest, names, appendedIf, appendedAll, appended, rebuilt, JoinStep, JoinsTo, GoesOn, Beyond, goesOn, joinsIf, chosenAs, chosen, joinStep}
+use Rattle.joins.specs.Joins.{closerAs, closer, closestOf, closest, names, appendedIf, appendedAll, appended, rebuilt, JoinStep, JoinsTo, GoesOn, Beyond, goesOn, chosenAs, chosen, joinStep}
 use Rattle.arcs.proofs.Answers.{All, all-so, clash}
 use Rattle.arcs.proofs.Invariant.{Listed}
 

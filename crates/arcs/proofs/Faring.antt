@@ -1,19 +1,17 @@
 -- A run between two events: which of its events it stands on, and which come next. Noted arcs lead between neighbouring events.
 use mathlib.Core.Path.{_≡_, refl, sym, ap, _∙_, subst}
-use mathlib.Core.Logic.{_⊎_, inl, inr}
-use mathlib.Core.Bool.{Bool, true, false}
+use mathlib.Core.Logic.{inl, inr}
 use mathlib.Core.List.{List, [], _∷_, _++_}
-use Prim.Native.Nat.{ℕ, zero, suc, _+_, _<_, _≤_}
+use Prim.Native.Nat.{ℕ, _<_, _≤_}
 use native.Mathlib.Omega.{arith}
-use lib.Ieee.{Float, binary64, sub, ofBits}
+use lib.Ieee.{binary64, sub}
 use Rattle.network.specs.declared.EstTime.{EstTime}
 use Rattle.network.specs.declared.TimedEvent.{TimedEvent}
-use Rattle.insertion.specs.declared.Place.{Place}
-use Rattle.insertion.specs.Insertion.{Table, at}
+use Rattle.insertion.specs.Insertion.{at}
 use Rattle.path.specs.Path.{legEvents}
-use Rattle.driver.specs.Run.{Arc, Net, Run, After, arcTo, arcToEnd}
+use Rattle.driver.specs.Run.{Arc, Net, Run, arcTo}
 use Rattle.arcs.specs.Runs.{runEventsTo, Next, Follows}
-use Rattle.arcs.specs.Noted.{LeadsOut, Starts, Heard}
+use Rattle.arcs.specs.Noted.{Heard}
 use Rattle.arcs.proofs.Answers.{All, all-so}
 use Rattle.arcs.proofs.Labels.{Labels, Extends}
 use Rattle.arcs.proofs.Invariant.{Grows, Waits}

@@ -2,28 +2,26 @@
 use mathlib.Core.Path.{_≡_, refl, sym, ap, _∙_, subst}
 use mathlib.Core.Logic.{_⊎_, inl, inr}
 use mathlib.Core.Bool.{Bool, true, false, not, _||_}
-use mathlib.Core.List.{List, [], _∷_}
-use Prim.Native.Nat.{ℕ, zero, suc, _+_, _-_, _<_, _≤_}
+use mathlib.Core.List.{List, _∷_}
+use Prim.Native.Nat.{ℕ, suc, _-_, _<_}
 use native.Mathlib.Omega.{arith}
-use borrow.Author.Tests.{eqb-true, eqb-false, eq-eqb, ne-eqb, not-false}
-use lib.ListN.{length}
+use borrow.Author.Tests.{eqb-true, eq-eqb, ne-eqb, not-false}
 use lib.Dec.{eqb}
-use lib.Ieee.{Float, binary64, ofBits}
+use lib.Ieee.{binary64, ofBits}
 use Rattle.fields.specs.Below.{sumBelow}
 use Rattle.fields.proofs.Below.{none-left, none-right}
 use Rattle.network.specs.declared.EstTime.{EstTime}
-use Rattle.insertion.specs.declared.Place.{Place}
-use Rattle.insertion.specs.Insertion.{Table, at}
-use Rattle.driver.specs.Run.{Answer, refused, given, Arc, Net, Run, arcToEnd, memberOf}
-use Rattle.driver.specs.Growth.{Growth, badFinish, finishedAt, finishAs}
-use Rattle.arcs.proofs.Answers.{Holds, All, all-so, clash, below, either}
+use Rattle.insertion.specs.Insertion.{at}
+use Rattle.driver.specs.Run.{Arc, Net, Run, arcToEnd, memberOf}
+use Rattle.driver.specs.Growth.{badFinish, finishedAt}
+use Rattle.arcs.proofs.Answers.{all-so, clash, either}
 use Rattle.arcs.proofs.Sums.{sum-point, total, total-more}
-use Rattle.arcs.proofs.Labels.{Role, baseRole, itself, Labels, Extends}
-use Rattle.arcs.proofs.Laid.{Each, Laid}
+use Rattle.arcs.proofs.Labels.{baseRole, Labels, Extends}
+use Rattle.arcs.proofs.Laid.{Laid}
 use Rattle.arcs.proofs.Weights.{arcOut, weigh, weigh-empty, weigh-ended, weigh-same}
-use Rattle.arcs.proofs.Graphs.{Graph, next-within}
-use Rattle.arcs.proofs.Bodies.{EndAt, Body, self-base}
-use Rattle.arcs.proofs.Invariant.{Distinct, Grows, Stands, Owned, Tip, Last, Waits, Later, stands-more, owned-popped}
+use Rattle.arcs.proofs.Graphs.{next-within}
+use Rattle.arcs.proofs.Bodies.{EndAt, self-base}
+use Rattle.arcs.proofs.Invariant.{Grows, Stands, Tip, Waits, Later, stands-more, owned-popped}
 use Rattle.arcs.proofs.Joining.{last-popped}
 
 -- what the test of row 13 leaves

@@ -1,29 +1,26 @@
 -- Nodes 0 and 1: the invariant at the beginning, with a run at the start.
-use mathlib.Core.Path.{_≡_, refl, sym, ap, _∙_, subst}
-use mathlib.Core.Logic.{_⊎_, inl, inr}
+use mathlib.Core.Path.{_≡_, refl, ap, _∙_}
+use mathlib.Core.Logic.{_⊎_, inl}
 use mathlib.Core.Bool.{Bool, true, false}
 use mathlib.Core.List.{List, [], _∷_}
-use Prim.Native.Nat.{ℕ, zero, suc, _+_, _<_, _≤_}
+use Prim.Native.Nat.{ℕ, zero, suc, _<_}
 use native.Mathlib.Omega.{arith}
-use lib.Ieee.{Float, binary64, ofBits}
+use lib.Ieee.{binary64, ofBits}
 use Rattle.network.specs.declared.EstTime.{EstTime}
 use Rattle.network.specs.Table.{Woven, blank, noLink}
-use Rattle.insertion.specs.declared.Place.{Place}
 use Rattle.insertion.specs.Insertion.{Table, put, at}
 use Rattle.insertion.proofs.Puts.{RoomIn, put-room}
 use Rattle.fields.specs.Below.{sumBelow}
-use Rattle.driver.specs.Run.{Arc, Net, Run, memberOf}
+use Rattle.driver.specs.Run.{Arc}
 use Rattle.driver.specs.Growth.{departure, fakeNode, firstNodes, originRun}
 use Rattle.arcs.specs.Arcs.{isFake}
 use Rattle.arcs.proofs.Answers.{clash}
-use Rattle.arcs.proofs.Sums.{sum-suc, total}
-use Rattle.arcs.proofs.Labels.{Role, nought, start, event, split, join, stop, fakeRole, baseRole, receives, lands, itself, Labels}
+use Rattle.arcs.proofs.Sums.{total}
+use Rattle.arcs.proofs.Labels.{Role, nought, start, event, split, join, stop, baseRole, lands, Labels}
 use Rattle.arcs.proofs.Laid.{Each, Laid}
 use Rattle.arcs.proofs.News.{apart}
 use Rattle.arcs.proofs.Weights.{weigh, weigh-none, weigh-empty}
-use Rattle.arcs.proofs.Graphs.{Graph}
-use Rattle.arcs.proofs.Bodies.{Body}
-use Rattle.arcs.proofs.Invariant.{Grows, Stands, Waits}
+use Rattle.arcs.proofs.Invariant.{Grows, Waits}
 use Rattle.arcs.proofs.Writes.{put-same, put-other}
 
 abbrev pub firstRole : ℕ → Role

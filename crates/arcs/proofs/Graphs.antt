@@ -1,18 +1,18 @@
 -- The network with its noted arcs: laid, so many bases, and every weighing of arcs gives the noted list and the bases one total. One law for each sort of new node.
 use mathlib.Core.Path.{_≡_, refl, sym, ap, _∙_, subst}
 use mathlib.Core.Logic.{_⊎_, inl, inr}
-use mathlib.Core.Bool.{Bool, true, false}
-use mathlib.Core.List.{List, [], _∷_}
-use Prim.Native.Nat.{ℕ, zero, suc, _+_, _<_, _≤_}
+use mathlib.Core.Bool.{true, false}
+use mathlib.Core.List.{List, _∷_}
+use Prim.Native.Nat.{ℕ, suc, _+_, _<_}
 use native.Mathlib.Omega.{arith}
 use Rattle.network.specs.declared.EstTime.{EstTime}
 use Rattle.fields.specs.Below.{sumBelow}
 use Rattle.driver.specs.Run.{Arc, memberOf}
 use Rattle.arcs.specs.Arcs.{isFake, one}
-use Rattle.arcs.proofs.Answers.{clash, below, either}
+use Rattle.arcs.proofs.Answers.{either}
 use Rattle.arcs.proofs.Sums.{sum-same, sum-suc, total, total-more}
-use Rattle.arcs.proofs.Labels.{Role, nought, start, event, split, join, stop, baseRole, lands, Labels, Extends, labelled, labelled-old, new-role, new-owner, new-goal, new-depth}
-use Rattle.arcs.proofs.Laid.{Each, Laid}
+use Rattle.arcs.proofs.Labels.{Role, event, split, join, stop, baseRole, lands, Labels, Extends, labelled, labelled-old, new-role}
+use Rattle.arcs.proofs.Laid.{Laid}
 use Rattle.arcs.proofs.News.{Attached, Alternated, NewPrevAlt, NoStops, event-laid, join-laid, stop-laid, split-laid}
 use Rattle.arcs.proofs.Weights.{arcThere, arcOut, weigh, weigh-none, weigh-next, weigh-empty, weigh-ended, weigh-same, sum-attached, sum-alternated}
 

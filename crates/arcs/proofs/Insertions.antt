@@ -1,18 +1,15 @@
 -- An insertion keeps the invariant: the run moves, or the event is added behind its place, or behind a new split's Fake of its place.
 use mathlib.Core.Path.{_≡_, refl, sym, ap, _∙_, subst}
 use mathlib.Core.Logic.{_⊎_, inl, inr}
-use mathlib.Core.Bool.{Bool, true, false, not, _&&_}
-use mathlib.Core.List.{List, [], _∷_}
-use Prim.Native.Nat.{ℕ, zero, suc, _+_, _<_, _≤_}
+use mathlib.Core.Bool.{Bool, true, false, _&&_}
+use mathlib.Core.List.{List, _∷_}
+use Prim.Native.Nat.{ℕ, suc, _+_, _<_}
 use native.Mathlib.Numerals.{add-one}
 use native.Mathlib.Omega.{arith}
-use lib.ListN.{length}
 use lib.Dec.{eqb}
 use borrow.Author.Tests.{eqb-true}
 use lib.Ieee.{Float, binary64, sub, lt}
 use Rattle.floats.specs.Floats.{gap}
-use Rattle.network.specs.declared.EstType.{EstType}
-use Rattle.network.specs.declared.EstType.the-variants.{Arrive, Clear, Fake}
 use Rattle.network.specs.declared.LinkEvent.{LinkEvent}
 use Rattle.network.specs.declared.EstTime.{EstTime}
 use Rattle.network.specs.declared.TimedEvent.{TimedEvent}
@@ -22,16 +19,16 @@ use Rattle.insertion.specs.declared.Place.{Place}
 use Rattle.insertion.specs.declared.Inserted.{Inserted}
 use Rattle.insertion.specs.declared.Inserted.the-variants.{Added, Moved, Refused}
 use Rattle.insertion.specs.Insertion.{Table, at, matches, placeAt, addBehind, splitAt, alternating, inserted, insertedTable}
-use Rattle.driver.specs.Run.{Answer, refused, given, Arc, Net, Run, After, arcTo, addedTo, movedTo, memberOf, insertedAs, insertEvent}
-use Rattle.arcs.specs.Arcs.{isFake, fakeKind}
-use Rattle.arcs.proofs.Answers.{Holds, All, Some, all-so, some-all, clash, below, either}
-use Rattle.arcs.proofs.Labels.{Role, nought, start, event, split, join, stop, fakeRole, baseRole, receives, lands, itself, Labels, Extends, labelled, labelled-old, new-role, new-owner, new-depth}
-use Rattle.arcs.proofs.Laid.{Each, EventOf, NextOf, Laid}
-use Rattle.arcs.proofs.News.{Attached, apart}
+use Rattle.driver.specs.Run.{Net, Run, After, arcTo, addedTo, movedTo, memberOf, insertedAs, insertEvent}
+use Rattle.arcs.specs.Arcs.{fakeKind}
+use Rattle.arcs.proofs.Answers.{Holds, some-all, clash, below, either}
+use Rattle.arcs.proofs.Labels.{Role, nought, start, event, split, join, stop, fakeRole, baseRole, itself, Labels, Extends, labelled, labelled-old, new-role, new-owner, new-depth}
+use Rattle.arcs.proofs.Laid.{EventOf, NextOf, Laid}
+use Rattle.arcs.proofs.News.{Attached}
 use Rattle.arcs.proofs.Graphs.{Timed}
-use Rattle.arcs.proofs.Seeks.{Reached, MovesTo, AddsBehind, Splits, Came, insertion-came}
+use Rattle.arcs.proofs.Seeks.{Reached, Came, insertion-came}
 use Rattle.arcs.proofs.Bodies.{Body, self-base, new-end, event-body, split-body, add-attached, add-timed, add-event, add-empty, add-held, split-column, split-empty, split-held}
-use Rattle.arcs.proofs.Invariant.{Distinct, Grows, Listed, Stands, Owned, Tip, Last, Waits, Later, listed-more, waits-added}
+use Rattle.arcs.proofs.Invariant.{Grows, Stands, Owned, Tip, Waits, Later, listed-more, waits-added}
 
 -- ---- events that are equal
 

@@ -1,19 +1,17 @@
--- The invariant of growth. An open event that is no end is the running run's place, or lies as deep as an origin's Clear and is the place of a run that waits; and it holds its run's own numbers.
+-- The invariant of growth, in two halves: the network (Grows) and the runs (Waits). An open event that is no end is the running run's place, or lies as deep as an origin's Clear and is the place of a run that waits; and it holds its run's own numbers.
 -- A run that has added stands on the last node, open and no end. The runs are the running one and those that wait, the last saved first.
-use mathlib.Core.Path.{_≡_, refl, sym, ap, _∙_, subst}
+use mathlib.Core.Path.{_≡_, sym, ap, _∙_}
 use mathlib.Core.Logic.{_⊎_, inl, inr}
-use mathlib.Core.Bool.{Bool, true, false}
+use mathlib.Core.Bool.{true, false}
 use mathlib.Core.List.{List, [], _∷_}
-use Prim.Native.Nat.{ℕ, zero, suc, _+_, _<_, _≤_}
+use Prim.Native.Nat.{ℕ, suc, _+_, _<_, _≤_}
 use native.Mathlib.Omega.{arith}
 use lib.ListN.{length}
-use Rattle.network.specs.declared.EstTime.{EstTime}
-use Rattle.insertion.specs.declared.Place.{Place}
-use Rattle.insertion.specs.Insertion.{Table, at}
+use Rattle.insertion.specs.Insertion.{at}
 use Rattle.strands.specs.declared.EstJoinPath.{EstJoinPath}
-use Rattle.driver.specs.Run.{Arc, Net, Run, memberOf}
+use Rattle.driver.specs.Run.{Net, Run, memberOf}
 use Rattle.arcs.proofs.Answers.{All, Some, all-so}
-use Rattle.arcs.proofs.Labels.{Role, baseRole, itself, Labels, Extends}
+use Rattle.arcs.proofs.Labels.{baseRole, itself, Labels, Extends}
 use Rattle.arcs.proofs.Bodies.{Body}
 
 abbrev pub Distinct : List ℕ → Type 0
@@ -58,11 +56,6 @@ pub record Waits (L : Labels) (net : Net) (runs : List Run) : Type 0 where
   pub owned : (i : ℕ) → i < net .nodes → baseRole (L .role i) ≡ true → at (net .table) i .«idx_next» ≡ 0 → memberOf (net .ends) i ≡ false → Owned L i runs
   pub stand : All (Stands L net) runs
   pub last : Last net runs
-
-pub record Inv (places : ℕ) (net : Net) (runs : List Run) : Type 0 where
-  pub labels : Labels
-  pub grows : Grows labels places net
-  pub waits : Waits labels net runs
 
 -- ---- more nodes
 

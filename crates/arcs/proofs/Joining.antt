@@ -1,30 +1,28 @@
 -- A join keeps the invariant: the last node, the run's own open place, leads to a new Fake at the end of the target's chain, and the run is over.
 use mathlib.Core.Path.{_≡_, refl, sym, ap, _∙_, subst}
 use mathlib.Core.Logic.{_⊎_, inl, inr}
-use mathlib.Core.Bool.{Bool, true, false}
+use mathlib.Core.Bool.{true, false}
 use mathlib.Core.List.{List, [], _∷_}
 use Prim.Native.Nat.{ℕ, zero, suc, _+_, _-_, _<_, _≤_}
 use native.Mathlib.Omega.{arith}
-use lib.ListN.{length}
-use lib.Ieee.{Float, binary64, sub}
+use lib.Ieee.{binary64, sub}
 use Rattle.network.specs.declared.LinkEvent.{LinkEvent}
 use Rattle.network.specs.declared.EstTime.{EstTime}
 use Rattle.network.specs.declared.TimedEvent.{TimedEvent}
-use Rattle.network.specs.Table.{sameEvent, Woven, blank, noLink}
-use Rattle.insertion.specs.declared.Place.{Place}
+use Rattle.network.specs.Table.{Woven, blank, noLink}
 use Rattle.insertion.specs.Insertion.{Table, put, at, linkedTo}
 use Rattle.insertion.proofs.Puts.{RoomIn, put-room}
 use Rattle.joins.specs.Joins.{endedAs, chainEnd, joinedBy, joinFake, joinAt, joinedTable}
-use Rattle.driver.specs.Run.{Arc, Net, Run, arcTo, memberOf, joinedTo}
+use Rattle.driver.specs.Run.{Net, Run, arcTo, memberOf, joinedTo}
 use Rattle.arcs.specs.Arcs.{isFake, fakeKind}
 use Rattle.arcs.proofs.Answers.{All, all-so, clash, below, either}
-use Rattle.arcs.proofs.Labels.{Role, nought, start, event, split, join, stop, fakeRole, baseRole, lands, itself, Labels, Extends, labelled, labelled-old, new-role, new-goal}
-use Rattle.arcs.proofs.Laid.{Each, EventOf, Laid}
+use Rattle.arcs.proofs.Labels.{event, join, stop, baseRole, lands, itself, Labels, Extends, labelled, labelled-old, new-role, new-goal}
+use Rattle.arcs.proofs.Laid.{Laid}
 use Rattle.arcs.proofs.News.{Attached, apart}
 use Rattle.arcs.proofs.Weights.{arcThere}
 use Rattle.arcs.proofs.Graphs.{Graph, Timed, join-graph}
-use Rattle.arcs.proofs.Bodies.{Chains, EndAt, Body, self-base}
-use Rattle.arcs.proofs.Invariant.{Distinct, Grows, Stands, Owned, Tip, Last, Waits, Later, stands-more, owned-popped}
+use Rattle.arcs.proofs.Bodies.{Chains, EndAt, self-base}
+use Rattle.arcs.proofs.Invariant.{Grows, Stands, Owned, Tip, Last, Waits, Later, stands-more, owned-popped}
 use Rattle.arcs.proofs.Insertions.{real-event}
 use Rattle.arcs.proofs.Writes.{put-same, put-other, put-column}
 

@@ -1,14 +1,10 @@
 -- Labels of the nodes under growth, each fixed when its node is made: its role, the event or start whose alternatives reach it, where it leads if an arc's next names it, and how deep it lies.
-use mathlib.Core.Path.{_≡_, refl, sym, ap, _∙_, subst}
-use mathlib.Core.Logic.{_⊎_, inl, inr}
+use mathlib.Core.Path.{_≡_, refl, ap}
 use mathlib.Core.Bool.{Bool, true, false, cond}
-use Prim.Native.Nat.{ℕ, zero, suc, _+_, _<_, _≤_}
+use Prim.Native.Nat.{ℕ, _<_}
 use native.Mathlib.Omega.{arith}
 use borrow.Author.Tests.{eq-eqb, ne-eqb}
 use lib.Dec.{eqb}
-use Rattle.network.specs.declared.EstTime.{EstTime}
-use Rattle.arcs.specs.Arcs.{isFake}
-use Rattle.arcs.proofs.Answers.{clash, below}
 
 -- node 0, the start, an event, a split's Fake, a join's Fake, an end Fake
 pub data Role : Type 0 where

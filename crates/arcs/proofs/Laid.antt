@@ -3,12 +3,12 @@
 use mathlib.Core.Path.{_≡_, refl, sym, ap, _∙_, subst}
 use mathlib.Core.Logic.{_⊎_, inl, inr}
 use mathlib.Core.Bool.{Bool, true, false}
-use Prim.Native.Nat.{ℕ, zero, suc, _+_, _<_, _≤_}
+use Prim.Native.Nat.{ℕ, zero, suc, _<_, _≤_}
 use native.Mathlib.Omega.{arith}
 use Rattle.network.specs.declared.EstTime.{EstTime}
 use Rattle.network.specs.declared.LinkEvent.{LinkEvent}
 use Rattle.arcs.specs.Arcs.{isFake, fakeKind}
-use Rattle.arcs.proofs.Answers.{clash, below, either}
+use Rattle.arcs.proofs.Answers.{clash, below}
 use Rattle.arcs.proofs.Labels.{Role, nought, start, event, split, join, stop, fakeRole, baseRole, receives, lands, itself, Labels, Extends}
 
 -- a is the next alternative of i: a later node, a split's Fake, whose prev is i

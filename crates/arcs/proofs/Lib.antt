@@ -30,3 +30,4 @@ pub mod Alike
 pub mod AlikeRuns
 pub mod AlikeDrives
 pub mod OneGrowth
+pub mod Books

@@ -2,14 +2,13 @@
 use mathlib.Core.Path.{_≡_, refl, sym, ap, _∙_, subst}
 use mathlib.Core.Logic.{_⊎_, inl, inr}
 use mathlib.Core.Bool.{Bool, true, false}
-use Prim.Native.Nat.{ℕ, zero, suc, _+_, _<_, _≤_}
+use Prim.Native.Nat.{ℕ, suc, _<_, _≤_}
 use native.Mathlib.Omega.{arith}
 use Rattle.network.specs.declared.EstTime.{EstTime}
-use Rattle.network.specs.declared.LinkEvent.{LinkEvent}
-use Rattle.arcs.specs.Arcs.{isFake, fakeKind}
-use Rattle.arcs.proofs.Answers.{clash, below, either}
+use Rattle.arcs.specs.Arcs.{isFake}
+use Rattle.arcs.proofs.Answers.{clash, either}
 use Rattle.arcs.proofs.Labels.{Role, nought, start, event, split, join, stop, fakeRole, baseRole, receives, lands, itself, Labels, Extends, labelled, labelled-old, new-role, new-owner, new-goal, new-depth}
-use Rattle.arcs.proofs.Laid.{AltOf, SplitOf, NextOf, PrevOf, EventOf, JoinOf, StopOf, Each, Laid, Step, laterRole, step-laid, past-first}
+use Rattle.arcs.proofs.Laid.{SplitOf, PrevOf, JoinOf, Laid, Step, laterRole, step-laid}
 
 abbrev isSplit : Role → Bool
 isSplit nought = false

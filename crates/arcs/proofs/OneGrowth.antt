@@ -1,31 +1,30 @@
 -- The growth belongs to the book alone: wherever it is grown, if it is not refused, it has the same nodes, counts and noted arcs. Only row 12 looks at the places, and it only refuses.
-use mathlib.Core.Path.{_≡_, refl, sym, ap, _∙_, subst}
-use mathlib.Core.Logic.{_⊎_, inl, inr}
+use mathlib.Core.Path.{_≡_, refl, sym, ap, subst}
 use mathlib.Core.Bool.{Bool, true, false}
 use mathlib.Core.List.{List, [], _∷_}
-use Prim.Native.Nat.{ℕ, zero, suc, _+_, _-_, _<_, _≤_}
+use Prim.Native.Nat.{ℕ, suc, _-_, _<_}
 use native.Mathlib.Omega.{arith}
 use borrow.Author.Tests.{ltb-true}
-use lib.ListN.{length}
 use lib.Dec.{ltb}
-use lib.Ieee.{Float, binary64, ofBits}
+use lib.Ieee.{binary64, ofBits}
 use Rattle.book.specs.Format.{legs}
 use Rattle.options.specs.Options.{keptOrigins}
 use Rattle.network.specs.declared.EstTime.{EstTime}
 use Rattle.network.specs.Table.{Room}
 use Rattle.insertion.specs.Insertion.{Table, put, at}
 use Rattle.insertion.proofs.Puts.{RoomIn, put-room}
-use Rattle.driver.specs.Run.{Answer, refused, given, andThen, Arc, Net, memberOf}
+use Rattle.driver.specs.Run.{Answer, given, andThen, Net, memberOf}
 use Rattle.driver.specs.Growth.{Growth, departure, fakeNode, firstNodes, originsOf, drive, leadsToEnd, Tail, roomFor, endFakes, lastNode, Grown, startAs, grownWith, grow}
 use Rattle.arcs.specs.Read.{Read}
-use Rattle.arcs.proofs.Answers.{Both, both-then, both-with, both-refused, both-given, Holds, All, all-so, either}
-use Rattle.arcs.proofs.Bodies.{EndAt}
+use Rattle.arcs.specs.Grown.{SameGrowth}
+use Rattle.arcs.proofs.Answers.{Both, both-then, both-with, both-refused, both-given, All, all-so}
 use Rattle.arcs.proofs.Faring.{Driven}
 use Rattle.arcs.proofs.Driving.{drives}
 use Rattle.arcs.proofs.Origins.{Ready, first-rooted, none-used, member-all, origins-ready}
+use Rattle.arcs.proofs.Books.{kept-apart}
 use Rattle.arcs.proofs.Agreeing.{Agree}
 use Rattle.arcs.proofs.Alike.{withTable, Alike}
-use Rattle.arcs.proofs.AlikeDrives.{AlikeGrowth, growth-is, drive-alike, RootedFor, origins-alike}
+use Rattle.arcs.proofs.AlikeDrives.{AlikeGrowth, growth-is, drive-alike, origins-alike}
 use Rattle.arcs.proofs.Writes.{put-agree, put-more}
 
 -- ---- the ends
@@ -105,15 +104,6 @@ module _ (places others : ℕ) where
 
 -- ---- the whole
 
-pub record SameGrowth (g other : Grown) : Type 0 where
-  pub nodes : other .nodes ≡ g .nodes
-  pub added : other .added ≡ g .added
-  pub splits : other .splits ≡ g .splits
-  pub joined : other .joined ≡ g .joined
-  pub finished : other .finished ≡ g .finished
-  pub noted : other .noted ≡ g .noted
-  pub table : (i : ℕ) → i < g .nodes → at (other .table) i ≡ at (g .table) i
-
 all-ends : (is : List ℕ) (n : ℕ) → ((i : ℕ) → memberOf is i ≡ true → i < n) → All (λ (i : ℕ). i < n) is
 all-ends is n f = all-so (λ (i : ℕ). memberOf is i ≡ true) (λ (i : ℕ). i < n) f is (member-all is)
 
@@ -171,7 +161,7 @@ module _ (b : List ℕ) (places others : ℕ) (t u : Table) (r : Read b) (room :
       (originsOf b places (keptOrigins b) (record { net = firstNodes b t; saved = [] })) (originsOf b others (keptOrigins b) (record { net = firstNodes b u; saved = [] })) (onward places) (onward others)
       (both-with (Ready b places) (AlikeGrowth others) (originsOf b places (keptOrigins b) (record { net = firstNodes b t; saved = [] })) (originsOf b others (keptOrigins b) (record { net = firstNodes b u; saved = [] }))
       (origins-ready r places t room p)
-      (origins-alike r places others (keptOrigins b) (record { net = firstNodes b t; saved = [] }) (record { rooted = first-rooted b places t room p; unused = none-used b (keptOrigins b) }) (r .apart) (member-all (keptOrigins b))
+      (origins-alike r places others (keptOrigins b) (record { net = firstNodes b t; saved = [] }) (record { rooted = first-rooted b places t room p; unused = none-used b (keptOrigins b) }) (kept-apart b) (member-all (keptOrigins b))
       (put (put u 0 zeroth) 1 first) agree (put-room (put u 0 zeroth) 1 first others (put-room u 0 zeroth others room-other))))
       (λ x y f. onward-alike x y (f .0) (f .1))
 

@@ -2,35 +2,30 @@
 use mathlib.Core.Path.{_≡_, refl, sym, ap, _∙_, subst}
 use mathlib.Core.Logic.{_⊎_, inl, inr}
 use mathlib.Core.Bool.{Bool, true, false, _||_}
-use mathlib.Core.List.{List, [], _∷_, _++_}
+use mathlib.Core.List.{List, [], _∷_}
 use Prim.Native.Nat.{ℕ, zero, suc, _+_, _-_, _<_, _≤_}
 use native.Mathlib.Omega.{arith}
-use borrow.Author.Tests.{eqb-true, eqb-false, eq-eqb, ne-eqb}
-use lib.Dec.{eqb, ltb}
+use borrow.Author.Tests.{eqb-true, eq-eqb}
+use lib.Dec.{eqb}
 use lib.Ieee.{Float, binary64, add, sub, ofBits}
 use Rattle.book.specs.Format.{legs, originLink, legLink, legParent, lengthBits, floatOf}
 use Rattle.book.specs.Chains.{legBelow}
 use Rattle.options.specs.Options.{keptOrigins}
-use Rattle.network.specs.declared.EstType.{EstType}
 use Rattle.network.specs.declared.EstType.the-variants.{Arrive, Clear}
-use Rattle.network.specs.declared.EstTime.{EstTime}
 use Rattle.network.specs.declared.TimedEvent.{TimedEvent}
-use Rattle.insertion.specs.declared.Place.{Place}
-use Rattle.insertion.specs.Insertion.{Table, at, matches}
+use Rattle.insertion.specs.Insertion.{Table, at}
 use Rattle.path.specs.Path.{legEvents}
-use Rattle.driver.specs.Run.{Answer, refused, given, andThen, Arc, Net, Run, After, arcTo, memberOf, insertEvent}
+use Rattle.driver.specs.Run.{given, andThen, Net, Run, After, arcTo, memberOf, insertEvent}
 use Rattle.driver.specs.Growth.{Growth, joinGap, departure, firstNodes, originEvent, originRun, takes, seekLeg, saves, originAt, originsOf}
 use Rattle.arcs.specs.Arcs.{one}
 use Rattle.arcs.specs.Runs.{runEventsTo, Next, Follows}
-use Rattle.arcs.specs.Noted.{Starts, Heard}
-use Rattle.arcs.specs.Read.{Other, Apart, Kept, Read}
+use Rattle.arcs.specs.Read.{Kept, Read}
 use Rattle.fields.proofs.Below.{or-right}
 use Rattle.insertion.proofs.Puts.{RoomIn}
-use Rattle.arcs.proofs.Answers.{Holds, holds-then, holds-so, All, Some, all-so, some-all, either, clash}
-use Rattle.arcs.proofs.Labels.{Role, start, event, fakeRole, baseRole, Labels, Extends}
+use Rattle.arcs.proofs.Answers.{Holds, holds-then, holds-so, All, Some, all-so, either, clash}
+use Rattle.arcs.proofs.Labels.{event, fakeRole, baseRole, Labels}
 use Rattle.arcs.proofs.News.{apart}
-use Rattle.arcs.proofs.Seeks.{Reached}
-use Rattle.arcs.proofs.Invariant.{Grows, Stands, Owned, Waits, Later, stands-more, owned-popped}
+use Rattle.arcs.proofs.Invariant.{Grows, Stands, Owned, Waits, stands-more, owned-popped}
 use Rattle.arcs.proofs.Insertions.{Inserts, Safe, insert-keeps}
 use Rattle.arcs.proofs.Joining.{last-popped}
 use Rattle.arcs.proofs.Paths.{LegOf, leg-found, run-events-first}
@@ -38,6 +33,7 @@ use Rattle.arcs.proofs.Faring.{Fares, Notes, waiting-more, notes-more, 
 use Rattle.arcs.proofs.Running.{next-deeper}
 use Rattle.arcs.proofs.Firsts.{firstLabels, first-grows, first-waits}
 use Rattle.arcs.proofs.Driving.{withLeg, LegIn}
+use Rattle.arcs.proofs.Books.{Other, Apart, kept-apart}
 use Rattle.arcs.proofs.Loads.{legCount, load, Kids, firsts-load}
 
 -- where a train that waits at its origin ends
@@ -348,5 +344,5 @@ none-used b (row ∷ rows) = ((λ x h e. absurd (omega arith)), none-used b rows
 pub origins-ready : {b : List ℕ} → Read b → (places : ℕ) (t : Table) → RoomIn t places → 1 < places → Holds (Ready b places) (originsOf b places (keptOrigins b) (record { net = firstNodes b t; saved = [] }))
 origins-ready {b} r places t room more =
     holds-so (RootedWith b places []) (Ready b places) (originsOf b places (keptOrigins b) (record { net = firstNodes b t; saved = [] }))
-    (origins-all r places (keptOrigins b) (record { net = firstNodes b t; saved = [] }) (first-rooted b places t room more) (none-used b (keptOrigins b)) (r .kept) (r .apart) (member-all (keptOrigins b)))
+    (origins-all r places (keptOrigins b) (record { net = firstNodes b t; saved = [] }) (first-rooted b places t room more) (none-used b (keptOrigins b)) (r .kept) (kept-apart b) (member-all (keptOrigins b)))
     (rooted-ready r places)

@@ -1,17 +1,15 @@
 -- A run's path and its events: a leg more, and that every event is an Arrive or a Clear.
-use mathlib.Core.Path.{_≡_, refl, sym, ap, _∙_, subst}
-use mathlib.Core.Logic.{_⊎_, inl, inr}
+use mathlib.Core.Path.{_≡_, refl, sym, ap, _∙_}
 use mathlib.Core.Bool.{Bool, true, false, _&&_, cond}
 use mathlib.Core.List.{List, [], _∷_, _++_}
-use Prim.Native.Nat.{ℕ, zero, suc, _+_, _-_, _<_, _≤_}
+use Prim.Native.Nat.{ℕ, zero, suc, _-_, _<_, _≤_}
 use native.Mathlib.Omega.{arith}
 use borrow.Author.Tests.{eqb-true}
 use lib.Dec.{eqb, ltb}
 use lib.Ieee.{Float, binary64, add, ofBits}
 use Rattle.book.specs.Format.{legs, legLink, legParent, lengthBits, floatOf}
 use Rattle.book.specs.Chains.{legBelow}
-use Rattle.network.specs.declared.EstType.{EstType}
-use Rattle.network.specs.declared.EstType.the-variants.{Arrive, Clear, Fake}
+use Rattle.network.specs.declared.EstType.the-variants.{Arrive, Clear}
 use Rattle.network.specs.declared.TimedEvent.{TimedEvent}
 use Rattle.events.specs.declared.Passing.{Passing}
 use Rattle.events.specs.Event.{passingAt}
@@ -24,7 +22,7 @@ use Rattle.driver.specs.Growth.{originEvent}
 use Rattle.arcs.specs.Arcs.{fakeKind}
 use Rattle.arcs.specs.Runs.{eventsOfLegs, originEvents, runEventsTo}
 use Rattle.arcs.specs.Read.{Read}
-use Rattle.arcs.proofs.Answers.{All, clash}
+use Rattle.arcs.proofs.Answers.{All}
 
 -- ---- lists
 

@@ -1,22 +1,20 @@
 -- The arcs read off the grown network are the noted ones, as often each, and the two sums hold.
-use mathlib.Core.Path.{_≡_, refl, sym, ap, _∙_, subst}
-use mathlib.Core.Logic.{_⊎_, inl, inr}
+use mathlib.Core.Path.{_≡_, refl, sym, ap, _∙_}
 use mathlib.Core.Bool.{Bool, true, false, cond}
 use mathlib.Core.List.{List, [], _∷_}
-use Prim.Native.Nat.{ℕ, zero, suc, _+_, _-_, _<_, _≤_}
+use Prim.Native.Nat.{ℕ, zero, suc, _+_, _<_, _≤_}
 use native.Mathlib.Omega.{arith}
 use lib.ListN.{length}
 use Rattle.fields.specs.Below.{sumBelow}
 use Rattle.network.specs.declared.EstTime.{EstTime}
-use Rattle.driver.specs.Run.{Arc, memberOf}
+use Rattle.driver.specs.Run.{Arc}
 use Rattle.arcs.specs.Arcs.{isBase, arcOf, arcsBelow, arcsRead, sameArc, one, timesIn, SameArcs}
-use Rattle.arcs.proofs.Answers.{clash}
-use Rattle.arcs.proofs.Sums.{sum-same, sum-suc, total}
-use Rattle.arcs.proofs.Labels.{Role, baseRole, Labels}
+use Rattle.arcs.proofs.Sums.{sum-same, total}
+use Rattle.arcs.proofs.Labels.{baseRole, Labels}
 use Rattle.arcs.proofs.Weights.{arcThere, weigh, weigh-none, weigh-next}
 use Rattle.arcs.proofs.Graphs.{baseCount}
 use Rattle.arcs.proofs.Wholes.{Whole}
-use Rattle.arcs.proofs.Sheets.{arc-is, base-there, no-base-last}
+use Rattle.arcs.proofs.Sheets.{arc-is, base-is, last-no-base}
 
 times-total : (a : Arc) (xs : List Arc) → timesIn a xs ≡ total (λ (x : Arc). one (sameArc a x)) xs
 unfolding timesIn total
@@ -42,13 +40,13 @@ module _ {L : Labels} {node : ℕ → EstTime} {n : ℕ} {arcs : List Arc} {k : 
       go true e ih =
           let p = weigh-next L node [] w m e (v .closed m (omega arith) e) in
           let q : one (sameArc a (arcOf node (suc n) m)) ≡ w (arcThere L node m) = ap w (arc-is v m (omega arith) e) in
-          ap (λ (c : Bool). timesIn a (cond c (arcOf node (suc n) m ∷ arcsBelow node (suc n) m) (arcsBelow node (suc n) m))) (base-there v m (omega arith) ∙ e) ∙ sum p q ih
+          ap (λ (c : Bool). timesIn a (cond c (arcOf node (suc n) m ∷ arcsBelow node (suc n) m) (arcsBelow node (suc n) m))) (base-is v m (omega arith) ∙ e) ∙ sum p q ih
         where
           sum : weigh L node [] w m ≡ w (arcThere L node m) → one (sameArc a (arcOf node (suc n) m)) ≡ w (arcThere L node m) → timesIn a (arcsBelow node (suc n) m) ≡ sumBelow m (weigh L node [] w)
               → one (sameArc a (arcOf node (suc n) m)) + timesIn a (arcsBelow node (suc n) m) ≡ sumBelow m (weigh L node [] w) + weigh L node [] w m
           sum p q r = omega arith
       go false e ih =
-          ap (λ (c : Bool). timesIn a (cond c (arcOf node (suc n) m ∷ arcsBelow node (suc n) m) (arcsBelow node (suc n) m))) (base-there v m (omega arith) ∙ e) ∙ sum (weigh-none L node [] w m e) ih
+          ap (λ (c : Bool). timesIn a (cond c (arcOf node (suc n) m ∷ arcsBelow node (suc n) m) (arcsBelow node (suc n) m))) (base-is v m (omega arith) ∙ e) ∙ sum (weigh-none L node [] w m e) ih
         where
           sum : weigh L node [] w m ≡ 0 → timesIn a (arcsBelow node (suc n) m) ≡ sumBelow m (weigh L node [] w) → timesIn a (arcsBelow node (suc n) m) ≡ sumBelow m (weigh L node [] w) + weigh L node [] w m
           sum p r = omega arith
@@ -57,7 +55,7 @@ module _ {L : Labels} {node : ℕ → EstTime} {n : ℕ} {arcs : List Arc} {k : 
   unfolding arcsRead arcsBelow
   read-same a =
       times-total a arcs ∙ v .noted (λ (x : Arc). one (sameArc a x)) ∙ sym (below-times a n (omega arith))
-      ∙ sym (ap (λ (c : Bool). timesIn a (cond c (arcOf node (suc n) n ∷ arcsBelow node (suc n) n) (arcsBelow node (suc n) n))) (no-base-last v))
+      ∙ sym (ap (λ (c : Bool). timesIn a (cond c (arcOf node (suc n) n ∷ arcsBelow node (suc n) n) (arcsBelow node (suc n) n))) (last-no-base v))
 
   -- as many arcs as bases
   pub length-bases : length arcs ≡ k

@@ -2,32 +2,27 @@
 use mathlib.Core.Path.{_≡_, refl, sym, ap, _∙_, subst}
 use mathlib.Core.Logic.{_⊎_, inl, inr}
 use mathlib.Core.Bool.{Bool, true, false}
-use mathlib.Core.List.{List, [], _∷_, _++_}
-use Prim.Native.Nat.{ℕ, zero, suc, _+_, _<_, _≤_}
+use mathlib.Core.List.{List, [], _∷_}
+use Prim.Native.Nat.{ℕ, suc, _<_, _≤_}
 use native.Mathlib.Omega.{arith}
-use lib.Ieee.{Float, binary64, sub, ofBits}
+use lib.Ieee.{Float}
 use Rattle.network.specs.declared.LinkEvent.{LinkEvent}
-use Rattle.network.specs.declared.EstTime.{EstTime}
 use Rattle.network.specs.declared.TimedEvent.{TimedEvent}
-use Rattle.insertion.specs.declared.Place.{Place}
-use Rattle.insertion.specs.Insertion.{Table, at, matches}
+use Rattle.insertion.specs.Insertion.{at, matches}
 use Rattle.strands.specs.declared.EstJoinPath.{EstJoinPath}
 use Rattle.joins.specs.Joins.{JoinStep, JoinsTo, GoesOn, Beyond, joinStep}
-use Rattle.path.specs.Path.{legEvents}
-use Rattle.driver.specs.Run.{Answer, refused, given, andThen, Arc, Net, Run, After, arcTo, memberOf, insertEvent, joinedTo, Outcome, Ended, On, goesOn, listed, joinedAs, eventAs, runEvent, nextEvent, runEvents}
-use Rattle.arcs.specs.Arcs.{isFake, fakeKind}
-use Rattle.arcs.specs.Noted.{Heard}
-use Rattle.arcs.proofs.Answers.{Holds, holds-then, holds-so, All, all-so, clash}
-use Rattle.arcs.proofs.Labels.{Role, start, event, baseRole, itself, Labels, Extends}
-use Rattle.arcs.proofs.Laid.{Each, NextOf, EventOf, Laid}
+use Rattle.driver.specs.Run.{Answer, refused, given, Net, Run, After, arcTo, insertEvent, joinedTo, Outcome, Ended, On, goesOn, listed, joinedAs, eventAs, runEvent, nextEvent, runEvents}
+use Rattle.arcs.specs.Arcs.{fakeKind}
+use Rattle.arcs.proofs.Answers.{Holds, holds-then, All}
+use Rattle.arcs.proofs.Labels.{event, baseRole, itself, Labels}
+use Rattle.arcs.proofs.Laid.{NextOf}
 use Rattle.arcs.proofs.Seeks.{Reached}
-use Rattle.arcs.proofs.Bodies.{Body, self-base}
-use Rattle.arcs.proofs.Invariant.{Grows, Listed, Stands, Owned, Tip, Waits, Later}
+use Rattle.arcs.proofs.Invariant.{Grows, Listed, Stands, Owned, Tip, Waits}
 use Rattle.arcs.proofs.Insertions.{Inserts, Safe, insert-keeps, match-event, real-event, same-event}
 use Rattle.arcs.proofs.Entries.{Stepped, step-right}
-use Rattle.arcs.proofs.Joining.{Joins, join-keeps}
+use Rattle.arcs.proofs.Joining.{join-keeps}
 use Rattle.arcs.proofs.Paths.{Real}
-use Rattle.arcs.proofs.Faring.{Fares, Notes, fares-more, waiting-more, notes-more, follows-next, fares-on, Driven, Running}
+use Rattle.arcs.proofs.Faring.{Notes, waiting-more, notes-more, follows-next, fares-on, Driven, Running}
 
 -- the next that insertion moves to lies one deeper than the place
 pub next-deeper : {L : Labels} {places : ℕ} {net : Net} → Grows L places net → (p : ℕ) → p < net .nodes → itself (L .role p) ≡ true → (limit : Float) (e : TimedEvent) → Real e

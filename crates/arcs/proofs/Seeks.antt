@@ -14,8 +14,8 @@ use Rattle.insertion.specs.declared.Inserted.{Inserted}
 use Rattle.insertion.specs.declared.Inserted.the-variants.{Added, Moved, Refused}
 use Rattle.insertion.specs.Insertion.{Table, at, matches, found, seek, soughtIn, placeAt, addedAs, insertedAs, tableAs, inserted, insertedTable, addBehind, splitAt}
 use Rattle.insertion.proofs.Seeking.{seek-turn}
-use Rattle.arcs.proofs.Labels.{Role, split, baseRole, Labels}
-use Rattle.arcs.proofs.Laid.{AltOf, SplitOf, Each, Laid}
+use Rattle.arcs.proofs.Labels.{split, baseRole, Labels}
+use Rattle.arcs.proofs.Laid.{AltOf, Laid}
 
 -- node i is reached from a start: itself, or a split's Fake of its own behind a start that has a next
 pub record Reached (L : Labels) (node : ℕ → EstTime) (n first i : ℕ) : Type 0 where

@@ -2,10 +2,10 @@
 use mathlib.Core.Path.{_≡_, refl, sym, ap, _∙_, subst}
 use mathlib.Core.Logic.{_⊎_, inl, inr}
 use mathlib.Core.Bool.{Bool, true, false, not, _&&_, _||_, cond}
-use mathlib.Core.List.{List, [], _∷_}
+use mathlib.Core.List.{List}
 use Prim.Native.Nat.{ℕ, zero, suc, _+_, _-_, _<_, _≤_}
 use native.Mathlib.Omega.{arith}
-use borrow.Author.Tests.{eqb-true, eqb-false, eq-eqb, ne-eqb, ltb-true, lt-ltb, le-ltb}
+use borrow.Author.Tests.{eqb-true, eqb-false, eq-eqb, ne-eqb, ltb-true, lt-ltb}
 use lib.Dec.{eqb, ltb}
 use Rattle.fields.specs.Below.{someBelow}
 use Rattle.fields.proofs.Below.{some-at}
@@ -15,10 +15,9 @@ use Rattle.arcs.specs.Arcs.{isFake, isAlternative, isBase, alternativeOf
 use Rattle.arcs.specs.Shape.{isReceiver, Shape}
 use Rattle.arcs.proofs.Answers.{either, clash, below}
 use Rattle.arcs.proofs.Labels.{Role, nought, start, event, split, join, stop, fakeRole, baseRole, receives, lands, itself, Labels}
-use Rattle.arcs.proofs.Laid.{AltOf, SplitOf, NextOf, PrevOf, EventOf, JoinOf, StopOf, Each, Laid, laterRole, past-first}
+use Rattle.arcs.proofs.Laid.{AltOf, SplitOf, StopOf, laterRole, past-first}
 use Rattle.arcs.proofs.News.{apart}
 use Rattle.arcs.proofs.Weights.{arcThere}
-use Rattle.arcs.proofs.Bodies.{self-base}
 use Rattle.arcs.proofs.Wholes.{Whole}
 
 some-found : (n : ℕ) (p : ℕ → Bool) (X : Type 0) → someBelow n p ≡ true → ((k : ℕ) → k < n → p k ≡ true → X) → X
@@ -134,7 +133,7 @@ module _ {L : Labels} {node : ℕ → EstTime} {n : ℕ} {arcs : List Arc} {k : 
       go true f = let w = alternative-split n f .0 in absurd (omega arith)
       go false f = refl
 
-  base-is : (i : ℕ) → i < n → isBase node all i ≡ baseRole (L .role i)
+  pub base-is : (i : ℕ) → i < n → isBase node all i ≡ baseRole (L .role i)
   unfolding isBase isAlternative
   base-is zero h = ap (λ (c : Bool). not c || false) (v .laid .each 0 h .kind ∙ ap fakeRole (v .laid .zeroth)) ∙ ap baseRole (sym (v .laid .zeroth))
   base-is (suc zero) h = ap baseRole (sym (v .laid .first))
@@ -144,7 +143,7 @@ module _ {L : Labels} {node : ℕ → EstTime} {n : ℕ} {arcs : List Arc} {k : 
       ∙ ap (λ (c : Bool). not (fakeRole (L .role (suc (suc i)))) || c) (alternative-is (suc (suc i)) h)
       ∙ later-base (L .role (suc (suc i))) (v .laid .later (suc (suc i)) (omega arith) h)
 
-  last-no-base : isBase node all n ≡ false
+  pub last-no-base : isBase node all n ≡ false
   unfolding isBase
   last-no-base =
       ap (λ (c : Bool). (c || not (isFake (node n))) || isAlternative node all n) (ne-eqb n 1 (λ (q : n ≡ 1). omega (arith, v .laid .two)))
@@ -298,12 +297,6 @@ module _ {L : Labels} {node : ℕ → EstTime} {n : ℕ} {arcs : List Arc} {k : 
   arc-is i h e =
       let o = v .laid .each i h .next (node i .«idx_next») refl (v .closed i h e) e in
       λ z. record { from = source-is all i h (omega arith) e z; to = goal-is all (node i .«idx_next») (o .inside) (omega arith) (o .receiver) z; time = node i .«time_to_next»; distance = node i .«dist_to_next» }
-
-  pub base-there : (i : ℕ) → i < n → isBase node all i ≡ baseRole (L .role i)
-  base-there = base-is
-
-  pub no-base-last : isBase node all n ≡ false
-  no-base-last = last-no-base
 
   -- ---- the shape
 

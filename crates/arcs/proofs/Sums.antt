@@ -1,8 +1,8 @@
 -- Sums over the numbers below n: the same terms, one more term, and one term changed. The total weight of a list of arcs.
-use mathlib.Core.Path.{_≡_, refl, sym, ap, _∙_, subst}
+use mathlib.Core.Path.{_≡_, refl, subst}
 use mathlib.Core.Logic.{_⊎_, inl, inr}
 use mathlib.Core.List.{List, [], _∷_}
-use Prim.Native.Nat.{ℕ, zero, suc, _+_, _<_, _≤_}
+use Prim.Native.Nat.{ℕ, zero, suc, _+_, _<_}
 use native.Mathlib.Omega.{arith}
 use Rattle.fields.specs.Below.{sumBelow}
 use Rattle.driver.specs.Run.{Arc}

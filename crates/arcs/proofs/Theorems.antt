@@ -1,32 +1,32 @@
 -- Demand 3 for growth: of every book that the reader lets through and every lent table, the grown network has the shape, the arcs read off it are the noted ones, the two sums hold,
 -- and every noted arc is what document 01 says.
-use mathlib.Core.Path.{_≡_, refl, sym, ap, _∙_, subst}
-use mathlib.Core.Logic.{_⊎_, inl, inr}
+use mathlib.Core.Path.{_≡_, refl, sym, subst}
 use mathlib.Core.Bool.{Bool, true, false}
 use mathlib.Core.List.{List, [], _∷_}
-use Prim.Native.Nat.{ℕ, zero, suc, _+_, _<_, _≤_}
+use Prim.Native.Nat.{ℕ, _+_, _<_, _≤_}
 use native.Mathlib.Omega.{arith}
 use borrow.Author.Tests.{ltb-true}
 use lib.ListN.{length}
 use lib.Dec.{ltb}
 use Rattle.book.specs.Format.{legs}
 use Rattle.options.specs.Options.{keptOrigins}
+use Rattle.network.specs.declared.EstTime.{EstTime}
 use Rattle.network.specs.Table.{Room}
 use Rattle.insertion.specs.Insertion.{Table, at}
-use Rattle.driver.specs.Run.{Answer, refused, given, andThen, Arc, Net, memberOf}
+use Rattle.driver.specs.Run.{given, andThen, Arc, Net, memberOf}
 use Rattle.driver.specs.Growth.{Growth, firstNodes, originsOf, drive, Tail, endFakes, lastNode, Grown, startAs, grownWith, grow}
 use Rattle.arcs.specs.Arcs.{arcsRead, SameArcs}
 use Rattle.arcs.specs.Shape.{Shape}
-use Rattle.arcs.specs.Noted.{Heard}
+use Rattle.arcs.specs.Noted.{AllHeard}
 use Rattle.arcs.specs.Read.{Read}
-use Rattle.arcs.proofs.Answers.{Holds, holds-then, holds-given, All, all-so, clash}
+use Rattle.arcs.proofs.Answers.{Holds, holds-then, holds-given, All}
 use Rattle.arcs.proofs.Labels.{baseRole}
 use Rattle.arcs.proofs.Faring.{Notes, Driven}
 use Rattle.arcs.proofs.Driving.{drives}
 use Rattle.arcs.proofs.Origins.{Ready, origins-ready}
 use Rattle.arcs.proofs.Ends.{Ending, Ended, ends-keep}
 use Rattle.insertion.proofs.Puts.{RoomIn}
-use Rattle.arcs.proofs.Wholes.{Whole, Finished, last-keeps}
+use Rattle.arcs.proofs.Wholes.{Finished, last-keeps}
 use Rattle.arcs.proofs.Sheets.{whole-shape}
 use Rattle.arcs.proofs.Readings.{read-same, length-bases}
 
@@ -38,7 +38,7 @@ pub record GrownWell (b : List ℕ) (places : ℕ) (g : Grown) : Type 0 where
   pub arcs : SameArcs (g .noted) (arcsRead (at (g .table)) (g .nodes))
   pub counted : length (g .noted) ≡ g .added + g .joined + g .finished
   pub balanced : 1 + g .splits ≡ g .joined + g .finished
-  pub heard : All (Heard b (at (g .table))) (g .noted)
+  pub heard : AllHeard b (at (g .table)) (g .noted)
 
 -- the ends begin where the driver stops
 driven-ending : {b : List ℕ} {places : ℕ} (net : Net) → Driven b places net [] → Ending b places (net .noted) (1 + net .added + net .splits) (net .ends) 0 (record { table = net .table; nodes = net .nodes })
@@ -57,6 +57,10 @@ driven-ending net d = record {
     go i h p z true e = refl
     go i h p z false e = absurd (d .waits .owned i h p z e)
 
+all-heard : (b : List ℕ) (node : ℕ → EstTime) (n : ℕ) (arcs : List Arc) → All (Notes b node n) arcs → AllHeard b node arcs
+all-heard b node n [] h = tt
+all-heard b node n (arc ∷ arcs) h = (h .0 .1 .1, all-heard b node n arcs (h .1))
+
 finished-well : {b : List ℕ} {places : ℕ} (net : Net) → Driven b places net [] → (t : Tail) → Finished b places (net .noted) (1 + net .added + net .splits) t → GrownWell b places (grownWith net t)
 unfolding grownWith
 finished-well {b} {places} net d t f =
@@ -69,7 +73,7 @@ finished-well {b} {places} net d t f =
       arcs = subst (λ (n : ℕ). SameArcs (net .noted) (arcsRead (at (t .table)) n)) (sym (f .nodes)) (read-same (f .whole));
       counted = c;
       balanced = omega arith;
-      heard = all-so (Notes b (at (t .table)) (t .nodes)) (Heard b (at (t .table))) (λ x h. h .1 .1) (net .noted) (f .notes);
+      heard = all-heard b (at (t .table)) (t .nodes) (net .noted) (f .notes);
     }
 
 pub growth-well : (b : List ℕ) (places : ℕ) (t : Table) → Read b → Room (t .floats) (t .numbers) places → Holds (GrownWell b places) (grow b places t)
@@ -116,5 +120,5 @@ module _ (b : List ℕ) (places : ℕ) (t : Table) (g : Grown) (read : Read b) (
   grown-balanced = well .balanced
 
   -- an arc leads out with zeros, from the start to an origin's Arrive, or between two neighbouring events of a run, with the run's own differences
-  pub grown-heard : All (Heard b (at (g .table))) (g .noted)
+  pub grown-heard : AllHeard b (at (g .table)) (g .noted)
   grown-heard = well .heard

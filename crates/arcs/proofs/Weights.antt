@@ -1,19 +1,17 @@
 -- The noted arcs against the bases: each base that has a next, or is a finished run's event, weighs what its arc does. A step changes the weight of one base at most.
-use mathlib.Core.Path.{_≡_, refl, sym, ap, _∙_, subst}
-use mathlib.Core.Logic.{_⊎_, inl, inr}
+use mathlib.Core.Path.{_≡_, refl, sym, ap, _∙_}
 use mathlib.Core.Bool.{Bool, true, false}
-use mathlib.Core.List.{List, [], _∷_}
-use Prim.Native.Nat.{ℕ, zero, suc, _+_, _<_, _≤_}
+use mathlib.Core.List.{List}
+use Prim.Native.Nat.{ℕ, suc, _+_, _<_}
 use native.Mathlib.Omega.{arith}
 use borrow.Author.Tests.{eq-eqb, ne-eqb}
 use lib.Dec.{eqb}
-use lib.Ieee.{Float, binary64, ofBits}
+use lib.Ieee.{binary64, ofBits}
 use Rattle.network.specs.declared.EstTime.{EstTime}
 use Rattle.fields.specs.Below.{sumBelow}
 use Rattle.driver.specs.Run.{Arc, memberOf}
-use Rattle.arcs.proofs.Answers.{clash, below, either}
 use Rattle.arcs.proofs.Sums.{sum-same, sum-suc, sum-point}
-use Rattle.arcs.proofs.Labels.{Role, baseRole, Labels, Extends}
+use Rattle.arcs.proofs.Labels.{baseRole, Labels, Extends}
 
 -- the arc of a base that has a next, and of a finished run's event
 unfoldable pub arcThere : Labels → (ℕ → EstTime) → ℕ → Arc

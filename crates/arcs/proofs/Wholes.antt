@@ -1,27 +1,27 @@
 -- The grown network with its last node: what is laid before it stays, and every base has a next.
-use mathlib.Core.Path.{_≡_, refl, sym, ap, _∙_, subst}
+use mathlib.Core.Path.{_≡_, refl, sym, ap, _∙_}
 use mathlib.Core.Logic.{_⊎_, inl, inr}
 use mathlib.Core.Bool.{Bool, true, false}
-use mathlib.Core.List.{List, [], _∷_}
-use Prim.Native.Nat.{ℕ, zero, suc, _+_, _-_, _<_, _≤_}
+use mathlib.Core.List.{List, []}
+use Prim.Native.Nat.{ℕ, suc, _-_, _<_, _≤_}
 use native.Mathlib.Omega.{arith}
 use borrow.Author.Tests.{ltb-true}
-use lib.Dec.{eqb, ltb}
-use lib.Ieee.{Float, binary64, ofBits}
+use lib.Dec.{ltb}
+use lib.Ieee.{binary64, ofBits}
 use Rattle.fields.specs.Below.{sumBelow}
 use Rattle.network.specs.declared.EstTime.{EstTime}
 use Rattle.network.specs.Table.{blank, noLink}
 use Rattle.insertion.specs.Insertion.{Table, put, at}
-use Rattle.insertion.proofs.Puts.{RoomIn, put-room}
-use Rattle.driver.specs.Run.{Answer, refused, given, Arc, memberOf}
+use Rattle.driver.specs.Run.{Arc}
 use Rattle.driver.specs.Growth.{fakeNode, Tail, roomFor, lastNode}
+use Rattle.insertion.proofs.Puts.{RoomIn, put-room}
 use Rattle.arcs.specs.Arcs.{isFake}
 use Rattle.arcs.proofs.Answers.{Holds, All, either, clash}
 use Rattle.arcs.proofs.Sums.{sum-same, total}
-use Rattle.arcs.proofs.Labels.{Role, baseRole, receives, Labels, Extends}
-use Rattle.arcs.proofs.Laid.{AltOf, SplitOf, NextOf, PrevOf, EventOf, JoinOf, StopOf, Each, Laid, past-first}
+use Rattle.arcs.proofs.Labels.{baseRole, Labels, Extends}
+use Rattle.arcs.proofs.Laid.{Each, Laid}
 use Rattle.arcs.proofs.Weights.{weigh, weigh-same}
-use Rattle.arcs.proofs.Graphs.{Graph, baseCount, next-within}
+use Rattle.arcs.proofs.Graphs.{baseCount, next-within}
 use Rattle.arcs.proofs.Faring.{Notes, notes-more}
 use Rattle.arcs.proofs.Ends.{Ending}
 use Rattle.arcs.proofs.Writes.{put-same, put-other}

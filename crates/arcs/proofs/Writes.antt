@@ -1,12 +1,12 @@
 -- What stands in a table after one node is written.
-use mathlib.Core.Path.{_≡_, refl, sym, ap, _∙_, subst}
-use mathlib.Core.Logic.{_⊎_, inl, inr, _≢_}
-use Prim.Native.Nat.{ℕ, suc, _+_, _<_, _≤_}
+use mathlib.Core.Path.{_≡_, sym, ap, _∙_}
+use mathlib.Core.Logic.{_⊎_, inl, inr}
+use Prim.Native.Nat.{ℕ, suc, _<_}
 use native.Mathlib.Omega.{arith}
 use Rattle.network.specs.declared.EstTime.{EstTime}
 use Rattle.network.proofs.Nodes.{node-put-same, node-put-other}
 use Rattle.insertion.specs.Insertion.{Table, put, at}
-use Rattle.insertion.proofs.Puts.{RoomIn, put-room}
+use Rattle.insertion.proofs.Puts.{RoomIn}
 use Rattle.arcs.proofs.Answers.{either, below}
 
 pub put-same : (t : Table) (i : ℕ) (x : EstTime) (places : ℕ) → RoomIn t places → i < places → at (put t i x) i ≡ x

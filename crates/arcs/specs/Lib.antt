@@ -3,3 +3,4 @@ pub mod Shape
 pub mod Runs
 pub mod Noted
 pub mod Read
+pub mod Grown

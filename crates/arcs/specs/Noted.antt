@@ -3,12 +3,11 @@
 use mathlib.Core.Path.{_≡_}
 use mathlib.Core.Logic.{_⊎_}
 use mathlib.Core.Bool.{true}
-use mathlib.Core.List.{List}
+use mathlib.Core.List.{List, [], _∷_}
 use Prim.Native.Nat.{ℕ}
-use lib.Ieee.{Float, binary64, sub, ofBits}
+use lib.Ieee.{binary64, sub, ofBits}
 use Rattle.book.specs.Format.{originLink}
 use Rattle.options.specs.Options.{keptOrigins}
-use Rattle.network.specs.declared.EstType.{EstType}
 use Rattle.network.specs.declared.EstType.the-variants.{Arrive}
 use Rattle.network.specs.declared.EstTime.{EstTime}
 use Rattle.driver.specs.Run.{Arc, memberOf}
@@ -31,3 +30,7 @@ pub record Starts (b : List ℕ) (node : ℕ → EstTime) (arc : Arc) : Type 0 w
 
 abbrev pub Heard : List ℕ → (ℕ → EstTime) → Arc → Type 0
 Heard b node arc = LeadsOut arc ⊎ (Starts b node arc ⊎ Follows b node arc)
+
+abbrev pub AllHeard : List ℕ → (ℕ → EstTime) → List Arc → Type 0
+AllHeard b node [] = Unit
+AllHeard b node (arc ∷ arcs) = Heard b node arc × AllHeard b node arcs

@@ -1,19 +1,9 @@
--- What the reader has made sure of a book, as far as growth asks: rows 5 to 8.
+-- What the reader has made sure of a book, as far as growth asks: a part of rows 5, 7 and 8.
 use mathlib.Core.Path.{_≡_}
-use mathlib.Core.Bool.{Bool, true, false}
 use mathlib.Core.List.{List, [], _∷_}
-use Prim.Native.Nat.{ℕ, suc, _<_, _≤_}
-use Rattle.book.specs.Format.{legs, linkNext, linkNextAlt, originLink, legLink, legParent}
+use Prim.Native.Nat.{ℕ, _<_, _≤_}
+use Rattle.book.specs.Format.{legs, linkNext, linkNextAlt, legLink, legParent}
 use Rattle.options.specs.Options.{keptOrigins}
-
--- no two of these rows of origins have one link
-abbrev pub Other : List ℕ → ℕ → List ℕ → Type 0
-Other b row [] = Unit
-Other b row (x ∷ rows) = (originLink b row ≡ originLink b x → ⊥) × Other b row rows
-
-abbrev pub Apart : List ℕ → List ℕ → Type 0
-Apart b [] = Unit
-Apart b (row ∷ rows) = Other b row rows × Apart b rows
 
 -- there is one
 abbrev pub Kept : List ℕ → Type 0
@@ -23,8 +13,6 @@ Kept (row ∷ rows) = Unit
 pub record Read (b : List ℕ) : Type 0 where
   -- row 8: "no origin kept"
   pub kept : Kept (keptOrigins b)
-  -- row 6: an origin's "link repeated"
-  pub apart : Apart b (keptOrigins b)
   -- row 7: "parent not below own number", which is the row's number and one more
   pub parents : (i : ℕ) → i < legs b → legParent b i ≤ i
   -- row 5: "next = next alternative, nonzero", of the links that legs have
