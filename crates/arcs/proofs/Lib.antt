@@ -31,3 +31,4 @@ pub mod AlikeRuns
 pub mod AlikeDrives
 pub mod OneGrowth
 pub mod Books
+pub mod Examples
