@@ -17,7 +17,7 @@ use Rattle.network.specs.declared.LinkEvent.{LinkEvent}
 use Rattle.network.specs.declared.EstTime.{EstTime}
 use Rattle.network.specs.Table.{sameEvent}
 use Rattle.event_map.specs.declared.Layout.{Layout}
-use Rattle.event_map.specs.EventMap.{seenIn, nodesFrom, eventNodes, headOf, lastOf, arriveAt, clearAt, bit, Apart, Mapped, RealKind}
+use Rattle.event_map.specs.EventMap.{seenIn, nodesFrom, eventNodes, headOf, lastOf, arriveAt, clearAt, bit, Apart, Mapped, MapOnly, RealKind}
 use Rattle.event_map.proofs.Lists.{either, known, not-both, same-arrive, arrive-same, arrive-other, arrive-no-clear, clear-same, clear-other, clear-no-arrive, head-first, head-kept, last-own, has, Inside, Walked, nodes-added, nodes-passed, walk, last-inside, behind-last, behind-other, walked-none, some-first, nodes-none}
 
 -- ---- an event's kind
@@ -332,3 +332,18 @@ open-inside {c} {w} l to p b m f g = go (either (getD c (w .«links_at» + l * 8
     go : (getD c (w .«links_at» + l * 8) 0 ≡ 0) ⊎ (getD c (w .«links_at» + l * 8) 0 ≡ 0 → ⊥) → to < length c
     go (inl z) = omega (arith, f z, p .links-inside)
     go (inr z) = let h : 0 < getD c (w .«links_at» + l * 8) 0 = omega arith in omega (arith, g h, p .nodes-inside)
+
+-- ---- the other cells
+
+module _ {c : List ℕ} {w : Layout} (l : ℕ) (b : l < w .links) where
+  pub cleared-only : MapOnly c (set c (w .«links_at» + l * 8 + 2) 1) w
+  cleared-only = record { stays = λ q a n. getD-set-other c (w .«links_at» + l * 8 + 2) q 1 0 (a l 2 b (omega arith)) }
+
+  pub arrived-only : (to i : ℕ) → getD c (w .«links_at» + l * 8 + 1) 0 < w .places → (getD c (w .«links_at» + l * 8) 0 ≡ 0 → to ≡ w .«links_at» + l * 8)
+      → (0 < getD c (w .«links_at» + l * 8) 0 → to ≡ w .«nodes_at» + getD c (w .«links_at» + l * 8 + 1) 0 * 8) → MapOnly c (set (set c to i) (w .«links_at» + l * 8 + 1) i) w
+  arrived-only to i m f g = record { stays = λ q a n. two-other c to (w .«links_at» + l * 8 + 1) i i q (go q a n (either (getD c (w .«links_at» + l * 8) 0) 0)) (a l 1 b (omega arith)) }
+    where
+      go : (q : ℕ) → ((l k : ℕ) → l < w .links → k < 3 → q ≢ w .«links_at» + l * 8 + k) → ((i : ℕ) → i < w .places → q ≢ w .«nodes_at» + i * 8)
+          → (getD c (w .«links_at» + l * 8) 0 ≡ 0) ⊎ (getD c (w .«links_at» + l * 8) 0 ≡ 0 → ⊥) → q ≢ to
+      go q a n (inl z) e = a l 0 b (omega arith) (omega (arith, f z))
+      go q a n (inr z) e = let h : 0 < getD c (w .«links_at» + l * 8) 0 = omega arith in n (getD c (w .«links_at» + l * 8 + 1) 0) m (e ∙ g h)

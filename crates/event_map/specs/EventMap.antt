@@ -1,6 +1,7 @@
 -- The nodes of an event: the source's `link_event_map`, an `IntMap` from an event to a set of nodes, of which document 01 says that it becomes a search.
 -- The definition looks at every node; the work space keeps, for each link, its first and last Arrive and whether it has a Clear, and for each Arrive the next of the same link.
 use mathlib.Core.Path.{_≡_}
+use mathlib.Core.Logic.{_≢_}
 use mathlib.Core.Bool.{Bool, true, false, cond}
 use mathlib.Core.List.{List, [], _∷_}
 use Prim.Native.Nat.{ℕ, zero, suc, _+_, _-_, _*_, _≤_, _<_}
@@ -64,6 +65,10 @@ pub record Mapped (cells : List ℕ) (w : Layout) (node : ℕ → EstTime) (n : 
   pub fresh : (i : ℕ) → n ≤ i → i < w .places → getD cells (w .«nodes_at» + i * 8) 0 ≡ 0
   pub unmarked : (i : ℕ) → i < w .places → getD cells (w .«nodes_at» + i * 8 + 1) 0 ≡ 0
   pub zeroth : (e : LinkEvent) → sameEvent (node 0 .«link_event») e ≡ true → e .«est_type» ≡ Fake
+
+-- What inserting leaves as it was: each cell that is none of the map's own.
+pub record MapOnly (c c′ : List ℕ) (w : Layout) : Type 0 where
+  pub stays : (q : ℕ) → ((l k : ℕ) → l < w .links → k < 3 → q ≢ w .«links_at» + l * 8 + k) → ((i : ℕ) → i < w .places → q ≢ w .«nodes_at» + i * 8) → getD c′ q 0 ≡ getD c q 0
 
 -- an event of a link of the book, Arrive or Clear
 abbrev pub RealKind : EstType → Type 0

@@ -5,7 +5,7 @@ ghost use mathlib.Core.Path.{_≡_};
 ghost use Prim.Native.Nat.{ℕ, _+_, _*_, _≤_, _<_};
 ghost use lib.ListN.{length, getD};
 ghost use Rattle.network.specs.declared.EstTime.{EstTime};
-ghost use Rattle.event_map.specs.EventMap.{seenIn, arriveAt, clearAt, Apart, Mapped, Real};
+ghost use Rattle.event_map.specs.EventMap.{seenIn, arriveAt, clearAt, Apart, Mapped, MapOnly, Real};
 
 // Where the cells of links and of nodes stand, and how many links and places there are.
 pub struct Layout {
@@ -69,7 +69,8 @@ fn append_arrive(cells: &mut [u32], w: Layout, i: u32, link_idx: u32)
     requires { ⌜ «link_idx» < w .links ⌝ }
     requires { ⌜ getD (now cells) (w .«links_at» + «link_idx» * 8 + 1) 0 < w .places ⌝ }
     requires { ⌜ i < w .places ⌝ }
-    ensures { λ _. ⌜ ((node : ℕ → EstTime) → node i .«link_event» ≡ arriveAt «link_idx» → Mapped (now (cells .entry)) w node i → Mapped (now (cells .exit)) w node (i + 1)) ⌝ }
+    ensures mapped { λ _. ⌜ ((node : ℕ → EstTime) → node i .«link_event» ≡ arriveAt «link_idx» → Mapped (now (cells .entry)) w node i → Mapped (now (cells .exit)) w node (i + 1)) ⌝ }
+    ensures elsewhere { λ _. ⌜ MapOnly (now (cells .entry)) (now (cells .exit)) w ⌝ }
 {
     let at = w.links_at + link_idx as usize * 8;
     let open = open_cell(cells, w, link_idx);
@@ -81,7 +82,8 @@ fn append_arrive(cells: &mut [u32], w: Layout, i: u32, link_idx: u32)
 fn mark_clear(cells: &mut [u32], w: Layout, link_idx: u32)
     requires { ⌜ Apart (now cells) w ⌝ }
     requires { ⌜ «link_idx» < w .links ⌝ }
-    ensures { λ _. ⌜ ((node : ℕ → EstTime) (i : ℕ) → i < w .places → node i .«link_event» ≡ clearAt «link_idx» → Mapped (now (cells .entry)) w node i → Mapped (now (cells .exit)) w node (i + 1)) ⌝ }
+    ensures mapped { λ _. ⌜ ((node : ℕ → EstTime) (i : ℕ) → i < w .places → node i .«link_event» ≡ clearAt «link_idx» → Mapped (now (cells .entry)) w node i → Mapped (now (cells .exit)) w node (i + 1)) ⌝ }
+    ensures elsewhere { λ _. ⌜ MapOnly (now (cells .entry)) (now (cells .exit)) w ⌝ }
 {
     let at = w.links_at + link_idx as usize * 8;
     cells[at + 2] = 1;
@@ -95,7 +97,8 @@ pub fn insert(cells: &mut [u32], w: Layout, i: u32, event: LinkEvent)
     requires { ⌜ i < w .places ⌝ }
     requires { ⌜ w .places ≤ 65535 ⌝ }
     requires { ⌜ 0 < i ⌝ }
-    ensures { λ _. ⌜ ((node : ℕ → EstTime) → node i .«link_event» ≡ event → Mapped (now (cells .entry)) w node i → Mapped (now (cells .exit)) w node (i + 1)) ⌝ }
+    ensures mapped { λ _. ⌜ ((node : ℕ → EstTime) → node i .«link_event» ≡ event → Mapped (now (cells .entry)) w node i → Mapped (now (cells .exit)) w node (i + 1)) ⌝ }
+    ensures elsewhere { λ _. ⌜ MapOnly (now (cells .entry)) (now (cells .exit)) w ⌝ }
 {
     let link_idx = event.link_idx;
     let kind = event.est_type;

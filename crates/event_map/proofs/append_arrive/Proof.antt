@@ -3,7 +3,7 @@ use borrow.Author.Needs.{needs}
 use Prim.Native.Nat.{_<_}
 use native.Mathlib.Omega.{arith}
 use lib.ListN.{length, length-set}
-use Rattle.event_map.proofs.Chains.{arrived-open, open-inside}
+use Rattle.event_map.proofs.Chains.{arrived-open, open-inside, arrived-only}
 use Rattle.event_map.proofs.append_arrive.Statement.{statement}
 use Rattle.event_map.proofs.append_arrive.Tie as tie
 
@@ -23,8 +23,10 @@ slice-write-cells-2 c = simp length-set (omega (arith, c .before .before .before
 
 returns : tie.Need-returns
 returns c =
-    let a = c .before .before .before .before in
-    λ node e v. arrived-open (a .args .link-idx) (c .open-cell .result) (a .pre .0) (a .pre .1 .0) (a .pre .1 .1 .1) e v (c .open-cell .ensures .0) (c .open-cell .ensures .1)
+    let a = c .before .before .before .before in (
+      λ node e v. arrived-open (a .args .link-idx) (c .open-cell .result) (a .pre .0) (a .pre .1 .0) (a .pre .1 .1 .1) e v (c .open-cell .ensures .0) (c .open-cell .ensures .1),
+      arrived-only (a .args .link-idx) (a .pre .1 .0) (c .open-cell .result) (a .args .i) (a .pre .1 .1 .0) (c .open-cell .ensures .0) (c .open-cell .ensures .1),
+    )
 
 pub append-arrive-spec : {M : Type 1} → statement M
 append-arrive-spec =
