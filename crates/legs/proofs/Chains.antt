@@ -132,6 +132,15 @@ module _ (b : List ℕ) (len : ℕ) (h : Room b len) where
           (λ (d : j * 8 + 2 ≡ (n + 1) * 8 + 1). omega arith) (λ (d : j * 8 + 2 ≡ legParent b n * 8). omega arith) (λ (d : j * 8 + 2 ≡ (n + 1) * 8 + 2). omega arith)
           ∙ ih (le-of-suc-le-suc m)
 
+  -- behind the legs' units nothing is written
+  pub linked-rest : (n : ℕ) → n ≤ legs b → (q : ℕ) → (legs b + 1) * 8 ≤ q → getD (W n) q 0 ≡ 0
+  unfolding linked
+  linked-rest zero l q g = zero-at len q
+  linked-rest (suc n) l q g =
+      three-other (W n) ((n + 1) * 8 + 1) (legParent b n * 8) ((n + 1) * 8 + 2) (getD (W n) (legParent b n * 8) 0) (n + 1) (firstSample b (n + 1)) q
+      (λ (d : q ≡ (n + 1) * 8 + 1). omega arith) (λ (d : q ≡ legParent b n * 8). omega (arith, h .parents n l)) (λ (d : q ≡ (n + 1) * 8 + 2). omega arith)
+      ∙ linked-rest n (omega arith) q g
+
   -- so the finished cells are chained
   pub chained : Chained b (W (legs b))
   chained = record {

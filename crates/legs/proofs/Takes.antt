@@ -40,12 +40,14 @@ taken-is b p l = refl
 pub taken-missing : {f : LegSearch} (b : List ℕ) (p l : ℕ) → f ≡ legSearch b p l → f ≡ Missing → Refused 10 ≡ takenLeg b p l
 taken-missing {f} b p l e d = sym (taken-is b p l ∙ ap (takenBy b) (sym e ∙ d))
 
-pub taken-found : {f : LegSearch} (b cells : List ℕ) (p l j : ℕ) → Chained b cells → f ≡ legSearch b p l → f ≡ Found j
-    → Leg (record { number = j; first = getD cells ((j - 1) * 8 + 2) 0; end = getD cells (j * 8 + 2) 0 }) ≡ takenLeg b p l
-taken-found {f} b cells p l j c e d =
-    let n = found-in b p l j e d in
-    let x : getD cells ((j - 1) * 8 + 2) 0 ≡ firstSample b (j - 1) = c .ends (j - 1) (omega (arith, n .0, n .1)) in
-    let y : getD cells (j * 8 + 2) 0 ≡ firstSample b j = c .ends j (n .1) in
-    ap (λ (k : ℕ). Leg (record { number = j; first = k; end = getD cells (j * 8 + 2) 0 })) x
-    ∙ ap (λ (k : ℕ). Leg (record { number = j; first = firstSample b (j - 1); end = k })) y
-    ∙ sym (taken-is b p l ∙ ap (takenBy b) (sym e ∙ d))
+-- the cells of a leg say where its samples stand
+pub leg-of : {t : TakenLeg} (b cells : List ℕ) (j : ℕ) → Chained b cells → j ≤ legs b → t ≡ record { number = j; first = getD cells ((j - 1) * 8 + 2) 0; end = getD cells (j * 8 + 2) 0 }
+    → t ≡ record { number = j; first = firstSample b (j - 1); end = firstSample b j }
+leg-of {t} b cells j c h q =
+    let x : getD cells ((j - 1) * 8 + 2) 0 ≡ firstSample b (j - 1) = c .ends (j - 1) (omega arith) in
+    let y : getD cells (j * 8 + 2) 0 ≡ firstSample b j = c .ends j h in
+    q ∙ (λ i. record { number = j; first = x i; end = y i })
+
+pub taken-found : {f : LegSearch} {t : TakenLeg} (b cells : List ℕ) (p l j : ℕ) → Chained b cells → f ≡ legSearch b p l → f ≡ Found j
+    → t ≡ record { number = j; first = getD cells ((j - 1) * 8 + 2) 0; end = getD cells (j * 8 + 2) 0 } → Leg t ≡ takenLeg b p l
+taken-found {f} {t} b cells p l j c e d q = ap Leg (leg-of b cells j c (found-in b p l j e d .1) q) ∙ sym (taken-is b p l ∙ ap (takenBy b) (sym e ∙ d))

@@ -170,6 +170,18 @@ pub fn find_leg(book: &[u8], s: Sections, cells: &[u32], parent: u32, link_idx: 
     LegSearch::Missing
 }
 
+// The leg of a number: its samples begin where those of the leg before it end.
+pub fn leg_samples(cells: &[u32], number: u32) -> TakenLeg
+    requires { ⌜ 0 < number ⌝ }
+    requires { ⌜ number * 8 + 2 < length (now cells) ⌝ }
+    ensures { λ r. ⌜ r ≡ record { number = number; first = getD (now (cells .entry)) ((number - 1) * 8 + 2) 0; end = getD (now (cells .entry)) (number * 8 + 2) 0 } ⌝ }
+{
+    let at = number as usize;
+    let first = cells[(at - 1) * 8 + 2] as usize;
+    let end = cells[at * 8 + 2] as usize;
+    TakenLeg { number, first, end }
+}
+
 // The leg with this parent and link, to be taken: "The leg is found or the book is refused with 10".
 pub fn take_leg(book: &[u8], s: Sections, cells: &[u32], parent: u32, link_idx: u32) -> Taken
     requires { ⌜ Sized (now book) s ⌝ }
@@ -181,8 +193,6 @@ pub fn take_leg(book: &[u8], s: Sections, cells: &[u32], parent: u32, link_idx: 
     let LegSearch::Found(number) = found else {
         return Taken::Refused(10);
     };
-    let at = number as usize;
-    let first = cells[(at - 1) * 8 + 2] as usize;
-    let end = cells[at * 8 + 2] as usize;
-    Taken::Leg(TakenLeg { number, first, end })
+    let leg = leg_samples(cells, number);
+    Taken::Leg(leg)
 }

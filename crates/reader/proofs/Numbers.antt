@@ -3,7 +3,7 @@ use mathlib.Core.Path.{_≡_, refl, sym, ap, _∙_, subst}
 use mathlib.Core.Bool.{Bool, true, false, not, _||_}
 use mathlib.Core.List.{List, [], _∷_}
 use Prim.Native.Nat.{ℕ, zero, suc, _+_, _*_, _≤_, _<_}
-use native.Mathlib.Nat.{le-of-eq}
+use native.Mathlib.Nat.{le-of-eq, le-refl}
 use native.Mathlib.Omega.{arith}
 use lib.Dec.{T, ltb}
 use lib.ListN.{length}
@@ -13,16 +13,16 @@ use Rattle.fields.proofs.Below.{or-left, none-left, none-right}
 use Rattle.book.specs.declared.Sections.{Sections}
 use Rattle.book.specs.Format.{Sized, endOf, origins, legs}
 use Rattle.book.specs.Rows.{row1, row2, row3, row4, row5, row6, row7, badOriginPlace, originRepeats, badLeg, legRepeats, legFalls, legBegins, lowest}
-use Rattle.book.specs.Chains.{Readable, Chained, linked}
+use Rattle.book.specs.Chains.{Readable, linked}
 use Rattle.space.specs.Space.{zeros}
-use Rattle.legs.proofs.Chains.{chained}
+use Rattle.legs.proofs.Chains.{chained, linked-rest}
 use Rattle.legs.proofs.Linking.{room-of}
 use Rattle.options.specs.declared.LinkOptions.the-variants.{Kept, NoPath}
 use Rattle.options.specs.Options.{row8, keptOrigins, pick, linkOptions, Marked}
 use Rattle.reader.specs.Reader.{readNumber, Ready}
 use Rattle.reader.specs.declared.Tested.{Tested}
 use Rattle.reader.specs.declared.Tested.the-variants.{Left, Stopped}
-use Rattle.reader.specs.Stages.{Passed, TestedAs}
+use Rattle.reader.specs.Stages.{Passed, ChainedOnly, TestedAs}
 use Rattle.reader.proofs.Rooms.{counted-of}
 
 -- ---- the first of a list of rows
@@ -218,9 +218,11 @@ row7-only b f r s d e g = sym (row7-late b r f s g d ∙ ap (λ (x : Bool). r ||
     or-none true = refl
     or-none false = refl
 
--- the finished cells are chained
-pub cells-chained : {b : List ℕ} {s : Sections} (w cells : List ℕ) → Readable b s → (legs b + 1) * 8 ≤ length w → w ≡ zeros (length w) → cells ≡ linked b (legs b) w → Chained b cells
-cells-chained {b} w cells r h z e = subst (Chained b) (sym (e ∙ ap (linked b (legs b)) z)) (chained b (length w) (room-of r (length w) h))
+-- the finished cells are chained, and the others as they were
+pub cells-chained : {b : List ℕ} {s : Sections} (w cells : List ℕ) → Readable b s → (legs b + 1) * 8 ≤ length w → w ≡ zeros (length w) → cells ≡ linked b (legs b) w → ChainedOnly b cells
+cells-chained {b} w cells r h z e =
+    let o = room-of r (length w) h in
+    subst (ChainedOnly b) (sym (e ∙ ap (linked b (legs b)) z)) (record { chained = chained b (length w) o; rest = linked-rest b (length w) o (legs b) (le-refl (legs b)) })
 
 -- ---- the options' answer
 
@@ -247,8 +249,8 @@ single-none b e =
     (none-left (someBelow (legs b) (badLeg b) || someBelow (legs b) (legRepeats b)) (someBelow (legs b) (legFalls b))
     (none-left (someBelow (legs b) (badLeg b) || someBelow (legs b) (legRepeats b) || someBelow (legs b) (legFalls b)) (someBelow (legs b) (λ i. not (legBegins b i))) (sym (row7-is b) ∙ e)))
 
-pub ready-of : {b : List ℕ} {s : Sections} {n : ℕ} {cells marks : List ℕ} → Passed b s → row6 b ≡ false → row7 b ≡ false → row8 b ≡ false → Chained b cells → Marked b marks → n ≡ length (keptOrigins b) → Ready b s n cells marks
-ready-of {b} p e f g c m k = record { readable = readable-of p (single-none b f); row6 = e; row7 = f; row8 = g; chained = c; marked = m; kept = k }
+pub ready-of : {b : List ℕ} {s : Sections} {n : ℕ} {cells marks : List ℕ} → Passed b s → row6 b ≡ false → row7 b ≡ false → row8 b ≡ false → ChainedOnly b cells → Marked b marks → n ≡ length (keptOrigins b) → Ready b s n cells marks
+ready-of {b} p e f g c m k = record { readable = readable-of p (single-none b f); row6 = e; row7 = f; row8 = g; chained = c .chained; rest = c .rest; marked = m; kept = k }
 
 -- ---- the first stage's answer, once its case is known
 

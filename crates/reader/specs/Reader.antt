@@ -2,9 +2,10 @@
 use mathlib.Core.Path.{_≡_}
 use mathlib.Core.Bool.{Bool, false}
 use mathlib.Core.List.{List, [], _∷_}
-use Prim.Native.Nat.{ℕ}
-use lib.ListN.{length}
+use Prim.Native.Nat.{ℕ, _+_, _*_, _≤_}
+use lib.ListN.{length, getD}
 use Rattle.book.specs.declared.Sections.{Sections}
+use Rattle.book.specs.Format.{legs}
 use Rattle.book.specs.Rows.{row1, row2, row3, row4, row5, row6, row7, lowest}
 use Rattle.book.specs.Chains.{Readable, Chained}
 use Rattle.options.specs.Options.{row8, keptOrigins, Marked}
@@ -20,13 +21,14 @@ abbrev pub readingNumber : Reading → ℕ
 readingNumber (Accepted s n) = 0
 readingNumber (Refused n) = n
 
--- a book that was read: where its sections stand, its legs chained in the cells, the links that lead to a destination and the kept origins in the marks
+-- a book that was read: where its sections stand, its legs chained in the cells and zero behind them, the links that lead to a destination and the kept origins in the marks
 pub record Ready (b : List ℕ) (s : Sections) (n : ℕ) (cells marks : List ℕ) : Type 0 where
   pub readable : Readable b s
   pub row6 : row6 b ≡ false
   pub row7 : row7 b ≡ false
   pub row8 : row8 b ≡ false
   pub chained : Chained b cells
+  pub rest : (q : ℕ) → (legs b + 1) * 8 ≤ q → getD cells q 0 ≡ 0
   pub marked : Marked b marks
   pub kept : n ≡ length (keptOrigins b)
 

@@ -2,12 +2,13 @@
 use mathlib.Core.Path.{_≡_}
 use mathlib.Core.Bool.{Bool, false}
 use mathlib.Core.List.{List}
-use Prim.Native.Nat.{ℕ}
+use Prim.Native.Nat.{ℕ, _+_, _*_, _≤_}
+use lib.ListN.{getD}
 use Rattle.fields.specs.Below.{someBelow}
 use Rattle.book.specs.declared.Sections.{Sections}
 use Rattle.book.specs.Format.{Sized, origins, legs}
 use Rattle.book.specs.Rows.{row3, row4, row5, badOriginPlace, badLeg}
-use Rattle.book.specs.Chains.{Counted}
+use Rattle.book.specs.Chains.{Counted, Chained}
 use Rattle.reader.specs.declared.Tested.{Tested}
 use Rattle.reader.specs.declared.Tested.the-variants.{Left, Stopped}
 use Rattle.reader.specs.Reader.{readNumber}
@@ -19,6 +20,11 @@ pub record Passed (b : List ℕ) (s : Sections) : Type 0 where
   pub row4 : row4 b ≡ false
   pub row5 : row5 b ≡ false
   pub places : someBelow (origins b) (badOriginPlace b) ≡ false
+
+-- the legs are chained in the cells, and the cells behind them still zero
+pub record ChainedOnly (b cells : List ℕ) : Type 0 where
+  pub chained : Chained b cells
+  pub rest : (q : ℕ) → (legs b + 1) * 8 ≤ q → getD cells q 0 ≡ 0
 
 -- the first stage: a number, or where the sections stand and whether a single leg gives row 7
 abbrev pub TestedAs : List ℕ → ℕ → ℕ → Tested → Type 0

@@ -11,10 +11,10 @@ ghost use Rattle.fields.specs.Below.{someBelow};
 ghost use Rattle.space.specs.Space.{bytesOf, zeros, zeroFloats};
 ghost use Rattle.book.specs.Format.{Sized, links, origins, destinations, legs};
 ghost use Rattle.book.specs.Rows.{row6, row7, badLeg, lowest};
-ghost use Rattle.book.specs.Chains.{Readable, Chained};
+ghost use Rattle.book.specs.Chains.{Readable};
 ghost use Rattle.options.specs.Options.{row8};
 ghost use Rattle.reader.specs.Reader.{readNumber, readingNumber, ReadInto};
-ghost use Rattle.reader.specs.Stages.{Passed, TestedAs};
+ghost use Rattle.reader.specs.Stages.{Passed, ChainedOnly, TestedAs};
 
 // What reading found: where the sections stand and how many origins are kept, or the number of a refusal.
 pub enum Reading {
@@ -66,7 +66,7 @@ fn test_legs(book: &[u8], s: Sections, cells: &mut [u32], marks: &mut [u32]) -> 
     requires { ⌜ now cells ≡ zeros (length (now cells)) ⌝ }
     requires { ⌜ now marks ≡ zeros (length (now marks)) ⌝ }
     ensures answer { λ r. ⌜ r ≡ row7 (now (book .entry)) ⌝ }
-    ensures chained { λ r. ⌜ (r ≡ false → Chained (now (book .entry)) (now (cells .exit))) ⌝ }
+    ensures chained { λ r. ⌜ (r ≡ false → ChainedOnly (now (book .entry)) (now (cells .exit))) ⌝ }
 {
     if legs::link_legs(book, s, cells) {
         return true;
@@ -83,7 +83,7 @@ fn test_repeats(book: &[u8], s: Sections, late: bool, cells: &mut [u32], marks: 
     requires { ⌜ now cells ≡ zeros (length (now cells)) ⌝ }
     requires { ⌜ now marks ≡ zeros (length (now marks)) ⌝ }
     ensures number { λ r. ⌜ r ≡ lowest 6 (row6 (now (book .entry)) ∷ row7 (now (book .entry)) ∷ []) ⌝ }
-    ensures chained { λ r. ⌜ (r ≡ 0 → Chained (now (book .entry)) (now (cells .exit))) ⌝ }
+    ensures chained { λ r. ⌜ (r ≡ 0 → ChainedOnly (now (book .entry)) (now (cells .exit))) ⌝ }
     ensures cleared { λ r. ⌜ (r ≡ 0 → now (marks .exit) ≡ zeros (length (now (marks .exit)))) ⌝ }
 {
     if repeats::origins_repeat(book, s, marks) {

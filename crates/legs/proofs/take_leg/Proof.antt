@@ -1,25 +1,18 @@
 -- `legs::take_leg` meets its contract.
 use borrow.Author.Needs.{needs}
-use Prim.Native.Nat.{_+_, _-_, _*_}
 use native.Mathlib.Omega.{arith}
 use Rattle.legs.proofs.Takes.{found-in, taken-missing, taken-found}
 use Rattle.legs.proofs.take_leg.Statement.{statement}
 use Rattle.legs.proofs.take_leg.Tie as tie
 
-sub-first : tie.Need-sub-first
-sub-first c = let n = found-in _ _ _ _ (c .before .before .before .find-leg .ensures) (c .before .found .given .1) in omega (arith, n .0)
+leg-samples-requires : tie.Need-leg-samples-requires
+leg-samples-requires c κs =
+    let n = found-in _ _ _ _ (c .before .before .before .find-leg .ensures) (c .before .found .given .1) in
+    (omega (arith, n .0), omega (arith, n .1, c .before .before .before .before .before .before .pre .1 .0 .room))
 
-shared-slice-read-first : tie.Need-shared-slice-read-first
-shared-slice-read-first c = let n = found-in _ _ _ _ (c .before .before .before .before .find-leg .ensures) (c .before .before .found .given .1) in omega (arith, n .0, n .1, c .before .before .before .before .before .before .before .pre .1 .0 .room)
-
-cast-first : tie.Need-cast-first
-cast-first c = omega (arith, c .shared-slice-known3 .given ((c .before .before .found .given .0 .0 - 1) * 8 + 2))
-
-shared-slice-read-end : tie.Need-shared-slice-read-end
-shared-slice-read-end c = let n = found-in _ _ _ _ (c .before .before .before .before .before .find-leg .ensures) (c .before .before .before .found .given .1) in omega (arith, n .1, c .before .before .before .before .before .before .before .before .pre .1 .0 .room)
-
-cast-end : tie.Need-cast-end
-cast-end c = omega (arith, c .shared-slice-known4 .given (c .before .before .before .found .given .0 .0 * 8 + 2))
+returns-2 : tie.Need-returns-2
+returns-2 c =
+    taken-found _ _ _ _ _ (c .before .before .before .before .before .before .before .pre .1 .0) (c .before .before .before .before .find-leg .ensures) (c .before .before .found .given .1) (c .leg-samples .ensures)
 
 pub take-leg-spec : {M : Type 1} → statement M
 take-leg-spec =
@@ -29,16 +22,5 @@ take-leg-spec =
     (λ c. search needs)
     (λ c. search needs)
     (λ c. taken-missing _ _ _ (c .before .before .find-leg .ensures) (c .enum-told .given .1))
-    (λ c. search needs)
-    sub-first
-    (λ c. search needs)
-    (λ c. search needs)
-    (λ c. search needs)
-    shared-slice-read-first
-    cast-first
-    (λ c. search needs)
-    (λ c. search needs)
-    (λ c. search needs)
-    shared-slice-read-end
-    cast-end
-    (λ c. taken-found _ _ _ _ _ (c .before .before .before .before .before .before .before .before .pre .1 .0) (c .before .before .before .before .before .find-leg .ensures) (c .before .before .before .found .given .1)))
+    leg-samples-requires
+    returns-2)

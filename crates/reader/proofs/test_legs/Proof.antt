@@ -25,7 +25,7 @@ returns c = (row7-early _ _ (c .before .before .before .link-legs .ensures .0) (
 
 -- src/lib.rt:75:5
 legs-repeat-requires : tie.Need-legs-repeat-requires
-legs-repeat-requires c κs = (c .before .before .before .before .before .before .before .before .before .before .pre .0, (cells-chained _ _ (c .before .before .before .before .before .before .before .before .before .before .pre .0) (c .before .before .before .before .before .before .before .before .before .before .pre .1 .0) (c .before .before .before .before .before .before .before .before .before .before .pre .1 .1 .1 .0) (c .before .before .before .before .before .link-legs .ensures .1 (c .before .before .if1 .left)), (c .before .before .before .before .before .before .before .before .before .before .pre .1 .1 .0, c .before .before .before .before .before .before .before .before .before .before .pre .1 .1 .1 .1)))
+legs-repeat-requires c κs = (c .before .before .before .before .before .before .before .before .before .before .pre .0, (cells-chained _ _ (c .before .before .before .before .before .before .before .before .before .before .pre .0) (c .before .before .before .before .before .before .before .before .before .before .pre .1 .0) (c .before .before .before .before .before .before .before .before .before .before .pre .1 .1 .1 .0) (c .before .before .before .before .before .link-legs .ensures .1 (c .before .before .if1 .left)) .chained, (c .before .before .before .before .before .before .before .before .before .before .pre .1 .1 .0, c .before .before .before .before .before .before .before .before .before .before .pre .1 .1 .1 .1)))
 
 -- src/lib.rt:63:1
 same-length-2 : tie.Need-same-length-2
