@@ -30,6 +30,16 @@ pub place-found : (t : Table) (n : ℕ) (join : Float) (p : Place) (e : TimedEve
 unfolding soughtIn
 place-found t n join p e w h = sought-found (at t) n join e (p .«idx_prev») (soughtIn t n join p e) refl w h
 
+-- two tests for a finished run's event that agree on the nodes give one answer
+pub inserted-same : (t : Table) (n places : ℕ) (f g : ℕ → Bool) (join : Float) (p : Place) (e : TimedEvent) → Woven (at t) n → p .«idx_prev» < n → ((i : ℕ) → i < n → f i ≡ g i) → inserted t n places f join p e ≡ inserted t n places g join p e
+unfolding inserted
+inserted-same t n places f g join p e w h s = go (soughtIn t n join p e) (place-found t n join p e w h)
+  where
+    go : (x : Seek) → Found (at t) n join e x → insertedAs x n places f e ≡ insertedAs x n places g e
+    go (Match i) l = refl
+    go (Open i) l = ap (λ (b : Bool). addedAs (ltb n places) b (Added (placeAt n e) false)) (s i (l .0))
+    go (Split i) l = refl
+
 -- ---- the table after each way to insert
 
 -- m nodes in so many places, woven; the place is the last node

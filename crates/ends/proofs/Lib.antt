@@ -1,0 +1,3 @@
+pub mod Fakes
+pub mod Finishing
+pub mod Kept

@@ -1,0 +1,4 @@
+pub mod Kept
+pub mod Inserting
+pub mod Joining
+pub mod Leg
