@@ -167,6 +167,11 @@ book58-grown : summary (grow book58 40 (lent 40)) ≡ 14 ∷ 8 ∷ 1 ∷ 0 ∷ 2
 unfolding someBelow sumBelow u32At u64At billion tableFloat abs gap smaller rootDigits wholeRoot rootOf sqrt legBelow joinBits departureBits lengthBits links originsAt origins destinationsAt destinations legsAt legs samplesAt samples endOf sectionsOf linkLength linkNext linkNextAlt linkPrev linkPrevAlt originLink originOffset originFront destinationLink legLink legParent legSamples sampleTime sampleOffset sampleSpeed firstSample linkAt originAt legAt sampleFrom sampleAt samplePatterns headPatterns member originBelow stacked pushed enter search optionsOf inSet keptOrigins eventOffset clears twiceAhead speedAt timeAt passingAt badPassing sameKind sameEvent nodeAt putFloats putNumbers noLink blank courseOf firstBeyond startBack startFront start offsetNext inRange clearsNext emits turned turn passedAs passedNext walk turnsLeft passedFrom pointsPassed reachesLast badPoint someBad row11 matches seek linkedTo eventNode splitFake alternating put at addBehind splitAt placeAt soughtIn inserted insertedTable flagged entry entryAt entriesIn push alternatives strandFrom strands extended extendedAll seenIn nodesFrom eventNodes lastOf arriveAt clearAt closer closestOf closest chainEnd joinedBy joinFake joinAt joinedTable names appendedAll appended rebuilt joinStep legsTo pathOf linkOf pointLink pointOffset legCourse eventAt eventsAt legEvents fakeNode firstNodes originEvent originRun seekLeg originsOf badFinish finishedAt waiting onOver saveOver goOn isDestination finishes takeLeg drive leadsToEnd endFakes lastNode grownWith grow arcTo arcToEnd addedTo movedTo insertEvent joinedTo listed runEvent runEvents add sub mul div lt le eq ofBits round sum toBits isNan neg
 book58-grown = refl
 
+-- its noted arcs: the split's leads from the event that it splits at (3), with the run's own differences; they stand at the nodes of the reference's network, in the order of the work
+book58-noted : notedBy (grow book58 40 (lent 40)) ≡ 10 ∷ 0 ∷ 0 ∷ 0 ∷ 9 ∷ 10 ∷ 4603721981377989632 ∷ 4621256167635550208 ∷ 3 ∷ 9 ∷ 4620868613749828224 ∷ 4637089135075524608 ∷ 7 ∷ 0 ∷ 0 ∷ 0 ∷ 6 ∷ 7 ∷ 4601083365803927552 ∷ 4621256167635550208 ∷ 5 ∷ 6 ∷ 4620316501498803328 ∷ 4637089135075524608 ∷ 4 ∷ 5 ∷ 4602023272325003264 ∷ 4621256167635550208 ∷ 3 ∷ 4 ∷ 4620333544367569792 ∷ 4637089135075524608 ∷ 2 ∷ 3 ∷ 0 ∷ 4621256167635550208 ∷ 1 ∷ 2 ∷ 0 ∷ 0 ∷ []
+unfolding someBelow sumBelow u32At u64At billion tableFloat abs gap smaller rootDigits wholeRoot rootOf sqrt legBelow joinBits departureBits lengthBits links originsAt origins destinationsAt destinations legsAt legs samplesAt samples endOf sectionsOf linkLength linkNext linkNextAlt linkPrev linkPrevAlt originLink originOffset originFront destinationLink legLink legParent legSamples sampleTime sampleOffset sampleSpeed firstSample linkAt originAt legAt sampleFrom sampleAt samplePatterns headPatterns member originBelow stacked pushed enter search optionsOf inSet keptOrigins eventOffset clears twiceAhead speedAt timeAt passingAt badPassing sameKind sameEvent nodeAt putFloats putNumbers noLink blank courseOf firstBeyond startBack startFront start offsetNext inRange clearsNext emits turned turn passedAs passedNext walk turnsLeft passedFrom pointsPassed reachesLast badPoint someBad row11 matches seek linkedTo eventNode splitFake alternating put at addBehind splitAt placeAt soughtIn inserted insertedTable flagged entry entryAt entriesIn push alternatives strandFrom strands extended extendedAll seenIn nodesFrom eventNodes lastOf arriveAt clearAt closer closestOf closest chainEnd joinedBy joinFake joinAt joinedTable names appendedAll appended rebuilt joinStep legsTo pathOf linkOf pointLink pointOffset legCourse eventAt eventsAt legEvents fakeNode firstNodes originEvent originRun seekLeg originsOf badFinish finishedAt waiting onOver saveOver goOn isDestination finishes takeLeg drive leadsToEnd endFakes lastNode grownWith grow arcTo arcToEnd addedTo movedTo insertEvent joinedTo listed runEvent runEvents add sub mul div lt le eq ofBits round sum toBits isNan neg
+book58-noted = refl
+
 -- 1 splits, 1 joined, 1 finished
 abbrev book149 : List ℕ
 book149 =
