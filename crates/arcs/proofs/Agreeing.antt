@@ -9,6 +9,7 @@ use lib.Dec.{eqb}
 use lib.Ieee.{Float, lt}
 use Rattle.floats.specs.Floats.{gap}
 use Rattle.fields.specs.Below.{someBelow}
+use Rattle.fields.proofs.Below.{some-same}
 use Rattle.network.specs.declared.LinkEvent.{LinkEvent}
 use Rattle.network.specs.declared.EstTime.{EstTime}
 use Rattle.network.specs.declared.TimedEvent.{TimedEvent}
@@ -50,11 +51,6 @@ module _ (node other : ℕ → EstTime) (n : ℕ) (ag : Agree n node other) (w :
       go (suc a) l ih = ih (suc a) l
 
   -- ---- the nodes of an event
-
-  some-same : (m : ℕ) (p q : ℕ → Bool) → ((i : ℕ) → i < m → p i ≡ q i) → someBelow m p ≡ someBelow m q
-  unfolding someBelow
-  some-same zero p q f = refl
-  some-same (suc m) p q f = ap (λ (t : Bool). t || p m) (some-same m p q (λ i h. f i (omega arith))) ∙ ap (λ (t : Bool). someBelow m q || t) (f m (omega arith))
 
   seen-same : (e : LinkEvent) → seenIn other n e ≡ seenIn node n e
   unfolding seenIn

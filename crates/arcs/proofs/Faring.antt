@@ -32,6 +32,21 @@ pub record Fares (b : List ℕ) (L : Labels) (node : ℕ → EstTime) (n : ℕ) 
 abbrev pub Notes : List ℕ → (ℕ → EstTime) → ℕ → Arc → Type 0
 Notes b node n arc = (arc .from < n) × ((arc .to < n) × Heard b node arc)
 
+-- it stays so where the nodes' events do
+pub heard-still : (b : List ℕ) (n : ℕ) (node after : ℕ → EstTime) → ((i : ℕ) → i < n → after i .«link_event» ≡ node i .«link_event») → (arc : Arc) → arc .from < n → arc .to < n → Heard b node arc → Heard b after arc
+heard-still b n node after f arc p q (inl o) = inl o
+heard-still b n node after f arc p q (inr (inl o)) = inr (inl (record { row = o .row; kept = o .kept; from = o .from; to-event = f (arc .to) q ∙ o .to-event; time = o .time; distance = o .distance }))
+heard-still b n node after f arc p q (inr (inr o)) = inr (inr (record {
+  leg = o .leg;
+  before = o .before;
+  after = o .after;
+  neighbours = o .neighbours;
+  from-event = f (arc .from) p ∙ o .from-event;
+  to-event = f (arc .to) q ∙ o .to-event;
+  time = o .time;
+  distance = o .distance;
+}))
+
 module _ (b : List ℕ) {L M : Labels} {n m : ℕ} (node after : ℕ → EstTime) (x : Extends L M n) (h : n ≤ m) (f : (i : ℕ) → i < n → after i .«link_event» ≡ node i .«link_event») where
   pub fares-more : (run : Run) (es : List TimedEvent) → Fares b L node n run es → Fares b M after m run es
   fares-more run es d =
@@ -51,21 +66,7 @@ module _ (b : List ℕ) {L M : Labels} {n m : ℕ} (node after : ℕ → EstTime
   waiting-more = all-so (λ (s : Run). Fares b L node n s (legEvents b (s .leg))) (λ (s : Run). Fares b M after m s (legEvents b (s .leg))) (λ s d. fares-more s (legEvents b (s .leg)) d)
 
   pub notes-more : (arcs : List Arc) → All (Notes b node n) arcs → All (Notes b after m) arcs
-  notes-more = all-so (Notes b node n) (Notes b after m) (λ arc d. (omega (arith, d .0), (omega (arith, d .1 .0), heard arc (d .0) (d .1 .0) (d .1 .1))))
-    where
-      heard : (arc : Arc) → arc .from < n → arc .to < n → Heard b node arc → Heard b after arc
-      heard arc p q (inl o) = inl o
-      heard arc p q (inr (inl o)) = inr (inl (record { row = o .row; kept = o .kept; from = o .from; to-event = f (arc .to) q ∙ o .to-event; time = o .time; distance = o .distance }))
-      heard arc p q (inr (inr o)) = inr (inr (record {
-        leg = o .leg;
-        before = o .before;
-        after = o .after;
-        neighbours = o .neighbours;
-        from-event = f (arc .from) p ∙ o .from-event;
-        to-event = f (arc .to) q ∙ o .to-event;
-        time = o .time;
-        distance = o .distance;
-      }))
+  notes-more = all-so (Notes b node n) (Notes b after m) (λ arc d. (omega (arith, d .0), (omega (arith, d .1 .0), heard-still b n node after f arc (d .0) (d .1 .0) (d .1 .1))))
 
 -- ---- neighbours
 

@@ -17,7 +17,7 @@ use Rattle.driver.specs.Run.{given, andThen, Arc, Net, memberOf}
 use Rattle.driver.specs.Growth.{Growth, firstNodes, originsOf, drive, Tail, endFakes, lastNode, Grown, startAs, grownWith, grow}
 use Rattle.arcs.specs.Arcs.{arcsRead, SameArcs}
 use Rattle.arcs.specs.Shape.{Shape}
-use Rattle.arcs.specs.Noted.{AllHeard}
+use Rattle.arcs.specs.Noted.{AllHeard, EndsInside}
 use Rattle.arcs.specs.Read.{Read}
 use Rattle.arcs.proofs.Answers.{Holds, holds-then, holds-given, All}
 use Rattle.arcs.proofs.Labels.{baseRole}
@@ -39,6 +39,7 @@ pub record GrownWell (b : List ℕ) (places : ℕ) (g : Grown) : Type 0 where
   pub counted : length (g .noted) ≡ g .added + g .joined + g .finished
   pub balanced : 1 + g .splits ≡ g .joined + g .finished
   pub heard : AllHeard b (at (g .table)) (g .noted)
+  pub ends-inside : EndsInside (g .nodes) (g .noted)
 
 -- the ends begin where the driver stops
 driven-ending : {b : List ℕ} {places : ℕ} (net : Net) → Driven b places net [] → Ending b places (net .noted) (1 + net .added + net .splits) (net .ends) 0 (record { table = net .table; nodes = net .nodes })
@@ -61,6 +62,10 @@ all-heard : (b : List ℕ) (node : ℕ → EstTime) (n : ℕ) (arcs : List Arc) 
 all-heard b node n [] h = tt
 all-heard b node n (arc ∷ arcs) h = (h .0 .1 .1, all-heard b node n arcs (h .1))
 
+all-inside : (b : List ℕ) (node : ℕ → EstTime) (n : ℕ) (arcs : List Arc) → All (Notes b node n) arcs → EndsInside n arcs
+all-inside b node n [] h = tt
+all-inside b node n (arc ∷ arcs) h = ((h .0 .0, h .0 .1 .0), all-inside b node n arcs (h .1))
+
 finished-well : {b : List ℕ} {places : ℕ} (net : Net) → Driven b places net [] → (t : Tail) → Finished b places (net .noted) (1 + net .added + net .splits) t → GrownWell b places (grownWith net t)
 unfolding grownWith
 finished-well {b} {places} net d t f =
@@ -74,6 +79,7 @@ finished-well {b} {places} net d t f =
       counted = c;
       balanced = omega arith;
       heard = all-heard b (at (t .table)) (t .nodes) (net .noted) (f .notes);
+      ends-inside = all-inside b (at (t .table)) (t .nodes) (net .noted) (f .notes);
     }
 
 pub growth-well : (b : List ℕ) (places : ℕ) (t : Table) → Read b → Room (t .floats) (t .numbers) places → Holds (GrownWell b places) (grow b places t)

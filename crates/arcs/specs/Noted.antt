@@ -4,7 +4,7 @@ use mathlib.Core.Path.{_≡_}
 use mathlib.Core.Logic.{_⊎_}
 use mathlib.Core.Bool.{true}
 use mathlib.Core.List.{List, [], _∷_}
-use Prim.Native.Nat.{ℕ}
+use Prim.Native.Nat.{ℕ, _<_}
 use lib.Ieee.{binary64, sub, ofBits}
 use Rattle.book.specs.Format.{originLink}
 use Rattle.options.specs.Options.{keptOrigins}
@@ -34,3 +34,8 @@ Heard b node arc = LeadsOut arc ⊎ (Starts b node arc ⊎ Follows b node arc)
 abbrev pub AllHeard : List ℕ → (ℕ → EstTime) → List Arc → Type 0
 AllHeard b node [] = Unit
 AllHeard b node (arc ∷ arcs) = Heard b node arc × AllHeard b node arcs
+
+-- both ends of each arc are among the first n nodes
+abbrev pub EndsInside : ℕ → List Arc → Type 0
+EndsInside n [] = Unit
+EndsInside n (arc ∷ arcs) = ((arc .from < n) × (arc .to < n)) × EndsInside n arcs

@@ -11,7 +11,7 @@ use lib.Ieee.{Float, nan, inf, fin, binary64, lt, le, fits, ofBits, toBits, top}
 use lib.Ieee.Bits.{ofBits-toBits}
 use lib.Ieee.Scale.{finite}
 use Rattle.fields.specs.Below.{someBelow}
-use Rattle.fields.proofs.Below.{none-left, none-right, none-at, none-all, some-at}
+use Rattle.fields.proofs.Below.{none-left, none-right, none-at, none-all, some-at, some-same}
 use Rattle.floats.specs.Floats.{tableFloat, bookFloat, bookValue, Size}
 use Rattle.floats.proofs.Order.{not-lt, not-le, le-trans, size-of-bits, size-of-value}
 use Rattle.book.specs.declared.Sample.{Sample}
@@ -110,11 +110,6 @@ value-finite x f h = table-finite x (subst (λ (y : Float). tableFloat y ≡ tru
     second true q e = e
     second false q e = absurd (true≢false (sym e))
 
-some-same : (n : ℕ) (p q : ℕ → Bool) → ((i : ℕ) → p i ≡ q i) → someBelow n p ≡ someBelow n q
-unfolding someBelow
-some-same zero p q f = refl
-some-same (suc n) p q f = ap (λ (t : Bool). t || p n) (some-same n p q f) ∙ ap (λ (t : Bool). someBelow n q || t) (f n)
-
 -- ---- what rows 3, 4 and 7 leave
 
 pub record Counted (m : Movement) : Type 0 where
@@ -175,7 +170,7 @@ module _ (b : List ℕ) (offsets : List Float) (m : Movement) where
 
     falling-is : falling course ≡ (samples-fall || points-fall)
     unfolding falling courseOf offsetFalls fallsAt
-    falling-is = ap (λ (t : Bool). t || points-fall) (some-same (m .samples - 1) (λ i. fall (course .sample i) (course .sample (suc i))) (fallsAt b) same)
+    falling-is = ap (λ (t : Bool). t || points-fall) (some-same (m .samples - 1) (λ i. fall (course .sample i) (course .sample (suc i))) (fallsAt b) (λ i h. same i))
       where
         fall : Sample → Sample → Bool
         fall s t = not (lt (s .time) (t .time)) || lt (t .offset) (s .offset)

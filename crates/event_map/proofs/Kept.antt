@@ -8,6 +8,7 @@ use native.Mathlib.Omega.{arith}
 use lib.ListN.{length, getD, set}
 use lib.Seq.{getD-set-other}
 use Rattle.fields.specs.Below.{someBelow}
+use Rattle.fields.proofs.Below.{some-same}
 use Rattle.network.specs.declared.EstType.the-variants.{Fake}
 use Rattle.network.specs.declared.LinkEvent.{LinkEvent}
 use Rattle.network.specs.declared.EstTime.{EstTime}
@@ -36,14 +37,6 @@ module _ {c : List ℕ} {w : Layout} {node : ℕ → EstTime} {n : ℕ} where
       (λ l g. v .cleared l g ∙ ap bit (sym (seen-passed node (clearAt l) n (fake-none (node n .«link_event») (clearAt l) f (clear-real l)))))
 
 -- ---- nodes with the same events
-
-some-same : (n : ℕ) (p q : ℕ → Bool) → ((i : ℕ) → i < n → p i ≡ q i) → someBelow n p ≡ someBelow n q
-unfolding someBelow
-some-same zero p q h = refl
-some-same (suc n) p q h =
-    let a : someBelow n p ≡ someBelow n q = some-same n p q (λ i g. h i (omega arith)) in
-    let e : p n ≡ q n = h n (omega arith) in
-    ap (λ (t : Bool). t || p n) a ∙ ap (λ (t : Bool). someBelow n q || t) e
 
 module _ (node node′ : ℕ → EstTime) where
   nodes-same : (e : LinkEvent) (a k : ℕ) → ((i : ℕ) → i < a + k → node′ i .«link_event» ≡ node i .«link_event») → nodesFrom node e a k ≡ nodesFrom node′ e a k

@@ -85,6 +85,12 @@ none-fewer n (suc m) p h e = go (none-fewer n m p (less m n h) e) (none-at n p m
     go : someBelow m p ≡ false → p m ≡ false → (someBelow m p || p m) ≡ false
     go a b = ap (λ (x : Bool). x || p m) a ∙ b
 
+-- two tests that agree below n
+pub some-same : (n : ℕ) (p q : ℕ → Bool) → ((i : ℕ) → i < n → p i ≡ q i) → someBelow n p ≡ someBelow n q
+unfolding someBelow
+some-same zero p q h = refl
+some-same (suc n) p q h = ap (λ (t : Bool). t || p n) (some-same n p q (λ i g. h i (omega arith))) ∙ ap (λ (t : Bool). someBelow n q || t) (h n (omega arith))
+
 -- a part of the sum
 pub sum-part : (n m : ℕ) (f : ℕ → ℕ) → m ≤ n → sumBelow m f ≤ sumBelow n f
 unfolding sumBelow

@@ -12,4 +12,5 @@ pub mod ForwardKeeps
 pub mod BackwardRelinks
 pub mod BackwardKeeps
 pub mod PassesKeep
+pub mod Lent
 pub mod Sheet

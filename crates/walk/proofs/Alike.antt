@@ -8,6 +8,7 @@ use borrow.Author.Tests.{ltb-true, ltb-false}
 use lib.Dec.{ltb, eqb}
 use lib.Ieee.{Float, binary64, sub, le}
 use Rattle.fields.specs.Below.{someBelow}
+use Rattle.fields.proofs.Below.{some-same}
 use Rattle.events.specs.Event.{eventOffset, clears, passingAt}
 use Rattle.book.specs.declared.Sample.{Sample}
 use Rattle.walk.specs.declared.Heads.{Heads}
@@ -26,11 +27,6 @@ pub record Alike (c d : Course) : Type 0 where
 
 -- ---- searches
 
-some-alike : (n : ℕ) (p q : ℕ → Bool) → ((i : ℕ) → i < n → p i ≡ q i) → someBelow n p ≡ someBelow n q
-unfolding someBelow
-some-alike zero p q e = refl
-some-alike (suc n) p q e = ap (λ (t : Bool). t || p n) (some-alike n p q (λ i h. e i (omega arith))) ∙ ap (λ (t : Bool). someBelow n q || t) (e n (omega arith))
-
 first-alike : (f g : ℕ → Float) (x : Float) (k n : ℕ) → ((i : ℕ) → k ≤ i → i < k + n → f i ≡ g i) → firstBeyond f x k n ≡ firstBeyond g x k n
 unfolding firstBeyond
 first-alike f g x k zero e = refl
@@ -42,7 +38,7 @@ module _ {c d : Course} (a : Alike c d) where
   pub reaches-alike : 0 < c .points → reachesLast c ≡ reachesLast d
   unfolding reachesLast
   reaches-alike h =
-      some-alike (c .samples) (λ i. le (c .offset (c .points - 1)) (c .sample i .offset)) (λ i. le (d .offset (d .points - 1)) (d .sample i .offset)) each
+      some-same (c .samples) (λ i. le (c .offset (c .points - 1)) (c .sample i .offset)) (λ i. le (d .offset (d .points - 1)) (d .sample i .offset)) each
       ∙ ap (λ (n : ℕ). someBelow n (λ i. le (d .offset (d .points - 1)) (d .sample i .offset))) (a .samples)
     where
       each : (i : ℕ) → i < c .samples → le (c .offset (c .points - 1)) (c .sample i .offset) ≡ le (d .offset (d .points - 1)) (d .sample i .offset)
