@@ -21,7 +21,7 @@ pub enum Walked {
 }
 
 // Whether a kind is Fake.
-fn is_fake(kind: EstType) -> bool
+pub fn is_fake(kind: EstType) -> bool
     ensures { λ r. ⌜ r ≡ fakeKind kind ⌝ }
 {
     network::kind_number(kind) == 2

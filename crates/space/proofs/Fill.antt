@@ -1,39 +1,46 @@
--- A slice that is filled from the front, one store a turn: after n turns it is n copies of v and the rest of what it was.
+-- A slice that is filled from an index on, one store a turn: what lies before the turn's index is what it was up to there, and then copies of v.
 use mathlib.Core.Path.{_≡_, refl, sym, ap, subst, _∙_}
-use mathlib.Core.List.{List, [], _∷_, _++_, append-nil}
-use Prim.Native.Nat.{ℕ, zero, suc, _+_, _≤_, _<_}
-use native.Mathlib.Nat.{not-suc-le-zero, le-of-suc-le-suc}
+use mathlib.Core.List.{List, [], _∷_, _++_, append-nil, append-assoc}
+use Prim.Native.Nat.{ℕ, zero, suc, _+_, _-_, _≤_, _<_}
 use native.Mathlib.Numerals.{add-one}
 use native.Mathlib.Omega.{arith}
-use lib.ListN.{length, set, drop, replicate, length-set}
-use lib.Seq.{drop-length}
+use lib.ListN.{length, set, take, replicate, length-set, replicate-append-replicate}
+use lib.Seq.{take-all, take-suc-set}
 
 module _ {A : Type 0} where
-  -- what the slice d has become, s, after n turns
-  pub record Filled (v : A) (d : List A) (n : ℕ) (s : List A) : Type 0 where
-    pub is : s ≡ replicate n v ++ drop n d
+  -- what the slice d has become, s, when the turn for index n begins
+  pub record Filled (v : A) (d : List A) (from n : ℕ) (s : List A) : Type 0 where
+    pub is : take n s ≡ take from d ++ replicate (n - from) v
     pub sized : length s ≡ length d
-    pub within : n ≤ length d
+    pub after : from ≤ n
+    pub within : n - from ≤ length d - from
 
-  pub filled-none : (v : A) (d : List A) → Filled v d 0 d
-  filled-none v d = record { is = refl; sized = refl; within = omega arith }
-
-  fill-one : (n : ℕ) (v : A) (d : List A) → n < length d → set (replicate n v ++ drop n d) n v ≡ replicate (suc n) v ++ drop (suc n) d
-  fill-one n v [] l = absurd (not-suc-le-zero l)
-  fill-one zero v (x ∷ d) l = refl
-  fill-one (suc n) v (x ∷ d) l = ap (λ (t : List A). v ∷ t) (fill-one n v d (le-of-suc-le-suc l))
-
-  pub filled-more : {v : A} {d : List A} {n : ℕ} {s : List A} → Filled v d n s → n < length s → Filled v d (n + 1) (set s n v)
-  filled-more {v} {d} {n} {s} f l = record {
+  pub filled-none : (v : A) (d : List A) (from : ℕ) → Filled v d from from d
+  filled-none v d from = record {
     is =
-        ap (λ (t : List A). set t n v) (f .is)
-        ∙ fill-one n v d (subst (λ (k : ℕ). n < k) (f .sized) l)
-        ∙ ap (λ (k : ℕ). replicate k v ++ drop k d) (sym (add-one n));
-    sized = length-set s n v ∙ f .sized;
-    within = omega (arith, f .sized);
+        let e : from - from ≡ 0 = omega arith in
+        sym (ap (λ (k : ℕ). take from d ++ replicate k v) e ∙ append-nil (take from d));
+    sized = refl;
+    after = omega arith;
+    within = omega arith;
   }
 
-  pub filled-all : {v : A} {d : List A} {n : ℕ} {s : List A} → Filled v d n s → length s ≤ n → s ≡ replicate (length d) v
-  filled-all {v} {d} {n} {s} f l =
-      let e : n ≡ length d = omega (arith, f .sized, f .within) in
-      f .is ∙ ap (λ (k : ℕ). replicate k v ++ drop k d) e ∙ ap (λ (t : List A). replicate (length d) v ++ t) (drop-length d) ∙ append-nil (replicate (length d) v)
+  pub filled-more : {v : A} {d : List A} {from n : ℕ} {s : List A} → Filled v d from n s → n < length s → Filled v d from (n + 1) (set s n v)
+  filled-more {v} {d} {from} {n} {s} f l =
+      let e : n - from + 1 ≡ n + 1 - from = omega (arith, f .after) in
+      record {
+        is =
+            ap (λ (k : ℕ). take k (set s n v)) (add-one n)
+            ∙ take-suc-set s n v l
+            ∙ ap (λ (t : List A). t ++ v ∷ []) (f .is)
+            ∙ append-assoc (take from d) (replicate (n - from) v) (v ∷ [])
+            ∙ ap (λ (t : List A). take from d ++ t) (replicate-append-replicate (n - from) 1 v ∙ ap (λ (k : ℕ). replicate k v) e);
+        sized = length-set s n v ∙ f .sized;
+        after = omega (arith, f .after);
+        within = omega (arith, f .sized, f .after);
+      }
+
+  pub filled-all : {v : A} {d : List A} {from n : ℕ} {s : List A} → Filled v d from n s → length s ≤ n → s ≡ take from d ++ replicate (length d - from) v
+  filled-all {v} {d} {from} {n} {s} f l =
+      let e : n - from ≡ length d - from = omega (arith, f .sized, f .within) in
+      sym (take-all n s l) ∙ f .is ∙ ap (λ (k : ℕ). take from d ++ replicate k v) e

@@ -1,10 +1,12 @@
 // The lent slices: their places and units, and making them zero. Contracts: specs/Space.antt.
 ghost use mathlib.Core.Path.{_≡_};
-ghost use Prim.Native.Nat.{min};
-ghost use lib.ListN.{length};
+ghost use mathlib.Core.List.{_++_};
+ghost use Prim.Native.Nat.{_-_, min};
+ghost use lib.ListN.{length, take};
 ghost use Rattle.space.specs.Space.{placesOf, unitsOf, zeros, zeroFloats};
 
-fn smaller(a: usize, b: usize) -> usize
+// The smaller of two counts.
+pub fn smaller(a: usize, b: usize) -> usize
     ensures { λ r. ⌜ r ≡ min a b ⌝ }
 {
     if a <= b { a } else { b }
@@ -24,24 +26,38 @@ pub fn units(reals: usize, cells: usize, marks: usize) -> usize
     smaller(smaller(reals / 3, cells / 8), marks / 2)
 }
 
-// Makes a slice of numbers zero.
-pub fn clear_numbers(s: &mut [u32])
-    ensures { λ _. ⌜ now (s .exit) ≡ zeros (length (now (s .entry))) ⌝ }
+// Makes a slice of numbers zero from an index on.
+pub fn clear_numbers_from(s: &mut [u32], from: usize)
+    ensures { λ _. ⌜ now (s .exit) ≡ take from (now (s .entry)) ++ zeros (length (now (s .entry)) - from) ⌝ }
 {
-    let mut i = 0;
+    let mut i = from;
     while i < s.len() {
         s[i] = 0;
         i += 1;
     }
 }
 
-// Makes a slice of floats zero.
-pub fn clear_floats(s: &mut [f64])
-    ensures { λ _. ⌜ now (s .exit) ≡ zeroFloats (length (now (s .entry))) ⌝ }
+// Makes a slice of floats zero from an index on.
+pub fn clear_floats_from(s: &mut [f64], from: usize)
+    ensures { λ _. ⌜ now (s .exit) ≡ take from (now (s .entry)) ++ zeroFloats (length (now (s .entry)) - from) ⌝ }
 {
-    let mut i = 0;
+    let mut i = from;
     while i < s.len() {
         s[i] = 0.0;
         i += 1;
     }
+}
+
+// Makes a slice of numbers zero.
+pub fn clear_numbers(s: &mut [u32])
+    ensures { λ _. ⌜ now (s .exit) ≡ zeros (length (now (s .entry))) ⌝ }
+{
+    clear_numbers_from(s, 0)
+}
+
+// Makes a slice of floats zero.
+pub fn clear_floats(s: &mut [f64])
+    ensures { λ _. ⌜ now (s .exit) ≡ zeroFloats (length (now (s .entry))) ⌝ }
+{
+    clear_floats_from(s, 0)
 }

@@ -1,33 +1,10 @@
--- `space::clear_numbers` meets its contract: `Filled` is the loop's invariant.
-use Prim.Native.Nat.{_-_}
-use native.Mathlib.Omega.{arith}
-use lib.ListN.{length, length-set}
+-- `space::clear_numbers` meets its contract.
+use mathlib.Core.Path.{ap, _∙_}
+use native.Mathlib.Nat.{sub-zero}
+use borrow.Author.Needs.{needs}
 use Rattle.space.specs.Space.{zeros}
-use Rattle.space.proofs.Fill.{Filled, filled-none, filled-more, filled-all}
 use Rattle.space.proofs.clear_numbers.Statement.{statement}
 use Rattle.space.proofs.clear_numbers.Tie as tie
 
-abbrev Inv-loop : tie.InvT-loop
-Inv-loop s₀ i₀ s i = Filled 0 s₀ i s
-
-abbrev μ-loop : tie.MeasureT-loop
-μ-loop s₀ i₀ s i = length s - i
-
-returns : tie.Need-returns Inv-loop μ-loop
-unfolding zeros
-returns c = filled-all (c .before .loop .inv) (c .loop-test .left)
-
 pub clear-numbers-spec : {M : Type 1} → statement M
-clear-numbers-spec =
-    tie.close
-    (tie.spec
-    Inv-loop
-    μ-loop
-    (λ c. filled-none _ _)
-    (λ c. omega arith)
-    (λ c. omega arith)
-    (λ c. omega arith)
-    (λ c. simp length-set (omega arith))
-    (λ c. filled-more (c .before .loop .inv) (c .loop-test .taken))
-    (λ c. c .before .loop .inv .sized)
-    returns)
+clear-numbers-spec = tie.close (tie.spec (λ c κs. search needs) (λ c. search needs) (λ c. c .before .before .clear-numbers-from .ensures ∙ ap zeros (sub-zero _)))

@@ -1,0 +1,10 @@
+pub mod Entries
+pub mod Left
+pub mod Links
+pub mod Kept
+pub mod Relinks
+pub mod Steps
+pub mod Strands
+pub mod Settles
+pub mod Parts
+pub mod Turns

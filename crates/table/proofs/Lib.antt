@@ -1,0 +1,3 @@
+pub mod FirstRows
+pub mod Answers
+pub mod Examples

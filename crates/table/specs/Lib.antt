@@ -1,0 +1,2 @@
+pub mod TableEntry
+pub mod Parts
