@@ -1,0 +1,9 @@
+pub mod Paths
+pub mod Clearing
+pub mod Keeping
+pub mod Finishing
+pub mod GoingOn
+pub mod Choosing
+pub mod Ending
+pub mod Walking
+pub mod Turning
