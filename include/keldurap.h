@@ -27,6 +27,13 @@ uint32_t keldurap_check_book(const uint8_t *book, size_t book_len, size_t places
  * The slices and count must not overlap. A slice of no elements may have any pointer that is not null. */
 uint32_t keldurap_make_events(double train_length, const uint8_t *samples, size_t samples_len, const double *offsets, size_t offsets_len, const uint32_t *links, size_t links_len, double *floats, size_t floats_len, uint32_t *numbers, size_t numbers_len, uint32_t *count);
 
+/* Checks a node table and times it, forward and backward, from a departure. The table is lent in two slices, 4 doubles (time, time to next, distance to next,
+ * speed) and 6 numbers (next, its alternative, previous, its alternative; link; kind, 0 Arrive, 1 Clear or 2 Fake) to a node, as many nodes as both slices fill.
+ * Each node's time is checked and then overwritten. Gives 0 or the number of a refusal, 3, 4, 5, 14, 15 or 16 of docs/REFUSALS.md, and in nodes how many there are.
+ * Work space as above; row 3 asks for 36,864 + 64 * nodes bytes. Whatever it held, it is zero afterwards. What the table's slices hold past the nodes is zero
+ * afterwards; on a refusal both slices and nodes are. The slices and nodes must not overlap. A slice of no elements may have any pointer that is not null. */
+uint32_t keldurap_update_times(double *floats, size_t floats_len, uint32_t *numbers, size_t numbers_len, double departure, double *reals, size_t reals_len, uint32_t *cells, size_t cells_len, uint32_t *marks, size_t marks_len, uint32_t *nodes);
+
 #ifdef __cplusplus
 }
 #endif

@@ -53,7 +53,7 @@ const FILES: &[(&str, &str)] = &[
 ];
 
 fn main() {
-    println!("cargo:rerun-if-changed=build.rs");
+    println!("cargo:rerun-if-changed={}", concat!(env!("CARGO_MANIFEST_DIR"), "/../reference/build.rs"));
     // The published text has a part for Python, which is left out.
     println!("cargo:rustc-check-cfg=cfg(feature, values(\"pyo3\"))");
     println!("cargo:rerun-if-env-changed=KELDURAP_SHARED");

@@ -1,11 +1,14 @@
 // The entries for other languages. Each is thin: it calls the proved function of its crate and has its contract. include/keldurap.h has the C side.
 use event_maker::Made;
+use table::TimedTable;
 ghost use mathlib.Core.Path.{_≡_};
 ghost use lib.Ieee.{binary64};
 ghost use lib.ListN.{length};
 ghost use Rattle.root.specs.Root.{sqrt};
 ghost use Rattle.space.specs.Space.{bytesOf, zeros, zeroFloats};
 ghost use Rattle.reader.specs.Reader.{readNumber};
+ghost use Rattle.insertion.specs.Insertion.{Table};
+ghost use Rattle.table.specs.TableEntry.{nodesIn, tableTimes, timedAnswer, tableNumber, tableNodes, floatsAs as Table·floatsAs, numbersAs as Table·numbersAs};
 ghost use Rattle.event_maker.specs.Maker.{lentCourse, answerOf, listPlaces, madeNumber, madeCount, floatsAs, numbersAs};
 
 // The square root of x, rounded to nearest, a tie to even.
@@ -57,6 +60,38 @@ pub extern "C" fn keldurap_make_events(
         }
         Made::Refused(n) => {
             *count = 0;
+            n
+        }
+    }
+}
+
+// Checks and times a lent node table of as many nodes as both slices fill: 0 and how many there are, or the number of a refusal. What the slices hold past the nodes is zero afterwards, all of both on a refusal; the work space is zero either way.
+#[no_mangle]
+pub extern "C" fn keldurap_update_times(
+    floats: &mut [f64],
+    numbers: &mut [u32],
+    departure: f64,
+    reals: &mut [f64],
+    cells: &mut [u32],
+    marks: &mut [u32],
+    nodes: &mut u32,
+) -> u32
+    ensures number { λ r. ⌜ r ≡ tableNumber (timedAnswer (tableTimes (record { floats = now (floats .entry); numbers = now (numbers .entry) }) departure (bytesOf (length (now (reals .entry))) (length (now (cells .entry))) (length (now (marks .entry))))) (nodesIn (record { floats = now (floats .entry); numbers = now (numbers .entry) }))) ⌝ }
+    ensures nodes { λ _. ⌜ now (nodes .exit) ≡ tableNodes (timedAnswer (tableTimes (record { floats = now (floats .entry); numbers = now (numbers .entry) }) departure (bytesOf (length (now (reals .entry))) (length (now (cells .entry))) (length (now (marks .entry))))) (nodesIn (record { floats = now (floats .entry); numbers = now (numbers .entry) }))) ⌝ }
+    ensures floats { λ _. ⌜ now (floats .exit) ≡ Table·floatsAs (tableTimes (record { floats = now (floats .entry); numbers = now (numbers .entry) }) departure (bytesOf (length (now (reals .entry))) (length (now (cells .entry))) (length (now (marks .entry))))) (nodesIn (record { floats = now (floats .entry); numbers = now (numbers .entry) })) (length (now (floats .entry))) ⌝ }
+    ensures numbers { λ _. ⌜ now (numbers .exit) ≡ Table·numbersAs (tableTimes (record { floats = now (floats .entry); numbers = now (numbers .entry) }) departure (bytesOf (length (now (reals .entry))) (length (now (cells .entry))) (length (now (marks .entry))))) (nodesIn (record { floats = now (floats .entry); numbers = now (numbers .entry) })) (length (now (numbers .entry))) ⌝ }
+    ensures reals { λ _. ⌜ now (reals .exit) ≡ zeroFloats (length (now (reals .entry))) ⌝ }
+    ensures cells { λ _. ⌜ now (cells .exit) ≡ zeros (length (now (cells .entry))) ⌝ }
+    ensures marks { λ _. ⌜ now (marks .exit) ≡ zeros (length (now (marks .entry))) ⌝ }
+{
+    let timed = table::update_times(floats, numbers, departure, reals, cells, marks);
+    match timed {
+        TimedTable::Whole(n) => {
+            *nodes = n as u32;
+            0
+        }
+        TimedTable::Refused(n) => {
+            *nodes = 0;
             n
         }
     }

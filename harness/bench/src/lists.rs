@@ -25,3 +25,9 @@ pub fn even(samples: usize, points: usize) -> Vec<u8> {
 pub fn accepted(n: u64) -> Vec<Vec<u8>> {
     (0..n).map(|k| generator::events(1, k)).filter(|item| reference::events(item).starts_with(b"events")).collect()
 }
+
+/// The accepted ones of the first random tables that the comparisons use.
+pub fn accepted_tables(n: u64) -> Vec<Vec<u8>> {
+    let mut tables = generator::Tables::new(1);
+    (0..n).map(|k| tables.table(k)).filter(|item| reference::table(item).starts_with(b"nodes")).collect()
+}

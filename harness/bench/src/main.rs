@@ -1,6 +1,7 @@
 //! Times of the proved library against the reference, on the same inputs in one run.
 mod large;
 mod lists;
+mod tables;
 
 use std::hint::black_box;
 use std::time::Instant;
@@ -38,6 +39,29 @@ fn events(name: &str, items: &[Vec<u8>]) {
     println!("{name:<44} {ours:>9.3} {theirs:>9.3} {:>7.2}", ours / theirs);
 }
 
+/// Node tables: ours is the whole entry (rows 3 to 5, the checks, both passes, work space and table made zero where they have to be); the reference's is rows 4 and 5, the checks and both passes,
+/// without the count of index lookups by which the harness tells an endless walk.
+fn passes(name: &str, items: &[Vec<u8>]) {
+    let lent: Vec<_> = items.iter().map(|item| replay::tables::Lent::new(item)).collect();
+    let mut work = replay::books::Work::default();
+    work.lend(lent.iter().map(|lent| lent.asked()).max().unwrap());
+    let (mut ours, mut theirs) = (f64::INFINITY, f64::INFINITY);
+    for _ in 0..9 {
+        let (mut mine, mut other) = (0.0, 0.0);
+        for (lent, item) in lent.iter().zip(items) {
+            let mut lent = lent.clone();
+            let start = Instant::now();
+            let answer = black_box(lent.time(&mut work));
+            mine += start.elapsed().as_secs_f64() * 1e3;
+            let (time, nodes) = uncounted::time_table(item);
+            other += time.as_secs_f64() * 1e3;
+            assert_eq!(answer, (0, nodes as u32), "{name}");
+        }
+        (ours, theirs) = (ours.min(mine), theirs.min(other));
+    }
+    println!("{name:<44} {ours:>9.3} {theirs:>9.3} {:>7.2}", ours / theirs);
+}
+
 /// A root of each number, in nanoseconds a root.
 fn each_root(numbers: &[f64], root: impl Fn(f64) -> f64) -> f64 {
     let total = || numbers.iter().map(|&x| root(black_box(x))).sum::<f64>();
@@ -59,6 +83,14 @@ fn main() {
     events("65,536 points between two samples", &[lists::even(2, 65_536)]);
     events("1,000 lists of 30 samples and 6 points", &vec![lists::even(30, 6); 1_000]);
     events("accepted ones of 10,000 random lists", &lists::accepted(10_000));
+    println!("{:<44} {:>9} {:>9} {:>7}", "timing a node table", "ours, ms", "ref., ms", "ratio");
+    passes("a line of 60,000 events", &[tables::line(60_000)]);
+    for sidings in [10, 70, 700, 7_000] {
+        passes(&format!("a line of {sidings} sidings"), &[tables::sidings(sidings)]);
+    }
+    passes("1,000 runs of 58 events, an end each", &[tables::runs(1_000, 58)]);
+    passes("1,000 runs of 57 events that meet", &[tables::meeting(1_000, 57)]);
+    passes("accepted ones of 10,000 random tables", &lists::accepted_tables(10_000));
     println!("{:<44} {:>9} {:>9} {:>7}", "reading a book", "ours, ms", "ref., ms", "ratio");
     for places in [192, 65_535] {
         reading(&format!("largest, legs in a chain, {places} places"), &large::chain(), places);

@@ -66,10 +66,7 @@ pub fn grown(bytes: &[u8], places: usize, work: Option<u64>) -> Vec<u8> {
 pub fn table(item: &[u8]) -> Vec<u8> {
     answer(|out| {
         let (departure, nodes) = read_table(item)?;
-        let start = Sample { time: departure, ..Sample::default() };
-        let table = Some(nodes);
-        let orders = Orders { places: MOST_PLACES, table, ..Orders::default() };
-        let nodes = timed(run(Book::made_up(0.0, vec![start]), orders))?;
+        let nodes = timed(run_table(departure, nodes))?;
         listing::line(out, &[("nodes", nodes.len())]);
         listing::nodes(out, &nodes);
         Ok(())
@@ -103,6 +100,17 @@ pub fn time_events(item: &[u8]) -> (std::time::Duration, usize) {
     (tests + watch::making(), events.len())
 }
 
+/// How long the table entry's work takes for an accepted item, from a vector of nodes that is there: the tests of rows 4 and 5, and the published checks and passes.
+/// And how many nodes there are. For timing.
+pub fn time_table(item: &[u8]) -> (std::time::Duration, usize) {
+    let (departure, nodes) = read_table(item).unwrap();
+    let start = std::time::Instant::now();
+    assert!(nodes.iter().all(|node| floats_hold(node) && indices_hold(node, nodes.len())));
+    let tests = start.elapsed();
+    let nodes = timed(run_table(departure, nodes)).unwrap();
+    (tests + watch::passing(), nodes.len())
+}
+
 /// The bits of a float to those of its square root, NaN being 7ff8000000000000.
 pub fn root(bits: u64) -> u64 {
     // Unseen by the compiler: where this is inlined it may take the test for a NaN, and the
@@ -132,6 +140,13 @@ fn run(book: Book, orders: Orders) -> Outcome<EstTimeNet> {
         let (network, _) = make_est_times(train, book.links.as_slice(), None)?;
         Ok(network)
     })
+}
+
+/// The published function on a made-up book, whose network the table takes the place of.
+fn run_table(departure: f64, nodes: Vec<EstTime>) -> Outcome<EstTimeNet> {
+    let start = Sample { time: departure, ..Sample::default() };
+    let orders = Orders { places: MOST_PLACES, table: Some(nodes), ..Orders::default() };
+    run(Book::made_up(0.0, vec![start]), orders)
 }
 
 /// The nodes after both passes. Row 15 has two tests that the source lacks: a node never
@@ -201,6 +216,11 @@ fn node(mut row: Fields) -> Result<EstTime, u32> {
         idx_prev_alt: numbers[3],
         link_event: LinkEvent { link_idx: LinkIdx(numbers[4]), est_type },
     })
+}
+
+/// The floats of a node that is untimed.
+fn floats_hold(node: &EstTime) -> bool {
+    in_size(node.time_to_next) && in_size(node.dist_to_next) && in_size(node.speed)
 }
 
 fn indices_hold(node: &EstTime, count: usize) -> bool {

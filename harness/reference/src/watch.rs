@@ -67,6 +67,9 @@ thread_local! {
     /// When the last leg's samples were handed out, and how long its events took.
     static MOVED: Cell<Option<Instant>> = const { Cell::new(None) };
     static MAKING: Cell<Duration> = const { Cell::new(Duration::ZERO) };
+    /// When the last network was grown, and how long its checks and passes took.
+    static GROWN: Cell<Option<Instant>> = const { Cell::new(None) };
+    static PASSING: Cell<Duration> = const { Cell::new(Duration::ZERO) };
     static WATCH: RefCell<Watch> = RefCell::default();
 }
 
@@ -90,6 +93,7 @@ pub fn run<T>(orders: Orders, work: impl FnOnce() -> Result<T, Refused>) -> Outc
     WATCH.set(Watch { orders, ..Watch::default() });
     NUMBER.set(8);
     let ended = catch_unwind(AssertUnwindSafe(work));
+    PASSING.set(GROWN.take().map_or(Duration::ZERO, |grown| grown.elapsed()));
     let number = NUMBER.replace(0);
     let result = match ended {
         Ok(result) => result.map_err(|refused| refused.0),
@@ -255,6 +259,12 @@ pub fn grown(nodes: &mut Vec<EstTime>) {
     }
     watch(|watch| watch.nodes = nodes.len());
     NUMBER.set(14);
+    GROWN.set(Some(Instant::now()));
+}
+
+/// How long the checks and passes of the last network took.
+pub fn passing() -> Duration {
+    PASSING.get()
 }
 
 /// A pass makes its queue.
@@ -269,8 +279,11 @@ pub fn entry_taken() {
     STEPS.set(32 * (nodes as u64 + 8));
 }
 
-/// A node's index is looked up.
+/// A node's index is looked up. Where times are taken nothing is counted.
 pub fn step() {
+    if cfg!(feature = "uncounted") {
+        return;
+    }
     match STEPS.get() {
         0 => refuse(15),
         left => STEPS.set(left - 1),

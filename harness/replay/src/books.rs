@@ -19,9 +19,9 @@ extern "C" {
 /// Work space in its three slices, kept from call to call.
 #[derive(Default)]
 pub struct Work {
-    reals: Vec<f64>,
-    cells: Vec<u32>,
-    marks: Vec<u32>,
+    pub(crate) reals: Vec<f64>,
+    pub(crate) cells: Vec<u32>,
+    pub(crate) marks: Vec<u32>,
 }
 
 impl Work {
@@ -33,7 +33,7 @@ impl Work {
         refill(&mut self.marks, 2 * units, 0x5a5a_5a5a);
     }
 
-    fn is_zero(&self) -> bool {
+    pub(crate) fn is_zero(&self) -> bool {
         self.reals.iter().all(|x| x.to_bits() == 0) && self.cells.iter().all(|&x| x == 0) && self.marks.iter().all(|&x| x == 0)
     }
 }

@@ -1,6 +1,7 @@
 //! The event maker, driven from a stream and against both outside answers.
+use crate::stream::{self, digits};
 use std::fmt::Write as _;
-use std::io::{self, BufWriter, Read, Write};
+use std::io;
 
 extern "C" {
     fn keldurap_make_events(
@@ -95,26 +96,9 @@ impl Lent {
     }
 }
 
-/// "the 16 hexadecimal digits of its bits, closing zeros dropped, one digit kept"
-fn digits(x: f64) -> String {
-    let all = format!("{:016x}", x.to_bits());
-    let kept = all.trim_end_matches('0');
-    all[..kept.len().max(1)].to_string()
-}
-
 /// Items from standard input, each after its byte count.
 pub fn replay() -> io::Result<()> {
-    let mut input = Vec::new();
-    io::stdin().lock().read_to_end(&mut input)?;
-    let mut out = BufWriter::new(io::stdout().lock());
-    let (mut at, mut k) = (0, 0);
-    while at + 4 <= input.len() {
-        let len = u32::from_le_bytes(input[at..at + 4].try_into().unwrap()) as usize;
-        write!(out, "== {k}\n{}", Lent::new(&input[at + 4..at + 4 + len]).answer())?;
-        at += 4 + len;
-        k += 1;
-    }
-    out.flush()
+    stream::replay(|item| Lent::new(item).answer())
 }
 
 /// The first n event lists of a seed, against both outside answers. The number of differences.

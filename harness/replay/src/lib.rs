@@ -2,3 +2,5 @@
 pub mod books;
 pub mod events;
 pub mod roots;
+mod stream;
+pub mod tables;
