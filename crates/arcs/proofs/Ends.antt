@@ -26,7 +26,14 @@ use Rattle.arcs.proofs.Invariant.{Distinct}
 use Rattle.arcs.proofs.Faring.{Notes, notes-more}
 use Rattle.arcs.proofs.Writes.{put-same, put-other}
 
--- the network with these ends left
+-- every index of the first n nodes names one of them, a next one of the first m
+pub record Linked (node : ℕ → EstTime) (n m : ℕ) : Type 0 where
+  pub next : (i : ℕ) → i < n → node i .«idx_next» < m
+  pub next-alt : (i : ℕ) → i < n → node i .«idx_next_alt» < n
+  pub prev : (i : ℕ) → i < n → node i .«idx_prev» < n
+  pub prev-alt : (i : ℕ) → i < n → node i .«idx_prev_alt» < n
+
+-- the network with these ends left; the last end Fake's next is the node to come
 pub record Ending (b : List ℕ) (places : ℕ) (arcs : List Arc) (k : ℕ) (is : List ℕ) (alt : ℕ) (t : Tail) : Type 0 where
   pub labels : Labels
   pub room : RoomIn (t .table) places
@@ -36,6 +43,7 @@ pub record Ending (b : List ℕ) (places : ℕ) (arcs : List Arc) (k : ℕ) (is 
   pub closed : (i : ℕ) → i < t .nodes → baseRole (labels .role i) ≡ true → at (t .table) i .«idx_next» ≡ 0 → memberOf is i ≡ true
   pub notes : All (Notes b (at (t .table)) (t .nodes)) arcs
   pub before : 0 < alt → (alt < t .nodes) × (receives (labels .role alt) ≡ true)
+  pub linked : Linked (at (t .table)) (t .nodes) (suc (t .nodes))
 
 -- the table with one end Fake more
 abbrev endTable : ℕ → ℕ → Tail → Table
@@ -96,6 +104,10 @@ module _ {b : List ℕ} {places : ℕ} {arcs : List Arc} {k : ℕ} (i : ℕ) (is
       go (inl q) = ap (λ (m : ℕ). f (at two m)) q ∙ ap f at-end ∙ s ∙ ap (λ (m : ℕ). f (node m)) (sym q)
       go (inr q) = ap f (at-other j h q)
 
+  alt-stays : leadsToEnd (node i) n .«idx_prev_alt» ≡ node i .«idx_prev_alt»
+  unfolding leadsToEnd
+  alt-stays = refl
+
   attached : Attached node (at two) n i
   unfolding leadsToEnd fakeNode
   attached = record {
@@ -136,6 +148,37 @@ module _ {b : List ℕ} {places : ℕ} {arcs : List Arc} {k : ℕ} (i : ℕ) (is
       let e : alt ≡ a = sym (ap (λ (z : EstTime). z .«idx_prev_alt») at-new) ∙ q in
       subst (λ (j : ℕ). (j < n) × (receives (L .role j) ≡ true)) e (d .before (omega arith))
 
+  -- the end Fake's own indices, and those of the nodes before
+  more-linked : Linked (at two) (suc n) (suc (suc n))
+  unfolding fakeNode
+  more-linked = record {
+    next = λ j h. next j (below j n h) (either j i);
+    next-alt = λ j h. next-alt j (below j n h);
+    prev = λ j h. prev j (below j n h);
+    prev-alt = λ j h. prev-alt j (below j n h) (either alt 0);
+  }
+    where
+      next : (j : ℕ) → (j < n) ⊎ (j ≡ n) → (j ≡ i) ⊎ (j ≡ i → ⊥) → at two j .«idx_next» < suc (suc n)
+      next j (inr e) q = let c : at two j .«idx_next» ≡ suc n = ap (λ (m : ℕ). at two m .«idx_next») e ∙ new-fake .1 in omega arith
+      next j (inl h) (inl q) = let c : at two j .«idx_next» ≡ n = ap (λ (m : ℕ). at two m .«idx_next») q ∙ attached .here in omega arith
+      next j (inl h) (inr q) = let c = attached .other j h q in let l = d .linked .next j h in omega arith
+
+      next-alt : (j : ℕ) → (j < n) ⊎ (j ≡ n) → at two j .«idx_next_alt» < suc n
+      next-alt j (inr e) = let c : at two j .«idx_next_alt» ≡ 0 = ap (λ (m : ℕ). at two m .«idx_next_alt») e ∙ attached .new-alt in omega arith
+      next-alt j (inl h) = let c = attached .alt j h in let l = d .linked .next-alt j h in omega arith
+
+      prev : (j : ℕ) → (j < n) ⊎ (j ≡ n) → at two j .«idx_prev» < suc n
+      prev j (inr e) = let c : at two j .«idx_prev» ≡ i = ap (λ (m : ℕ). at two m .«idx_prev») e ∙ attached .new-prev in let l = inside in omega arith
+      prev j (inl h) = let c = attached .prev j h in let l = d .linked .prev j h in omega arith
+
+      named : at two n .«idx_prev_alt» ≡ alt
+      named = ap (λ (z : EstTime). z .«idx_prev_alt») at-new
+
+      prev-alt : (j : ℕ) → (j < n) ⊎ (j ≡ n) → (alt ≡ 0) ⊎ (alt ≡ 0 → ⊥) → at two j .«idx_prev_alt» < suc n
+      prev-alt j (inr e) (inl z) = let c : at two j .«idx_prev_alt» ≡ alt = ap (λ (m : ℕ). at two m .«idx_prev_alt») e ∙ named in omega arith
+      prev-alt j (inr e) (inr z) = let c : at two j .«idx_prev_alt» ≡ alt = ap (λ (m : ℕ). at two m .«idx_prev_alt») e ∙ named in let l : alt < n = d .before (omega arith) .0 in omega arith
+      prev-alt j (inl h) z = let c : at two j .«idx_prev_alt» ≡ node j .«idx_prev_alt» = column (λ (y : EstTime). y .«idx_prev_alt») alt-stays j h in let l = d .linked .prev-alt j h in omega arith
+
   end-keeps : Ending b places arcs k is n (record { table = two; nodes = suc n })
   end-keeps = record {
     labels = M;
@@ -146,6 +189,7 @@ module _ {b : List ℕ} {places : ℕ} {arcs : List Arc} {k : ℕ} (i : ℕ) (is
     closed = λ j h p z. closed j p z (below j n h) (either j i);
     notes = notes-more b node (at two) x (omega arith) (attached .happens) arcs (d .notes);
     before = λ p. (omega arith, ap receives (new-role L n stop 0 0 0));
+    linked = more-linked;
   }
     where
       ended : (j : ℕ) → memberOf is j ≡ true → (j ≡ i) ⊎ (j ≡ i → ⊥) → EndAt M (at two) (suc n) j

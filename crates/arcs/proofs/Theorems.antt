@@ -11,7 +11,7 @@ use lib.Dec.{ltb}
 use Rattle.book.specs.Format.{legs}
 use Rattle.options.specs.Options.{keptOrigins}
 use Rattle.network.specs.declared.EstTime.{EstTime}
-use Rattle.network.specs.Table.{Room}
+use Rattle.network.specs.Table.{Room, Woven}
 use Rattle.insertion.specs.Insertion.{Table, at}
 use Rattle.driver.specs.Run.{given, andThen, Arc, Net, memberOf}
 use Rattle.driver.specs.Growth.{Growth, firstNodes, originsOf, drive, Tail, endFakes, lastNode, Grown, startAs, grownWith, grow}
@@ -24,7 +24,7 @@ use Rattle.arcs.proofs.Labels.{baseRole}
 use Rattle.arcs.proofs.Faring.{Notes, Driven}
 use Rattle.arcs.proofs.Driving.{drives}
 use Rattle.arcs.proofs.Origins.{Ready, origins-ready}
-use Rattle.arcs.proofs.Ends.{Ending, Ended, ends-keep}
+use Rattle.arcs.proofs.Ends.{Linked, Ending, Ended, ends-keep}
 use Rattle.insertion.proofs.Puts.{RoomIn}
 use Rattle.arcs.proofs.Wholes.{Finished, last-keeps}
 use Rattle.arcs.proofs.Sheets.{whole-shape}
@@ -40,6 +40,8 @@ pub record GrownWell (b : List ℕ) (places : ℕ) (g : Grown) : Type 0 where
   pub balanced : 1 + g .splits ≡ g .joined + g .finished
   pub heard : AllHeard b (at (g .table)) (g .noted)
   pub ends-inside : EndsInside (g .nodes) (g .noted)
+  -- of these nodes each index names one of them
+  pub linked : Linked (at (g .table)) (g .nodes) (g .nodes)
 
 -- the ends begin where the driver stops
 driven-ending : {b : List ℕ} {places : ℕ} (net : Net) → Driven b places net [] → Ending b places (net .noted) (1 + net .added + net .splits) (net .ends) 0 (record { table = net .table; nodes = net .nodes })
@@ -52,8 +54,12 @@ driven-ending net d = record {
   closed = λ i h p z. go i h p z (memberOf (net .ends) i) refl;
   notes = d .notes;
   before = λ q. absurd (omega arith);
+  linked = record { next = λ i h. let l = w .next i h in omega arith; next-alt = w .next-alt; prev = w .prev; prev-alt = w .prev-alt };
 }
   where
+    w : Woven (at (net .table)) (net .nodes)
+    w = d .grows .body .woven
+
     go : (i : ℕ) → i < net .nodes → baseRole (d .labels .role i) ≡ true → at (net .table) i .«idx_next» ≡ 0 → (c : Bool) → memberOf (net .ends) i ≡ c → c ≡ true
     go i h p z true e = refl
     go i h p z false e = absurd (d .waits .owned i h p z e)
@@ -80,6 +86,7 @@ finished-well {b} {places} net d t f =
       balanced = omega arith;
       heard = all-heard b (at (t .table)) (t .nodes) (net .noted) (f .notes);
       ends-inside = all-inside b (at (t .table)) (t .nodes) (net .noted) (f .notes);
+      linked = f .linked;
     }
 
 pub growth-well : (b : List ℕ) (places : ℕ) (t : Table) → Read b → Room (t .floats) (t .numbers) places → Holds (GrownWell b places) (grow b places t)

@@ -16,14 +16,14 @@ use Rattle.driver.specs.Run.{Arc}
 use Rattle.driver.specs.Growth.{fakeNode, Tail, roomFor, lastNode}
 use Rattle.insertion.proofs.Puts.{RoomIn, put-room}
 use Rattle.arcs.specs.Arcs.{isFake}
-use Rattle.arcs.proofs.Answers.{Holds, All, either, clash}
+use Rattle.arcs.proofs.Answers.{Holds, All, either, clash, below}
 use Rattle.arcs.proofs.Sums.{sum-same, total}
 use Rattle.arcs.proofs.Labels.{baseRole, Labels, Extends}
 use Rattle.arcs.proofs.Laid.{Each, Laid}
 use Rattle.arcs.proofs.Weights.{weigh, weigh-same}
 use Rattle.arcs.proofs.Graphs.{baseCount, next-within}
 use Rattle.arcs.proofs.Faring.{Notes, notes-more}
-use Rattle.arcs.proofs.Ends.{Ending}
+use Rattle.arcs.proofs.Ends.{Linked, Ending}
 use Rattle.arcs.proofs.Writes.{put-same, put-other}
 
 -- what is laid in n nodes is laid wherever these are the same
@@ -77,6 +77,7 @@ pub record Finished (b : List ℕ) (places : ℕ) (arcs : List Arc) (k : ℕ) (t
   pub nodes : t .nodes ≡ suc before
   pub whole : Whole labels (at (t .table)) before arcs k
   pub notes : All (Notes b (at (t .table)) (t .nodes)) arcs
+  pub linked : Linked (at (t .table)) (t .nodes) (t .nodes)
 
 pub last-keeps : {b : List ℕ} {places : ℕ} {arcs : List Arc} {k : ℕ} (alt : ℕ) (t : Tail) → Ending b places arcs k [] alt t → Holds (Finished b places arcs k) (lastNode places t)
 unfolding lastNode fakeNode blank noLink
@@ -121,7 +122,32 @@ last-keeps {b} {places} {arcs} {k} alt t d = go (ltb (t .nodes) places) refl
         last-prev-alt = ap (λ (y : EstTime). y .«idx_prev_alt») there;
       };
       notes = notes-more b (at (t .table)) (at after) x (omega arith) (λ i h. ap (λ (y : EstTime). y .«link_event») (same i h)) arcs (d .notes);
+      linked = record {
+        next = λ i h. next i (below i n h);
+        next-alt = λ i h. next-alt i (below i n h);
+        prev = λ i h. prev i (below i n h);
+        prev-alt = λ i h. prev-alt i (below i n h);
+      };
     }
       where
         there : at after n ≡ last
         there = put-same (t .table) n last places (d .room) (ltb-true n places e)
+
+        two : 1 < n
+        two = d .graph .laid .two
+
+        next : (i : ℕ) → (i < n) ⊎ (i ≡ n) → at after i .«idx_next» < suc n
+        next i (inl h) = let c = ap (λ (y : EstTime). y .«idx_next») (same i h) in let l = d .linked .next i h in omega arith
+        next i (inr q) = let c : at after i .«idx_next» ≡ 0 = ap (λ (m : ℕ). at after m .«idx_next») q ∙ ap (λ (y : EstTime). y .«idx_next») there in omega arith
+
+        next-alt : (i : ℕ) → (i < n) ⊎ (i ≡ n) → at after i .«idx_next_alt» < suc n
+        next-alt i (inl h) = let c = ap (λ (y : EstTime). y .«idx_next_alt») (same i h) in let l = d .linked .next-alt i h in omega arith
+        next-alt i (inr q) = let c : at after i .«idx_next_alt» ≡ 0 = ap (λ (m : ℕ). at after m .«idx_next_alt») q ∙ ap (λ (y : EstTime). y .«idx_next_alt») there in omega arith
+
+        prev : (i : ℕ) → (i < n) ⊎ (i ≡ n) → at after i .«idx_prev» < suc n
+        prev i (inl h) = let c = ap (λ (y : EstTime). y .«idx_prev») (same i h) in let l = d .linked .prev i h in omega arith
+        prev i (inr q) = let c : at after i .«idx_prev» ≡ n - 1 = ap (λ (m : ℕ). at after m .«idx_prev») q ∙ ap (λ (y : EstTime). y .«idx_prev») there in omega arith
+
+        prev-alt : (i : ℕ) → (i < n) ⊎ (i ≡ n) → at after i .«idx_prev_alt» < suc n
+        prev-alt i (inl h) = let c = ap (λ (y : EstTime). y .«idx_prev_alt») (same i h) in let l = d .linked .prev-alt i h in omega arith
+        prev-alt i (inr q) = let c : at after i .«idx_prev_alt» ≡ 0 = ap (λ (m : ℕ). at after m .«idx_prev_alt») q ∙ ap (λ (y : EstTime). y .«idx_prev_alt») there in omega arith
