@@ -35,6 +35,10 @@ pub stopped : (n : ℕ) (r : Bool) (rows : List Bool) → r ≡ true → lowest 
 unfolding lowest
 stopped n r rows e = ap (λ (x : Bool). lowest n (x ∷ rows)) e
 
+-- no refusal has the number 0
+pub not-zero : (n : ℕ) → 0 < n → n ≡ 0 → ⊥
+not-zero n h e = omega arith
+
 -- ---- rows 1 and 2
 
 pub row1-no : (b : List ℕ) (s : Sections) → Sized b s → row1 b ≡ false
@@ -257,5 +261,5 @@ ready-of {b} p e f g c m k = record { readable = readable-of p (single-none b f)
 pub left-told : (b : List ℕ) (p y : ℕ) {s : Sections} {late : Bool} (t : Tested) → TestedAs b p y t → t ≡ Left s late → Passed b s × (row3 b p y ≡ false) × (late ≡ someBelow (legs b) (badLeg b))
 left-told b p y t h e = subst (TestedAs b p y) e h
 
-pub stopped-told : (b : List ℕ) (p y n : ℕ) (t : Tested) → TestedAs b p y t → t ≡ Stopped n → n ≡ readNumber b p y
+pub stopped-told : (b : List ℕ) (p y n : ℕ) (t : Tested) → TestedAs b p y t → t ≡ Stopped n → (n ≡ readNumber b p y) × (n ≡ 0 → ⊥)
 stopped-told b p y n t h e = subst (TestedAs b p y) e h

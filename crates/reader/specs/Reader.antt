@@ -32,7 +32,7 @@ pub record Ready (b : List ℕ) (s : Sections) (n : ℕ) (cells marks : List ℕ
   pub marked : Marked b marks
   pub kept : n ≡ length (keptOrigins b)
 
--- what an answer says of the cells and marks
+-- what an answer says of the cells and marks; no refusal has the number 0
 abbrev pub ReadInto : List ℕ → List ℕ → List ℕ → Reading → Type 0
 ReadInto b cells marks (Accepted s n) = Ready b s n cells marks
-ReadInto b cells marks (Refused n) = Unit
+ReadInto b cells marks (Refused n) = n ≡ 0 → ⊥

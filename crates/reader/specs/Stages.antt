@@ -28,5 +28,5 @@ pub record ChainedOnly (b cells : List ℕ) : Type 0 where
 
 -- the first stage: a number, or where the sections stand and whether a single leg gives row 7
 abbrev pub TestedAs : List ℕ → ℕ → ℕ → Tested → Type 0
-TestedAs b places bytes (Stopped n) = n ≡ readNumber b places bytes
+TestedAs b places bytes (Stopped n) = (n ≡ readNumber b places bytes) × (n ≡ 0 → ⊥)
 TestedAs b places bytes (Left s late) = Passed b s × (row3 b places bytes ≡ false) × (late ≡ someBelow (legs b) (badLeg b))

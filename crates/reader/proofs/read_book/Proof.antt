@@ -42,7 +42,8 @@ read-rest-requires c κs =
 -- src/lib.rt:134:1
 returns : tie.Need-returns
 returns c =
-    (stopped-told _ _ _ _ (c .before .before .before .test-rows .result) (c .before .before .before .test-rows .ensures) (c .before .t .given .1) ∙ number-capped _ _ _ _ _ _ _ (c .before .before .before .before .before .units .ensures) (c .before .before .before .before .work-bytes .ensures), tt)
+    let t = stopped-told _ _ _ _ (c .before .before .before .test-rows .result) (c .before .before .before .test-rows .ensures) (c .before .t .given .1) in
+    (t .0 ∙ number-capped _ _ _ _ _ _ _ (c .before .before .before .before .before .units .ensures) (c .before .before .before .before .work-bytes .ensures), t .1)
 
 -- src/lib.rt:134:1
 same-length : tie.Need-same-length

@@ -1,7 +1,7 @@
 -- `reader::read_rest` meets its contract.
 use mathlib.Core.Path.{_≡_, sym, ap, _∙_}
 use native.Mathlib.Omega.{arith}
-use Rattle.reader.proofs.Numbers.{three-early, three-late, three-8, three-none, readable-of, no-path, some-path, ready-of}
+use Rattle.reader.proofs.Numbers.{not-zero, three-early, three-late, three-8, three-none, readable-of, no-path, some-path, ready-of}
 use borrow.Author.Needs.{needs}
 use Rattle.reader.proofs.read_rest.Statement.{statement}
 use Rattle.reader.proofs.read_rest.Tie as tie
@@ -33,7 +33,7 @@ same-length-2 c = search needs
 
 -- src/lib.rt:117:9
 returns : tie.Need-returns
-returns c = (three-early _ _ _ _ (c .before .before .before .before .before .test-repeats .ensures .0) (c .if1 .taken), tt)
+returns c = (three-early _ _ _ _ (c .before .before .before .before .before .test-repeats .ensures .0) (c .if1 .taken), not-zero _ (c .if1 .taken))
 
 -- src/lib.rt:119:9
 get-link-idx-options-requires : tie.Need-get-link-idx-options-requires
@@ -75,7 +75,7 @@ same-length-4 c = search needs
 returns-2 : tie.Need-returns-2
 returns-2 c =
     let z = three-late _ _ _ (c .before .before .before .before .before .before .before .before .before .before .before .test-repeats .ensures .0) (omega arith) in
-    (three-8 _ _ _ (z .0) (z .1) (no-path _ (sym (c .before .before .before .before .get-link-idx-options .ensures .0) ∙ c .enum-told .given .1)), tt)
+    (three-8 _ _ _ (z .0) (z .1) (no-path _ (sym (c .before .before .before .before .get-link-idx-options .ensures .0) ∙ c .enum-told .given .1)), not-zero 8 (omega arith))
 
 -- src/lib.rt:105:1
 same-length-5 : tie.Need-same-length-5
