@@ -7,10 +7,10 @@ use native.Mathlib.Omega.{arith}
 use lib.Dec.{eqb}
 use lib.Ieee.{Float}
 use Rattle.network.specs.declared.EstTime.{EstTime}
-use Rattle.network.proofs.Nodes.{node-put-same, node-put-other}
-use Rattle.insertion.specs.Insertion.{Table, put, at}
-use Rattle.insertion.proofs.Puts.{RoomIn, put-room}
-use Rattle.passes.specs.Net.{withTime, withNext, withPrev, withArc, setTime, setNext, setPrev, setArc}
+use Rattle.insertion.specs.Insertion.{Table, at}
+use Rattle.insertion.proofs.Puts.{RoomIn}
+use Rattle.passes.specs.Net.{setTime, setNext, setPrev, setArc}
+use Rattle.passes.proofs.Fields.{Changed, withTime, withNext, withPrev, withArc, time-set as set-time, next-set as set-next, prev-set as set-prev, arc-set as set-arc}
 use Rattle.arcs.specs.Arcs.{isBase}
 use Rattle.arcs.specs.Shape.{Shape}
 use Rattle.pass_arcs.proofs.Sets.{sets, sets-at, sets-other}
@@ -19,26 +19,22 @@ use Rattle.pass_arcs.proofs.Frames.{frameOf, SameFrames}
 use Rattle.pass_arcs.proofs.Swapped.{Swapped}
 use Rattle.pass_arcs.proofs.Arcs.{Held, heldOf}
 
--- ---- one node written
+-- ---- one node changed
 
-module _ (t : Table) (places : ℕ) (r : RoomIn t places) (i : ℕ) (h : i < places) (y : EstTime) where
-  put-sets : {A : Type 0} (g : EstTime → A) (x : ℕ) → g (at (put t i y) x) ≡ sets i (g y) (λ (j : ℕ). g (at t j)) x
-  unfolding put at
-  put-sets g x = go (same-or-not x i)
+module _ {t s : Table} {places i : ℕ} {y : EstTime} (c : Changed t s places i y) where
+  change-sets : {A : Type 0} (g : EstTime → A) (x : ℕ) → g (at s x) ≡ sets i (g y) (λ (j : ℕ). g (at t j)) x
+  change-sets g x = go (same-or-not x i)
     where
-      go : (x ≡ i) ⊎ (x ≢ i) → g (at (put t i y) x) ≡ sets i (g y) (λ (j : ℕ). g (at t j)) x
-      go (inl e) =
-          ap g (ap (at (put t i y)) e ∙ node-put-same (t .floats) (t .numbers) i y (omega (arith, r .floats)) (omega (arith, r .numbers)))
-          ∙ sym (sets-at i (g y) (λ (j : ℕ). g (at t j)))
-          ∙ sym (ap (sets i (g y) (λ (j : ℕ). g (at t j))) e)
-      go (inr o) = ap g (node-put-other (t .floats) (t .numbers) i y x o) ∙ sym (sets-other i (g y) (λ (j : ℕ). g (at t j)) x o)
+      go : (x ≡ i) ⊎ (x ≢ i) → g (at s x) ≡ sets i (g y) (λ (j : ℕ). g (at t j)) x
+      go (inl e) = ap g (ap (at s) e ∙ c .here) ∙ sym (sets-at i (g y) (λ (j : ℕ). g (at t j))) ∙ sym (ap (sets i (g y) (λ (j : ℕ). g (at t j))) e)
+      go (inr o) = ap g (c .other x o) ∙ sym (sets-other i (g y) (λ (j : ℕ). g (at t j)) x o)
 
-  put-keeps : {A : Type 0} (g : EstTime → A) → g y ≡ g (at t i) → (x : ℕ) → g (at (put t i y) x) ≡ g (at t x)
-  put-keeps g e x = go (same-or-not x i)
+  change-keeps : {A : Type 0} (g : EstTime → A) → g y ≡ g (at t i) → (x : ℕ) → g (at s x) ≡ g (at t x)
+  change-keeps g e x = go (same-or-not x i)
     where
-      go : (x ≡ i) ⊎ (x ≢ i) → g (at (put t i y) x) ≡ g (at t x)
-      go (inl o) = put-sets g x ∙ ap (sets i (g y) (λ (j : ℕ). g (at t j))) o ∙ sets-at i (g y) (λ (j : ℕ). g (at t j)) ∙ e ∙ ap (λ (j : ℕ). g (at t j)) (sym o)
-      go (inr o) = put-sets g x ∙ sets-other i (g y) (λ (j : ℕ). g (at t j)) x o
+      go : (x ≡ i) ⊎ (x ≢ i) → g (at s x) ≡ g (at t x)
+      go (inl o) = ap g (ap (at s) o ∙ c .here) ∙ e ∙ ap (λ (j : ℕ). g (at t j)) (sym o)
+      go (inr o) = ap g (c .other x o)
 
 -- ---- a table seen beside a network
 
@@ -58,51 +54,51 @@ module _ {node : ℕ → EstTime} {t : Table} {places : ℕ} {next prev : ℕ �
   sets-like y f g e x = ap (cond (eqb x i) y) (e x)
 
   pub time-set : (x : Float) → View node (setTime t i x) places next prev held
-  unfolding setTime withTime
+  unfolding withTime
   time-set x =
-      let y = withTime (at t i) x in
+      let c = set-time t places (v .room) i h x in
       record {
-        room = put-room t i y places (v .room);
-        frames = λ z. put-keeps t places (v .room) i h y frameOf refl z ∙ v .frames z;
-        nexts = λ z. put-keeps t places (v .room) i h y (λ (w : EstTime). w .«idx_next») refl z ∙ v .nexts z;
-        prevs = λ z. put-keeps t places (v .room) i h y (λ (w : EstTime). w .«idx_prev») refl z ∙ v .prevs z;
-        helds = λ z. put-keeps t places (v .room) i h y heldOf refl z ∙ v .helds z;
+        room = c .room;
+        frames = λ z. change-keeps c frameOf refl z ∙ v .frames z;
+        nexts = λ z. change-keeps c (λ (w : EstTime). w .«idx_next») refl z ∙ v .nexts z;
+        prevs = λ z. change-keeps c (λ (w : EstTime). w .«idx_prev») refl z ∙ v .prevs z;
+        helds = λ z. change-keeps c heldOf refl z ∙ v .helds z;
       }
 
   pub next-set : (k : ℕ) → View node (setNext t i k) places (sets i k next) prev held
-  unfolding setNext withNext
+  unfolding withNext
   next-set k =
-      let y = withNext (at t i) k in
+      let c = set-next t places (v .room) i h k in
       record {
-        room = put-room t i y places (v .room);
-        frames = λ z. put-keeps t places (v .room) i h y frameOf refl z ∙ v .frames z;
-        nexts = λ z. put-sets t places (v .room) i h y (λ (w : EstTime). w .«idx_next») z ∙ sets-like k (λ (j : ℕ). at t j .«idx_next») next (v .nexts) z;
-        prevs = λ z. put-keeps t places (v .room) i h y (λ (w : EstTime). w .«idx_prev») refl z ∙ v .prevs z;
-        helds = λ z. put-keeps t places (v .room) i h y heldOf refl z ∙ v .helds z;
+        room = c .room;
+        frames = λ z. change-keeps c frameOf refl z ∙ v .frames z;
+        nexts = λ z. change-sets c (λ (w : EstTime). w .«idx_next») z ∙ sets-like k (λ (j : ℕ). at t j .«idx_next») next (v .nexts) z;
+        prevs = λ z. change-keeps c (λ (w : EstTime). w .«idx_prev») refl z ∙ v .prevs z;
+        helds = λ z. change-keeps c heldOf refl z ∙ v .helds z;
       }
 
   pub prev-set : (k : ℕ) → View node (setPrev t i k) places next (sets i k prev) held
-  unfolding setPrev withPrev
+  unfolding withPrev
   prev-set k =
-      let y = withPrev (at t i) k in
+      let c = set-prev t places (v .room) i h k in
       record {
-        room = put-room t i y places (v .room);
-        frames = λ z. put-keeps t places (v .room) i h y frameOf refl z ∙ v .frames z;
-        nexts = λ z. put-keeps t places (v .room) i h y (λ (w : EstTime). w .«idx_next») refl z ∙ v .nexts z;
-        prevs = λ z. put-sets t places (v .room) i h y (λ (w : EstTime). w .«idx_prev») z ∙ sets-like k (λ (j : ℕ). at t j .«idx_prev») prev (v .prevs) z;
-        helds = λ z. put-keeps t places (v .room) i h y heldOf refl z ∙ v .helds z;
+        room = c .room;
+        frames = λ z. change-keeps c frameOf refl z ∙ v .frames z;
+        nexts = λ z. change-keeps c (λ (w : EstTime). w .«idx_next») refl z ∙ v .nexts z;
+        prevs = λ z. change-sets c (λ (w : EstTime). w .«idx_prev») z ∙ sets-like k (λ (j : ℕ). at t j .«idx_prev») prev (v .prevs) z;
+        helds = λ z. change-keeps c heldOf refl z ∙ v .helds z;
       }
 
   pub held-set : (a : Held) (x y : Float) → record { time = x; distance = y } ≡ a → View node (setArc t i x y) places next prev (sets i a held)
-  unfolding setArc withArc
+  unfolding withArc
   held-set a x y e =
-      let w = withArc (at t i) x y in
+      let c = set-arc t places (v .room) i h x y in
       record {
-        room = put-room t i w places (v .room);
-        frames = λ z. put-keeps t places (v .room) i h w frameOf refl z ∙ v .frames z;
-        nexts = λ z. put-keeps t places (v .room) i h w (λ (q : EstTime). q .«idx_next») refl z ∙ v .nexts z;
-        prevs = λ z. put-keeps t places (v .room) i h w (λ (q : EstTime). q .«idx_prev») refl z ∙ v .prevs z;
-        helds = λ z. put-sets t places (v .room) i h w heldOf z ∙ ap (λ (q : Held). sets i q (λ (j : ℕ). heldOf (at t j)) z) e ∙ sets-like a (λ (j : ℕ). heldOf (at t j)) held (v .helds) z;
+        room = c .room;
+        frames = λ z. change-keeps c frameOf refl z ∙ v .frames z;
+        nexts = λ z. change-keeps c (λ (q : EstTime). q .«idx_next») refl z ∙ v .nexts z;
+        prevs = λ z. change-keeps c (λ (q : EstTime). q .«idx_prev») refl z ∙ v .prevs z;
+        helds = λ z. change-sets c heldOf z ∙ ap (λ (q : Held). sets i q (λ (j : ℕ). heldOf (at t j)) z) e ∙ sets-like a (λ (j : ℕ). heldOf (at t j)) held (v .helds) z;
       }
 
 -- ---- exchanges of receivers

@@ -1,3 +1,4 @@
+pub mod Fields
 mod Sets
 mod Held
 mod Walking

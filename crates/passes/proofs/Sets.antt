@@ -4,9 +4,9 @@ use mathlib.Core.List.{List}
 use Prim.Native.Nat.{ℕ, _<_}
 use lib.Ieee.{Float}
 use Rattle.network.specs.declared.EstTime.{EstTime}
-use Rattle.network.specs.Table.{nodeAt, putFloats, putNumbers}
-use Rattle.insertion.specs.Insertion.{Table, put, at}
-use Rattle.passes.specs.Net.{withTime, withNext, withPrev, withArc, setTime, setNext, setPrev, setArc}
+use Rattle.network.specs.Table.{nodeAt}
+use Rattle.insertion.specs.Insertion.{Table, at}
+use Rattle.passes.specs.Net.{setTime, setNext, setPrev, setArc}
 use Rattle.passes.specs.Forward.{swapJoin}
 use Rattle.passes.specs.Backward.{swapSplit}
 use Rattle.passes.specs.Walks.{Inside}
@@ -16,28 +16,6 @@ tableOf fs us = record { floats = fs; numbers = us }
 
 abbrev pub Holds : List Float → List ℕ → Table → Type 0
 Holds fs us t = (fs ≡ t .floats) × (us ≡ t .numbers)
-
--- a node loaded, changed and stored
-module _ (fs gs : List Float) (us vs : List ℕ) (i : ℕ) (x y : EstTime) where
-  stored : (w : EstTime → EstTime) → x ≡ nodeAt fs us i → y ≡ w x → gs ≡ putFloats fs i y → vs ≡ putNumbers us i y → Holds gs vs (put (tableOf fs us) i (w (at (tableOf fs us) i)))
-  unfolding put at
-  stored w l e f u = (f ∙ ap (putFloats fs i) (e ∙ ap w l), u ∙ ap (putNumbers us i) (e ∙ ap w l))
-
-  pub time-stored : (time : Float) → x ≡ nodeAt fs us i → y ≡ withTime x time → gs ≡ putFloats fs i y → vs ≡ putNumbers us i y → Holds gs vs (setTime (tableOf fs us) i time)
-  unfolding setTime
-  time-stored time = stored (λ z. withTime z time)
-
-  pub next-stored : (k : ℕ) → x ≡ nodeAt fs us i → y ≡ withNext x k → gs ≡ putFloats fs i y → vs ≡ putNumbers us i y → Holds gs vs (setNext (tableOf fs us) i k)
-  unfolding setNext
-  next-stored k = stored (λ z. withNext z k)
-
-  pub prev-stored : (k : ℕ) → x ≡ nodeAt fs us i → y ≡ withPrev x k → gs ≡ putFloats fs i y → vs ≡ putNumbers us i y → Holds gs vs (setPrev (tableOf fs us) i k)
-  unfolding setPrev
-  prev-stored k = stored (λ z. withPrev z k)
-
-  pub arc-stored : (time distance : Float) → x ≡ nodeAt fs us i → y ≡ withArc x time distance → gs ≡ putFloats fs i y → vs ≡ putNumbers us i y → Holds gs vs (setArc (tableOf fs us) i time distance)
-  unfolding setArc
-  arc-stored time distance = stored (λ z. withArc z time distance)
 
 -- ---- a node's neighbours are nodes
 

@@ -1,12 +1,12 @@
 -- What both passes work on: the table's nodes, of which some fields are set, and for each node whether it is timed (forward) or passed (backward): "Untimed is a state of its own."
 use mathlib.Core.Bool.{Bool, true, false, _||_}
 use mathlib.Core.List.{List}
-use Prim.Native.Nat.{ℕ}
+use Prim.Native.Nat.{ℕ, _+_, _*_}
 use lib.Dec.{eqb}
+use lib.ListN.{set}
 use lib.Ieee.{Float}
 use Rattle.queue.specs.declared.Entry.{Entry}
-use Rattle.network.specs.declared.EstTime.{EstTime}
-use Rattle.insertion.specs.Insertion.{Table, put, at}
+use Rattle.insertion.specs.Insertion.{Table}
 
 -- an answer that may be refusal 15
 pub data Answer (A : Type 0) : Type 0 where
@@ -31,32 +31,20 @@ pub record Pass : Type 0 where
 unfoldable pub alsoDone : (ℕ → Bool) → ℕ → ℕ → Bool
 alsoDone done i k = eqb k i || done k
 
--- ---- one field of a node set
+-- ---- one field of a node set, where network's specs/Table.antt has it: node i has 4 floats from 4 i and 6 numbers from 6 i on
 
-unfoldable pub withTime : EstTime → Float → EstTime
-withTime n x = record { «time_sched» = x; «time_to_next» = n .«time_to_next»; «dist_to_next» = n .«dist_to_next»; speed = n .speed; «idx_next» = n .«idx_next»; «idx_next_alt» = n .«idx_next_alt»; «idx_prev» = n .«idx_prev»; «idx_prev_alt» = n .«idx_prev_alt»; «link_event» = n .«link_event» }
-
-unfoldable pub withNext : EstTime → ℕ → EstTime
-withNext n i = record { «time_sched» = n .«time_sched»; «time_to_next» = n .«time_to_next»; «dist_to_next» = n .«dist_to_next»; speed = n .speed; «idx_next» = i; «idx_next_alt» = n .«idx_next_alt»; «idx_prev» = n .«idx_prev»; «idx_prev_alt» = n .«idx_prev_alt»; «link_event» = n .«link_event» }
-
-unfoldable pub withPrev : EstTime → ℕ → EstTime
-withPrev n i = record { «time_sched» = n .«time_sched»; «time_to_next» = n .«time_to_next»; «dist_to_next» = n .«dist_to_next»; speed = n .speed; «idx_next» = n .«idx_next»; «idx_next_alt» = n .«idx_next_alt»; «idx_prev» = i; «idx_prev_alt» = n .«idx_prev_alt»; «link_event» = n .«link_event» }
-
-unfoldable pub withArc : EstTime → Float → Float → EstTime
-withArc n time distance = record { «time_sched» = n .«time_sched»; «time_to_next» = time; «dist_to_next» = distance; speed = n .speed; «idx_next» = n .«idx_next»; «idx_next_alt» = n .«idx_next_alt»; «idx_prev» = n .«idx_prev»; «idx_prev_alt» = n .«idx_prev_alt»; «link_event» = n .«link_event» }
-
+-- the time
 unfoldable pub setTime : Table → ℕ → Float → Table
-unfolding put at withTime
-setTime t i x = put t i (withTime (at t i) x)
+setTime t i x = record { floats = set (t .floats) (i * 4) x; numbers = t .numbers }
 
-unfoldable pub setNext : Table → ℕ → ℕ → Table
-unfolding put at withNext
-setNext t i k = put t i (withNext (at t i) k)
-
-unfoldable pub setPrev : Table → ℕ → ℕ → Table
-unfolding put at withPrev
-setPrev t i k = put t i (withPrev (at t i) k)
-
+-- time and distance to next
 unfoldable pub setArc : Table → ℕ → Float → Float → Table
-unfolding put at withArc
-setArc t i time distance = put t i (withArc (at t i) time distance)
+setArc t i time distance = record { floats = set (set (t .floats) (i * 4 + 1) time) (i * 4 + 2) distance; numbers = t .numbers }
+
+-- the next
+unfoldable pub setNext : Table → ℕ → ℕ → Table
+setNext t i k = record { floats = t .floats; numbers = set (t .numbers) (i * 6) k }
+
+-- the previous
+unfoldable pub setPrev : Table → ℕ → ℕ → Table
+setPrev t i k = record { floats = t .floats; numbers = set (t .numbers) (i * 6 + 2) k }

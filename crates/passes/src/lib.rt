@@ -9,7 +9,7 @@ ghost use lib.ListN.{length};
 ghost use Rattle.network.specs.Table.{nodeAt, Room};
 ghost use Rattle.insertion.specs.Insertion.{Table, flagged};
 ghost use Rattle.passes.specs.Checks.{fakeKind, differ, prevHolds, nextHolds, fakeHolds, prevLeads, nextLeads, nodeHolds, row14};
-ghost use Rattle.passes.specs.Net.{Pass, withTime, withNext, withPrev, withArc, setTime, setNext, setPrev, setArc};
+ghost use Rattle.passes.specs.Net.{Pass, setTime, setNext, setPrev, setArc};
 ghost use Rattle.passes.specs.Forward.{swapJoin, isPassable as Forward·isPassable};
 ghost use Rattle.passes.specs.Backward.{swapSplit, isPassable as Backward·isPassable};
 ghost use Rattle.passes.specs.Walks.{Inside, passOf, ForwardWalk, BackwardWalk};
@@ -93,78 +93,6 @@ pub fn checks_fail(floats: &[f64], numbers: &[u32], n: usize) -> bool
     false
 }
 
-// A node with another time.
-fn with_time(node: EstTime, time: f64) -> EstTime
-    ensures { λ r. ⌜ r ≡ withTime node time ⌝ }
-{
-    let link_event = node.link_event;
-    EstTime {
-        time_sched: time,
-        time_to_next: node.time_to_next,
-        dist_to_next: node.dist_to_next,
-        speed: node.speed,
-        idx_next: node.idx_next,
-        idx_next_alt: node.idx_next_alt,
-        idx_prev: node.idx_prev,
-        idx_prev_alt: node.idx_prev_alt,
-        link_event,
-    }
-}
-
-// A node with another next.
-fn with_next(node: EstTime, next: u32) -> EstTime
-    ensures { λ r. ⌜ r ≡ withNext node next ⌝ }
-{
-    let link_event = node.link_event;
-    EstTime {
-        time_sched: node.time_sched,
-        time_to_next: node.time_to_next,
-        dist_to_next: node.dist_to_next,
-        speed: node.speed,
-        idx_next: next,
-        idx_next_alt: node.idx_next_alt,
-        idx_prev: node.idx_prev,
-        idx_prev_alt: node.idx_prev_alt,
-        link_event,
-    }
-}
-
-// A node with another previous.
-fn with_prev(node: EstTime, prev: u32) -> EstTime
-    ensures { λ r. ⌜ r ≡ withPrev node prev ⌝ }
-{
-    let link_event = node.link_event;
-    EstTime {
-        time_sched: node.time_sched,
-        time_to_next: node.time_to_next,
-        dist_to_next: node.dist_to_next,
-        speed: node.speed,
-        idx_next: node.idx_next,
-        idx_next_alt: node.idx_next_alt,
-        idx_prev: prev,
-        idx_prev_alt: node.idx_prev_alt,
-        link_event,
-    }
-}
-
-// A node with another time and distance to next.
-fn with_arc(node: EstTime, time: f64, distance: f64) -> EstTime
-    ensures { λ r. ⌜ r ≡ withArc node time distance ⌝ }
-{
-    let link_event = node.link_event;
-    EstTime {
-        time_sched: node.time_sched,
-        time_to_next: time,
-        dist_to_next: distance,
-        speed: node.speed,
-        idx_next: node.idx_next,
-        idx_next_alt: node.idx_next_alt,
-        idx_prev: node.idx_prev,
-        idx_prev_alt: node.idx_prev_alt,
-        link_event,
-    }
-}
-
 // Sets a node's time.
 pub fn set_time(floats: &mut [f64], numbers: &mut [u32], i: usize, time: f64)
     requires { ⌜ i * 4 + 4 ≤ length (now floats) ⌝ }
@@ -172,9 +100,7 @@ pub fn set_time(floats: &mut [f64], numbers: &mut [u32], i: usize, time: f64)
     ensures floats { λ _. ⌜ now (floats .exit) ≡ setTime (record { floats = now (floats .entry); numbers = now (numbers .entry) }) i time .floats ⌝ }
     ensures numbers { λ _. ⌜ now (numbers .exit) ≡ setTime (record { floats = now (floats .entry); numbers = now (numbers .entry) }) i time .numbers ⌝ }
 {
-    let node = network::load(floats, numbers, i);
-    let changed = with_time(node, time);
-    network::store(floats, numbers, i, changed);
+    floats[i * 4] = time;
 }
 
 // Sets a node's next.
@@ -184,9 +110,7 @@ fn set_next(floats: &mut [f64], numbers: &mut [u32], i: usize, next: u32)
     ensures floats { λ _. ⌜ now (floats .exit) ≡ setNext (record { floats = now (floats .entry); numbers = now (numbers .entry) }) i next .floats ⌝ }
     ensures numbers { λ _. ⌜ now (numbers .exit) ≡ setNext (record { floats = now (floats .entry); numbers = now (numbers .entry) }) i next .numbers ⌝ }
 {
-    let node = network::load(floats, numbers, i);
-    let changed = with_next(node, next);
-    network::store(floats, numbers, i, changed);
+    numbers[i * 6] = next;
 }
 
 // Sets a node's previous.
@@ -196,9 +120,7 @@ fn set_prev(floats: &mut [f64], numbers: &mut [u32], i: usize, prev: u32)
     ensures floats { λ _. ⌜ now (floats .exit) ≡ setPrev (record { floats = now (floats .entry); numbers = now (numbers .entry) }) i prev .floats ⌝ }
     ensures numbers { λ _. ⌜ now (numbers .exit) ≡ setPrev (record { floats = now (floats .entry); numbers = now (numbers .entry) }) i prev .numbers ⌝ }
 {
-    let node = network::load(floats, numbers, i);
-    let changed = with_prev(node, prev);
-    network::store(floats, numbers, i, changed);
+    numbers[i * 6 + 2] = prev;
 }
 
 // Sets a node's time and distance to next.
@@ -208,9 +130,9 @@ fn set_arc(floats: &mut [f64], numbers: &mut [u32], i: usize, time: f64, distanc
     ensures floats { λ _. ⌜ now (floats .exit) ≡ setArc (record { floats = now (floats .entry); numbers = now (numbers .entry) }) i time distance .floats ⌝ }
     ensures numbers { λ _. ⌜ now (numbers .exit) ≡ setArc (record { floats = now (floats .entry); numbers = now (numbers .entry) }) i time distance .numbers ⌝ }
 {
-    let node = network::load(floats, numbers, i);
-    let changed = with_arc(node, time, distance);
-    network::store(floats, numbers, i, changed);
+    let f = i * 4;
+    floats[f + 1] = time;
+    floats[f + 2] = distance;
 }
 
 // Forward: whether a node is a Fake whose next is neither timed nor the end.

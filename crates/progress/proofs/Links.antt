@@ -6,12 +6,13 @@ use Prim.Native.Nat.{ℕ, _<_}
 use lib.Ieee.{Float}
 use Rattle.network.specs.declared.EstTime.{EstTime}
 use Rattle.network.specs.Table.{nodeAt}
-use Rattle.insertion.specs.Insertion.{Table, put, at}
-use Rattle.insertion.proofs.Puts.{RoomIn, put-room, put-same, put-other}
-use Rattle.passes.specs.Net.{withTime, withNext, withPrev, withArc, setTime, setNext, setPrev, setArc}
+use Rattle.insertion.specs.Insertion.{Table, at}
+use Rattle.insertion.proofs.Puts.{RoomIn}
+use Rattle.passes.specs.Net.{setTime, setNext, setPrev, setArc}
 use Rattle.passes.specs.Walks.{Inside}
 use Rattle.passes.specs.Forward.{swapJoin}
 use Rattle.passes.specs.Backward.{swapSplit}
+use Rattle.passes.proofs.Fields.{Changed, withTime, withNext, withPrev, withArc, time-set, next-set, prev-set, arc-set}
 use Rattle.progress.proofs.Left.{same-or-not}
 
 -- a table with room for n nodes whose indices name nodes
@@ -34,36 +35,45 @@ names-in fs us {n} v i h x e =
 names-at : (t : Table) (n : ℕ) → Linked t n → (i : ℕ) → i < n → Names (at t i) n
 names-at t n v i h = record { next = v .inside .next i h; next-alt = v .inside .next-alt i h; prev = v .inside .prev i h; prev-alt = v .inside .prev-alt i h }
 
-module _ (t : Table) (n : ℕ) (v : Linked t n) (i : ℕ) (h : i < n) where
-  linked-put : (x : EstTime) → Names x n → Linked (put t i x) n
-  linked-put x w = record {
-    room = put-room t i x n (v .room);
-    inside = record { next = λ k l. names k l .next; next-alt = λ k l. names k l .next-alt; prev = λ k l. names k l .prev; prev-alt = λ k l. names k l .prev-alt };
-  }
-    where
-      names : (k : ℕ) → k < n → Names (at (put t i x) k) n
-      names k l =
-          ⊎-elim
-          (λ (o : k ≡ i). subst (λ (y : EstTime). Names y n) (sym (ap (at (put t i x)) o ∙ put-same t i x n (v .room) h)) w)
-          (λ (o : k ≢ i). subst (λ (y : EstTime). Names y n) (sym (put-other t i x k o)) (names-at t n v k l))
-          (same-or-not k i)
+-- a node changed whose indices then name nodes
+linked-change : (t s : Table) (n i : ℕ) (x : EstTime) → Linked t n → Changed t s n i x → Names x n → Linked s n
+linked-change t s n i x v c w = record {
+  room = c .room;
+  inside = record { next = λ k l. names k l .next; next-alt = λ k l. names k l .next-alt; prev = λ k l. names k l .prev; prev-alt = λ k l. names k l .prev-alt };
+}
+  where
+    names : (k : ℕ) → k < n → Names (at s k) n
+    names k l =
+        ⊎-elim
+        (λ (o : k ≡ i). subst (λ (y : EstTime). Names y n) (sym (ap (at s) o ∙ c .here)) w)
+        (λ (o : k ≢ i). subst (λ (y : EstTime). Names y n) (sym (c .other k o)) (names-at t n v k l))
+        (same-or-not k i)
 
+module _ (t : Table) (n : ℕ) (v : Linked t n) (i : ℕ) (h : i < n) where
   pub linked-time : (time : Float) → Linked (setTime t i time) n
-  unfolding setTime withTime
-  linked-time time = let w = names-at t n v i h in linked-put (withTime (at t i) time) (record { next = w .next; next-alt = w .next-alt; prev = w .prev; prev-alt = w .prev-alt })
+  unfolding withTime
+  linked-time time =
+      let w = names-at t n v i h in
+      linked-change t (setTime t i time) n i (withTime (at t i) time) v (time-set t n (v .room) i h time) (record { next = w .next; next-alt = w .next-alt; prev = w .prev; prev-alt = w .prev-alt })
 
   linked-arc : (time distance : Float) → Linked (setArc t i time distance) n
-  unfolding setArc withArc
-  linked-arc time distance = let w = names-at t n v i h in linked-put (withArc (at t i) time distance) (record { next = w .next; next-alt = w .next-alt; prev = w .prev; prev-alt = w .prev-alt })
+  unfolding withArc
+  linked-arc time distance =
+      let w = names-at t n v i h in
+      linked-change t (setArc t i time distance) n i (withArc (at t i) time distance) v (arc-set t n (v .room) i h time distance) (record { next = w .next; next-alt = w .next-alt; prev = w .prev; prev-alt = w .prev-alt })
 
   module _ (k : ℕ) (l : k < n) where
     linked-next : Linked (setNext t i k) n
-    unfolding setNext withNext
-    linked-next = let w = names-at t n v i h in linked-put (withNext (at t i) k) (record { next = l; next-alt = w .next-alt; prev = w .prev; prev-alt = w .prev-alt })
+    unfolding withNext
+    linked-next =
+        let w = names-at t n v i h in
+        linked-change t (setNext t i k) n i (withNext (at t i) k) v (next-set t n (v .room) i h k) (record { next = l; next-alt = w .next-alt; prev = w .prev; prev-alt = w .prev-alt })
 
     linked-prev : Linked (setPrev t i k) n
-    unfolding setPrev withPrev
-    linked-prev = let w = names-at t n v i h in linked-put (withPrev (at t i) k) (record { next = w .next; next-alt = w .next-alt; prev = l; prev-alt = w .prev-alt })
+    unfolding withPrev
+    linked-prev =
+        let w = names-at t n v i h in
+        linked-change t (setPrev t i k) n i (withPrev (at t i) k) v (prev-set t n (v .room) i h k) (record { next = w .next; next-alt = w .next-alt; prev = l; prev-alt = w .prev-alt })
 
 -- ---- the swaps
 

@@ -1,11 +1,15 @@
 -- `passes::set_arc` meets its contract.
+use mathlib.Core.Path.{refl}
 use borrow.Author.Needs.{needs}
-use Rattle.passes.proofs.Sets.{arc-stored}
+use native.Mathlib.Omega.{arith}
+use lib.ListN.{length-set}
+use Rattle.passes.specs.Net.{setArc}
 use Rattle.passes.proofs.set_arc.Statement.{statement}
 use Rattle.passes.proofs.set_arc.Tie as tie
 
 returns : tie.Need-returns
-returns c = arc-stored _ _ _ _ _ _ _ _ _ (c .before .before .before .before .before .before .before .before .load .ensures) (c .before .before .before .before .before .before .before .with-arc .ensures) (c .before .before .before .before .store .ensures .0) (c .before .before .before .before .store .ensures .1)
+unfolding setArc
+returns c = (refl, refl)
 
 pub set-arc-spec : {M : Type 1} → statement M
-set-arc-spec = tie.close (tie.spec (λ c κs. search needs) (λ c κs. search needs) (λ c κs. search needs) (λ c. search needs) (λ c. search needs) returns)
+set-arc-spec = tie.close (tie.spec (λ c. search needs) (λ c. search needs) (λ c. search needs) (λ c. search needs) (λ c. search needs) (λ c. search needs) (λ c. simp length-set (omega arith)) (λ c. search needs) returns)
