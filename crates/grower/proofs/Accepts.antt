@@ -98,6 +98,10 @@ pub places-most : (f n : ℕ) → placesOf f n ≤ 65535
 unfolding placesOf
 places-most f n = omega arith
 
+pub places-fit : (f n : ℕ) → (placesOf f n * 4 ≤ f) × (placesOf f n * 6 ≤ n)
+unfolding placesOf
+places-fit f n = (omega arith, omega arith)
+
 pub enough-of : (b : List ℕ) (f n r c m : ℕ) → Passes b (placesOf f n) (bytesOf r c m) → Enough b (placesOf f n) r c m
 unfolding bytesOf
 enough-of b f n r c m p = enough-units b (placesOf f n) (unitsOf r c m) r c m (places-most f n) refl (enough b (placesOf f n) (bytesOf r c m) (p .three))

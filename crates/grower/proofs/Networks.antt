@@ -1,7 +1,7 @@
 -- The answer of rows 1 to 13, and what an accepted network is: growth on a table that was zero.
 use mathlib.Core.Path.{_≡_, refl, sym, ap, _∙_, subst}
 use mathlib.Core.List.{List, _++_}
-use Prim.Native.Nat.{ℕ, zero, suc, _-_, _*_, _≤_, min, _/_}
+use Prim.Native.Nat.{ℕ, zero, suc, _-_, _*_, _≤_}
 use native.Mathlib.Nat.{sub-zero}
 use native.Mathlib.Omega.{arith}
 use lib.ListN.{length, take}
@@ -20,7 +20,7 @@ use Rattle.growth.specs.Grower.{WholeAs, GrownAs}
 use Rattle.arcs.specs.Read.{Read}
 use Rattle.arcs.proofs.Theorems.{GrownWell, well}
 use Rattle.grower.specs.Network.{zeroTable, unless, network, counted, grownNodes, floatsAs, numbersAs}
-use Rattle.grower.proofs.Accepts.{Passes, passes-of, read-of, places-most}
+use Rattle.grower.proofs.Accepts.{Passes, passes-of, read-of, places-most, places-fit}
 
 pub floats-length : (n : ℕ) → length (zeroFloats n) ≡ n
 unfolding zeroFloats
@@ -59,8 +59,8 @@ module _ (b : List ℕ) (f n bytes : ℕ) where
       go (suc k) d q = let z : _≡_ {A = ℕ} 0 1 = cc in absurd (omega arith)
 
   pub zero-room : Room (zeroTable f n .floats) (zeroTable f n .numbers) (placesOf f n)
-  unfolding zeroTable placesOf
-  zero-room = record { floats = omega (arith, floats-length f); numbers = omega (arith, zeros-length n); most = omega arith }
+  unfolding zeroTable
+  zero-room = let h = places-fit f n in record { floats = omega (arith, h .0, floats-length f); numbers = omega (arith, h .1, zeros-length n); most = places-most f n }
 
   pub record Sound (g : Grown) : Type 0 where
     pub passes : Passes b (placesOf f n) bytes

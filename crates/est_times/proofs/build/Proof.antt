@@ -1,0 +1,50 @@
+-- `est_times::build` meets its contract.
+use native.Mathlib.Omega.{arith}
+use borrow.Author.Needs.{needs}
+use Rattle.space.proofs.Zeros.{zeros-again}
+use Rattle.est_times.proofs.Stages.{built-refused, whole-told, ripe, built-whole}
+use Rattle.est_times.proofs.build.Statement.{statement}
+use Rattle.est_times.proofs.build.Tie as tie
+
+returns : tie.Need-returns
+returns c = built-refused _ _ _ _ _ _ (c .before .before .before .before .before .before .before .before .before .before .before .before .before .read-and-grow .result) (c .before .before .before .before .before .before .before .before .before .before .before .before .before .read-and-grow .ensures) (c .before .enum-told .given .1) _ (c .number-of .ensures) _ _
+
+departure-of-requires : tie.Need-departure-of-requires
+departure-of-requires c κs =
+    let r = ripe _ _ _ _ _ _ _ _ _ _ _ _ _ (whole-told _ _ _ _ _ _ (c .before .before .before .before .before .before .before .before .before .before .before .before .before .before .before .before .before .read-and-grow .result) (c .before .before .before .before .before .before .before .before .before .before .before .before .before .before .before .before .before .read-and-grow .ensures) _ (c .before .before .before .before .before .grown .given .1)) in
+    (r .head, r .float)
+
+run-passes-requires : tie.Need-run-passes-requires
+run-passes-requires c κs =
+    let k = c .before .before .before .before .before .before .before .before .before .before .before .before .before .before .before .before .before .before .before .before .before .before .before .read-and-grow .kept in
+    let r = ripe _ _ _ _ _ _ _ _ _ _ _ _ _ (whole-told _ _ _ _ _ _ (c .before .before .before .before .before .before .before .before .before .before .before .before .before .before .before .before .before .before .before .before .before .before .before .read-and-grow .result) (c .before .before .before .before .before .before .before .before .before .before .before .before .before .before .before .before .before .before .before .before .before .before .before .read-and-grow .ensures) _ (c .before .before .before .before .before .before .before .before .before .before .before .grown .given .1)) in
+    (r .room, (r .inside, (r .three, (omega (arith, r .reals, k), (omega (arith, r .cells, k, c .before .before .before .before .before .before .before .before .clear-numbers .kept), (omega (arith, r .marks, k), zeros-again _ _ (c .before .before .before .before .before .before .before .before .clear-numbers .ensures)))))))
+
+returns-2 : tie.Need-returns-2
+returns-2 c =
+    built-whole _ _ _ _ _ _ _ (whole-told _ _ _ _ _ _ (c .before .before .before .before .before .before .before .before .before .before .before .before .before .before .before .before .before .before .before .before .before .before .before .before .before .before .before .before .before .before .before .before .before .before .before .read-and-grow .result) (c .before .before .before .before .before .before .before .before .before .before .before .before .before .before .before .before .before .before .before .before .before .before .before .before .before .before .before .before .before .before .before .before .before .before .before .read-and-grow .ensures) _ (c .before .before .before .before .before .before .before .before .before .before .before .before .before .before .before .before .before .before .before .before .before .before .before .grown .given .1)) _ (c .before .before .before .before .before .before .before .before .before .before .before .before .before .before .before .before .before .departure-of .ensures) _ _ _ (c .before .before .before .before .before .before .before .before .before .before .before .run-passes .ensures .0) (c .before .before .before .before .before .before .before .before .before .before .before .run-passes .ensures .1) _ (c .answer .ensures)
+
+pub build-spec : {M : Type 1} → statement M
+build-spec =
+    tie.close
+    (tie.spec
+    (λ c κs. search needs)
+    (λ c. search needs)
+    (λ c. search needs)
+    (λ c κs. search needs)
+    (λ c. search needs)
+    (λ c. search needs)
+    (λ c. search needs)
+    (λ c. search needs)
+    (λ c. search needs)
+    returns
+    (λ c κs. search needs)
+    departure-of-requires
+    run-passes-requires
+    (λ c κs. search needs)
+    (λ c. search needs)
+    (λ c. search needs)
+    (λ c. search needs)
+    (λ c. search needs)
+    (λ c. search needs)
+    returns-2)

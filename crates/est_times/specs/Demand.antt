@@ -1,0 +1,42 @@
+-- What document 01 says of every accepted book under "Arcs": the sheet in the lent table has lost, doubled, added and re-timed no arc of those that the growth rule notes.
+use mathlib.Core.Path.{_≡_}
+use mathlib.Core.List.{List}
+use Prim.Native.Nat.{ℕ, _+_}
+use lib.ListN.{length}
+use lib.Ieee.{Float}
+use Rattle.network.specs.Table.{nodeAt, Room}
+use Rattle.insertion.specs.Insertion.{Table}
+use Rattle.driver.specs.Run.{Answer, given, Arc}
+use Rattle.driver.specs.Growth.{Grown, grow}
+use Rattle.growth.specs.declared.Report.{Report}
+use Rattle.arcs.specs.Arcs.{arcsRead, SameArcs}
+use Rattle.arcs.specs.Noted.{AllHeard}
+use Rattle.est_times.specs.declared.Sheet.{Sheet}
+use Rattle.est_times.specs.declared.Sheet.the-variants.{Made, Refused}
+
+-- "The growth rule is a definition over the book alone: the growth above on a table of its own, beside it a list": these arcs are its list, on whichever table of its own it is grown; and on some it is.
+pub record Noted (b : List ℕ) (arcs : List Arc) : Type 0 where
+  pub places : ℕ
+  pub table : Table
+  pub room : Room (table .floats) (table .numbers) places
+  pub grown : Grown
+  pub grows : grow b places table ≡ given grown
+  pub is : grown .noted ≡ arcs
+  pub alone : (others : ℕ) (other : Table) (g : Grown) → Room (other .floats) (other .numbers) others → grow b others other ≡ given g → g .noted ≡ arcs
+
+-- Of a report and the lent table's nodes alone: what is read off the sheet.
+pub record Demand (b : List ℕ) (fs : List Float) (us : List ℕ) (r : Report) : Type 0 where
+  pub noted : List Arc
+  pub rule : Noted b noted
+  -- "the same as often each, both ends and every bit of time and distance"
+  pub arcs : SameArcs noted (arcsRead (nodeAt fs us) (r .nodes))
+  -- each arc leads out with zeros, from the start to an origin's Arrive, or "from one event of a run to the very next of that run with its own differences"
+  pub heard : AllHeard b (nodeAt fs us) noted
+  -- "arcs = added + joined + finished"
+  pub counted : length noted ≡ r .added + r .joined + r .finished
+  -- "1 + splits = joined + finished"
+  pub balanced : 1 + r .splits ≡ r .joined + r .finished
+
+abbrev pub DemandOf : List ℕ → List Float → List ℕ → Sheet → Type 0
+DemandOf b fs us (Made r) = Demand b fs us r
+DemandOf b fs us (Refused k) = Unit
