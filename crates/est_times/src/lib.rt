@@ -111,14 +111,10 @@ pub fn make_est_times(
 {
     space::clear_floats(floats);
     space::clear_numbers(numbers);
-    space::clear_floats(reals);
-    space::clear_numbers(cells);
-    space::clear_numbers(marks);
+    grower::clear_work(reals, cells, marks);
     let sheet = build(book, floats, numbers, reals, cells, marks);
     let n = nodes_of(sheet);
     grower::clear_behind(floats, numbers, n);
-    space::clear_floats(reals);
-    space::clear_numbers(cells);
-    space::clear_numbers(marks);
+    grower::clear_work(reals, cells, marks);
     sheet
 }

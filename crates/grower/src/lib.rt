@@ -45,6 +45,17 @@ pub fn clear_behind(floats: &mut [f64], numbers: &mut [u32], n: usize)
     space::clear_numbers_from(numbers, n * 6);
 }
 
+// Makes the work space zero.
+pub fn clear_work(reals: &mut [f64], cells: &mut [u32], marks: &mut [u32])
+    ensures reals { λ _. ⌜ now (reals .exit) ≡ zeroFloats (length (now (reals .entry))) ⌝ }
+    ensures cells { λ _. ⌜ now (cells .exit) ≡ zeros (length (now (cells .entry))) ⌝ }
+    ensures marks { λ _. ⌜ now (marks .exit) ≡ zeros (length (now (marks .entry))) ⌝ }
+{
+    space::clear_floats(reals);
+    space::clear_numbers(cells);
+    space::clear_numbers(marks);
+}
+
 // How many nodes stay in the table: none on a refusal.
 fn nodes_of(g: Grown) -> usize
     ensures { λ r. ⌜ r ≡ grownNodes g ⌝ }
@@ -73,14 +84,10 @@ pub fn grow_network(
 {
     space::clear_floats(floats);
     space::clear_numbers(numbers);
-    space::clear_floats(reals);
-    space::clear_numbers(cells);
-    space::clear_numbers(marks);
+    clear_work(reals, cells, marks);
     let grown = read_and_grow(book, floats, numbers, reals, cells, marks);
     let n = nodes_of(grown);
     clear_behind(floats, numbers, n);
-    space::clear_floats(reals);
-    space::clear_numbers(cells);
-    space::clear_numbers(marks);
+    clear_work(reals, cells, marks);
     grown
 }
