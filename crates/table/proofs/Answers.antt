@@ -96,9 +96,9 @@ numbers-as (refused zero) n gs us p i = absurd (p refl)
 numbers-as (refused (suc k)) n gs us p i = ap zeros (sub-zero (length us))
 numbers-as (timedAs t) n gs us p i = ap (λ (s : List ℕ). take (n * 6) s ++ zeros (length us - n * 6)) (i .1)
 
--- both slices as they are lent, and the lengths of the work space; c is that of the cells once they are zero
-module _ (fs : List Float) (us : List ℕ) (departure : Float) (n rs cs ms c number : ℕ) (e : n ≡ min (length fs / 4) (length us / 6)) (d : c ≡ cs) (gs : List Float) (vs : List ℕ)
-    (told : Told (tableTimes (record { floats = fs; numbers = us }) departure (bytesOf rs c ms)) number gs vs) where
+-- both slices as they are lent, and the lengths of the work space
+module _ (fs : List Float) (us : List ℕ) (departure : Float) (n rs cs ms number : ℕ) (e : n ≡ min (length fs / 4) (length us / 6)) (gs : List Float) (vs : List ℕ)
+    (told : Told (tableTimes (record { floats = fs; numbers = us }) departure (bytesOf rs cs ms)) number gs vs) where
   abbrev table : Table
   table = record { floats = fs; numbers = us }
 
@@ -109,24 +109,21 @@ module _ (fs : List Float) (us : List ℕ) (departure : Float) (n rs cs ms c num
   unfolding nodesIn
   nodes-are = e
 
-  timed-told : Told timed number gs vs
-  timed-told = subst (λ (k : ℕ). Told (tableTimes table departure (bytesOf rs k ms)) number gs vs) d told
-
   proper : Proper timed
   proper = times-proper table departure (bytesOf rs cs ms)
 
   pub final-answer : (r : TimedTable) → r ≡ answerAs number n → r ≡ timedAnswer timed (nodesIn table)
-  final-answer r h = h ∙ ap (λ (k : ℕ). answerAs k n) (timed-told .0) ∙ answer-as timed n proper ∙ ap (timedAnswer timed) nodes-are
+  final-answer r h = h ∙ ap (λ (k : ℕ). answerAs k n) (told .0) ∙ answer-as timed n proper ∙ ap (timedAnswer timed) nodes-are
 
   module _ (kept : ℕ) (k : kept ≡ keptNodes number n) where
     kept-is : kept ≡ keptNodes (timedNumber timed) n
-    kept-is = k ∙ ap (λ (x : ℕ). keptNodes x n) (timed-told .0)
+    kept-is = k ∙ ap (λ (x : ℕ). keptNodes x n) (told .0)
 
     pub final-floats : (hs : List Float) → length gs ≡ length fs → hs ≡ take (kept * 4) gs ++ zeroFloats (length gs - kept * 4) → hs ≡ floatsAs timed (nodesIn table) (length fs)
     final-floats hs l h =
         h
         ∙ ap (λ (x : ℕ). take (x * 4) gs ++ zeroFloats (length gs - x * 4)) kept-is
-        ∙ floats-as timed n gs vs proper (timed-told .1)
+        ∙ floats-as timed n gs vs proper (told .1)
         ∙ ap (λ (x : ℕ). floatsAs timed x (length gs)) nodes-are
         ∙ ap (floatsAs timed (nodesIn table)) l
 
@@ -134,7 +131,7 @@ module _ (fs : List Float) (us : List ℕ) (departure : Float) (n rs cs ms c num
     final-numbers ws l h =
         h
         ∙ ap (λ (x : ℕ). take (x * 6) vs ++ zeros (length vs - x * 6)) kept-is
-        ∙ numbers-as timed n gs vs proper (timed-told .1)
+        ∙ numbers-as timed n gs vs proper (told .1)
         ∙ ap (λ (x : ℕ). numbersAs timed x (length vs)) nodes-are
         ∙ ap (numbersAs timed (nodesIn table)) l
 

@@ -6,7 +6,8 @@ use Prim.Native.Nat.{ℕ, zero, suc, _+_, _*_, _/_, _≤_, _<_, min}
 use native.Mathlib.Omega.{arith}
 use borrow.Author.Tests.{lt-ltb, le-ltb, ltb-true, ltb-false, leb-false}
 use lib.Dec.{ltb, leb}
-use lib.ListN.{length, getD}
+use lib.ListN.{length, getD, take}
+use lib.Seq.{length-take-le}
 use lib.Ieee.{Float}
 use Rattle.fields.specs.Below.{someBelow}
 use Rattle.fields.proofs.Below.{or-left, none-left, none-right, some-more, none-more, some-at, none-at}
@@ -200,3 +201,7 @@ ready fs us n departure units rs cs ms number e f g z =
       cells = omega (arith, s .1 .1);
       marks = omega (arith, s .1 .1);
     }
+
+-- the cells of n nodes are as many as the passes ask for
+pub flags-fit : (n : ℕ) (cells : List ℕ) (m : ℕ) → n * 8 ≤ length cells → m ≡ length (take (n * 8) cells) → n * 8 ≤ m
+flags-fit n cells m h e = omega (arith, length-take-le (n * 8) cells h)

@@ -100,7 +100,7 @@ fn first_number(floats: &[f64], numbers: &[u32], n: usize, departure: f64, units
     nodes_number(floats, numbers, n)
 }
 
-// Rows 3 to 5, then the passes in work space whose cells are zero: 0, or the number of a refusal.
+// Rows 3 to 5, then the passes, whose flags are made zero before: 0, or the number of a refusal.
 fn time_nodes(
     floats: &mut [f64],
     numbers: &mut [u32],
@@ -111,7 +111,6 @@ fn time_nodes(
     marks: &mut [u32],
 ) -> u32
     requires { ⌜ n ≡ nodesIn (record { floats = now floats; numbers = now numbers }) ⌝ }
-    requires { ⌜ now cells ≡ zeros (length (now cells)) ⌝ }
     ensures number { λ r. ⌜ r ≡ timedNumber (tableTimes (record { floats = now (floats .entry); numbers = now (numbers .entry) }) departure (bytesOf (length (now (reals .entry))) (length (now (cells .entry))) (length (now (marks .entry))))) ⌝ }
     ensures table { λ _. ⌜ TimedInto (tableTimes (record { floats = now (floats .entry); numbers = now (numbers .entry) }) departure (bytesOf (length (now (reals .entry))) (length (now (cells .entry))) (length (now (marks .entry))))) (now (floats .exit)) (now (numbers .exit)) ⌝ }
 {
@@ -120,7 +119,9 @@ fn time_nodes(
     if number != 0 {
         return number;
     }
-    timing::run_passes(floats, numbers, n, departure, reals, cells, marks)
+    let flags = &mut cells[..n * 8];
+    space::clear_numbers(flags);
+    timing::run_passes(floats, numbers, n, departure, reals, flags, marks)
 }
 
 // ---- the answer
@@ -159,7 +160,6 @@ pub fn update_times(
     ensures cells { λ _. ⌜ now (cells .exit) ≡ zeros (length (now (cells .entry))) ⌝ }
     ensures marks { λ _. ⌜ now (marks .exit) ≡ zeros (length (now (marks .entry))) ⌝ }
 {
-    space::clear_numbers(cells);
     let n = space::smaller(floats.len() / 4, numbers.len() / 6);
     let number = time_nodes(floats, numbers, n, departure, reals, cells, marks);
     let kept = nodes_kept(number, n);
