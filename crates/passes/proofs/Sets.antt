@@ -6,7 +6,7 @@ use lib.Ieee.{Float}
 use Rattle.network.specs.declared.EstTime.{EstTime}
 use Rattle.network.specs.Table.{nodeAt}
 use Rattle.insertion.specs.Insertion.{Table, at}
-use Rattle.passes.specs.Net.{setTime, setNext, setPrev, setArc}
+use Rattle.passes.specs.Net.{setNext, setPrev, setArc}
 use Rattle.passes.specs.Forward.{swapJoin}
 use Rattle.passes.specs.Backward.{swapSplit}
 use Rattle.passes.specs.Walks.{Inside}
