@@ -34,6 +34,13 @@ uint32_t keldurap_make_events(double train_length, const uint8_t *samples, size_
  * afterwards; on a refusal both slices and nodes are. The slices and nodes must not overlap. A slice of no elements may have any pointer that is not null. */
 uint32_t keldurap_update_times(double *floats, size_t floats_len, uint32_t *numbers, size_t numbers_len, double departure, double *reals, size_t reals_len, uint32_t *cells, size_t cells_len, uint32_t *marks, size_t marks_len, uint32_t *nodes);
 
+/* The network of a book before its times are known, for tests: which nodes there are, how they are linked, and how long it is from each to the next.
+ * Gives 0 or the number of a refusal, 1 to 13 of docs/REFUSALS.md, and in the last five the report's numbers. Table: 4 floats (time, which is 0 here,
+ * time to next, distance to next, speed) and 6 numbers (next, next alternative, previous, previous alternative, link, kind) to a node, as many places as both slices fill, at most 65,535.
+ * Whatever table and work space held, the table has the nodes and zeros behind them, or on a refusal zeros alone, as the five numbers are; the work space is zero.
+ * The slices and numbers must not overlap. A slice of no elements may have any pointer that is not null. */
+uint32_t keldurap_grow_network(const uint8_t *book, size_t book_len, double *floats, size_t floats_len, uint32_t *numbers, size_t numbers_len, double *reals, size_t reals_len, uint32_t *cells, size_t cells_len, uint32_t *marks, size_t marks_len, size_t *nodes, size_t *added, size_t *splits, size_t *joined, size_t *finished);
+
 #ifdef __cplusplus
 }
 #endif

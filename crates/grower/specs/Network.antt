@@ -1,5 +1,5 @@
 -- A book read and grown, rows 1 to 13, with all that is lent: the number or the report's counts, and the grown network, "all else zero".
-use mathlib.Core.List.{List, [], _∷_, _++_}
+use mathlib.Core.List.{List, _++_}
 use Prim.Native.Nat.{ℕ, zero, suc, _-_, _*_}
 use lib.ListN.{take}
 use lib.Ieee.{Float}
@@ -8,6 +8,7 @@ use Rattle.reader.specs.Reader.{readNumber}
 use Rattle.insertion.specs.Insertion.{Table}
 use Rattle.driver.specs.Run.{Answer, refused, given}
 use Rattle.driver.specs.Growth.{Grown, grow}
+use Rattle.growth.specs.declared.Report.{Report}
 use Rattle.growth.specs.declared.Grown.{Grown as Growth}
 use Rattle.growth.specs.declared.Grown.the-variants.{Whole, Stopped}
 
@@ -33,10 +34,10 @@ abbrev pub grownNumber : Growth → ℕ
 grownNumber (Stopped k) = k
 grownNumber (Whole r) = 0
 
--- the report as five numbers, all zero on a refusal
-abbrev pub reportNumbers : Growth → List ℕ
-reportNumbers (Stopped k) = 0 ∷ 0 ∷ 0 ∷ 0 ∷ 0 ∷ []
-reportNumbers (Whole r) = r .nodes ∷ r .added ∷ r .splits ∷ r .joined ∷ r .finished ∷ []
+-- the report, all zero on a refusal
+abbrev pub reported : Growth → Report
+reported (Stopped k) = record { nodes = 0; added = 0; splits = 0; joined = 0; finished = 0 }
+reported (Whole r) = r
 
 abbrev pub grownNodes : Growth → ℕ
 grownNodes (Stopped k) = 0

@@ -1,5 +1,6 @@
 // The entries for other languages. Each is thin: it calls the proved function of its crate and has its contract. include/keldurap.h has the C side.
 use event_maker::Made;
+use growth::Grown;
 use table::TimedTable;
 ghost use mathlib.Core.Path.{_≡_};
 ghost use lib.Ieee.{binary64};
@@ -9,6 +10,7 @@ ghost use Rattle.space.specs.Space.{bytesOf, zeros, zeroFloats};
 ghost use Rattle.reader.specs.Reader.{readNumber};
 ghost use Rattle.insertion.specs.Insertion.{Table};
 ghost use Rattle.table.specs.TableEntry.{nodesIn, tableTimes, timedAnswer, tableNumber, tableNodes, floatsAs as Table·floatsAs, numbersAs as Table·numbersAs};
+ghost use Rattle.grower.specs.Network.{network, counted, grownNumber, reported, floatsAs as Network·floatsAs, numbersAs as Network·numbersAs};
 ghost use Rattle.event_maker.specs.Maker.{lentCourse, answerOf, listPlaces, madeNumber, madeCount, floatsAs, numbersAs};
 
 // The square root of x, rounded to nearest, a tie to even.
@@ -93,6 +95,54 @@ pub extern "C" fn keldurap_update_times(
         TimedTable::Refused(n) => {
             *nodes = 0;
             n
+        }
+    }
+}
+
+// The network of a book before its times are known, for tests: 0 and the report's five numbers, or the number of a refusal.
+#[no_mangle]
+pub extern "C" fn keldurap_grow_network(
+    book: &[u8],
+    floats: &mut [f64],
+    numbers: &mut [u32],
+    reals: &mut [f64],
+    cells: &mut [u32],
+    marks: &mut [u32],
+    node_count: &mut usize,
+    added: &mut usize,
+    splits: &mut usize,
+    joined: &mut usize,
+    finished: &mut usize,
+) -> u32
+    ensures number { λ r. ⌜ r ≡ grownNumber (counted (network (now (book .entry)) (length (now (floats .entry))) (length (now (numbers .entry))) (bytesOf (length (now (reals .entry))) (length (now (cells .entry))) (length (now (marks .entry)))))) ⌝ }
+    ensures nodes { λ _. ⌜ now («node_count» .exit) ≡ reported (counted (network (now (book .entry)) (length (now (floats .entry))) (length (now (numbers .entry))) (bytesOf (length (now (reals .entry))) (length (now (cells .entry))) (length (now (marks .entry)))))) .nodes ⌝ }
+    ensures added { λ _. ⌜ now (added .exit) ≡ reported (counted (network (now (book .entry)) (length (now (floats .entry))) (length (now (numbers .entry))) (bytesOf (length (now (reals .entry))) (length (now (cells .entry))) (length (now (marks .entry)))))) .added ⌝ }
+    ensures splits { λ _. ⌜ now (splits .exit) ≡ reported (counted (network (now (book .entry)) (length (now (floats .entry))) (length (now (numbers .entry))) (bytesOf (length (now (reals .entry))) (length (now (cells .entry))) (length (now (marks .entry)))))) .splits ⌝ }
+    ensures joined { λ _. ⌜ now (joined .exit) ≡ reported (counted (network (now (book .entry)) (length (now (floats .entry))) (length (now (numbers .entry))) (bytesOf (length (now (reals .entry))) (length (now (cells .entry))) (length (now (marks .entry)))))) .joined ⌝ }
+    ensures finished { λ _. ⌜ now (finished .exit) ≡ reported (counted (network (now (book .entry)) (length (now (floats .entry))) (length (now (numbers .entry))) (bytesOf (length (now (reals .entry))) (length (now (cells .entry))) (length (now (marks .entry)))))) .finished ⌝ }
+    ensures floats { λ _. ⌜ now (floats .exit) ≡ Network·floatsAs (network (now (book .entry)) (length (now (floats .entry))) (length (now (numbers .entry))) (bytesOf (length (now (reals .entry))) (length (now (cells .entry))) (length (now (marks .entry))))) (length (now (floats .entry))) ⌝ }
+    ensures numbers { λ _. ⌜ now (numbers .exit) ≡ Network·numbersAs (network (now (book .entry)) (length (now (floats .entry))) (length (now (numbers .entry))) (bytesOf (length (now (reals .entry))) (length (now (cells .entry))) (length (now (marks .entry))))) (length (now (numbers .entry))) ⌝ }
+    ensures reals { λ _. ⌜ now (reals .exit) ≡ zeroFloats (length (now (reals .entry))) ⌝ }
+    ensures cells { λ _. ⌜ now (cells .exit) ≡ zeros (length (now (cells .entry))) ⌝ }
+    ensures marks { λ _. ⌜ now (marks .exit) ≡ zeros (length (now (marks .entry))) ⌝ }
+{
+    let grown = grower::grow_network(book, floats, numbers, reals, cells, marks);
+    match grown {
+        Grown::Stopped(k) => {
+            *node_count = 0;
+            *added = 0;
+            *splits = 0;
+            *joined = 0;
+            *finished = 0;
+            k
+        }
+        Grown::Whole(r) => {
+            *node_count = r.nodes;
+            *added = r.added;
+            *splits = r.splits;
+            *joined = r.joined;
+            *finished = r.finished;
+            0
         }
     }
 }

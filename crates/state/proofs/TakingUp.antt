@@ -51,8 +51,7 @@ module _ {b : List ℕ} {p : Plan} {fs : List Float} {us : List ℕ} {reals : Li
     up (w ∷ ws) [] h s v = absurd s
     up (w ∷ ws) (run ∷ rs) h s v =
         let a = f w ws h in
-        let e : run .joins ≡ entriesIn list (q .count) = sym (a .entries ∙ s .0 .joins) in
-        (
+        let e : run .joins ≡ entriesIn list (q .count) = sym (a .entries ∙ s .0 .joins) in (
           record {
             moves = record {
               place = sym (a .place ∙ s .0 .place);

@@ -1,13 +1,13 @@
 //! Books of the largest counts.
 
-struct Bytes(Vec<u8>);
+pub struct Bytes(pub Vec<u8>);
 
 impl Bytes {
-    fn float(&mut self, x: f64) {
+    pub fn float(&mut self, x: f64) {
         self.0.extend(x.to_le_bytes());
     }
 
-    fn number(&mut self, n: usize) {
+    pub fn number(&mut self, n: usize) {
         self.0.extend((n as u32).to_le_bytes());
     }
 }

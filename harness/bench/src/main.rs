@@ -1,6 +1,7 @@
 //! Times of the proved library against the reference, on the same inputs in one run.
 mod large;
 mod lists;
+mod sidings;
 mod tables;
 
 use std::hint::black_box;
@@ -62,6 +63,32 @@ fn passes(name: &str, items: &[Vec<u8>]) {
     println!("{name:<44} {ours:>9.3} {theirs:>9.3} {:>7.2}", ours / theirs);
 }
 
+/// Growth: ours is the whole of `keldurap_grow_network` (rows 1 to 13, table and work space made zero before and after); the reference's is its reading and the published function up to the checks.
+/// Ours' time, and the nodes.
+fn growth(name: &str, bytes: &[u8]) -> (f64, f64) {
+    let mut room = replay::grown::Room::default();
+    room.lend(65_535, replay::books::asked(bytes, 65_535));
+    let nodes = uncounted::time_grown(bytes).1;
+    let (number, report) = room.grow(bytes);
+    assert_eq!((number, report[0]), (0, nodes), "{name}");
+    let ours = best(9, || room.grow(bytes).0);
+    let theirs = (0..9).map(|_| uncounted::time_grown(bytes).0.as_secs_f64() * 1e3).fold(f64::INFINITY, f64::min);
+    println!("{name:<44} {ours:>9.3} {theirs:>9.3} {:>7.2}", ours / theirs);
+    (ours, nodes as f64)
+}
+
+/// Lines of sidings, and the exponent by which ours grows with the nodes.
+fn lines() {
+    let mut before: Option<(f64, f64)> = None;
+    for count in [10, 70, 700, 7_000] {
+        let now = growth(&format!("a line of {count} sidings"), &sidings::book(count));
+        if let Some((time, nodes)) = before {
+            println!("    exponent {:.2}", (now.0 / time).ln() / (now.1 / nodes).ln());
+        }
+        before = Some(now);
+    }
+}
+
 /// A root of each number, in nanoseconds a root.
 fn each_root(numbers: &[f64], root: impl Fn(f64) -> f64) -> f64 {
     let total = || numbers.iter().map(|&x| root(black_box(x))).sum::<f64>();
@@ -91,6 +118,8 @@ fn main() {
     passes("1,000 runs of 58 events, an end each", &[tables::runs(1_000, 58)]);
     passes("1,000 runs of 57 events that meet", &[tables::meeting(1_000, 57)]);
     passes("accepted ones of 10,000 random tables", &lists::accepted_tables(10_000));
+    println!("{:<44} {:>9} {:>9} {:>7}", "growing a book, 65,535 places", "ours, ms", "ref., ms", "ratio");
+    lines();
     println!("{:<44} {:>9} {:>9} {:>7}", "reading a book", "ours, ms", "ref., ms", "ratio");
     for places in [192, 65_535] {
         reading(&format!("largest, legs in a chain, {places} places"), &large::chain(), places);

@@ -4,6 +4,7 @@ mod kinds;
 mod run;
 mod shrink;
 mod tally;
+mod vectors;
 
 use kinds::Kind;
 use run::Order;
@@ -16,6 +17,7 @@ compare books|tables|events|roots N [--seed S] [--threads T]   N random items th
 compare limits                       the named books on the limits of rows 3 and 12
 compare quick                        some seconds of each, for the gate
 compare write KIND N [--seed S]      a stream of N items to standard output
+compare vectors FOLDER N [--seed S]  stdin and stdout of the proved program `vectors`
 compare shrink FILE                  a smaller book that still makes a difference
 Exit status 1: a difference.";
 
@@ -49,6 +51,10 @@ fn command(options: &Options) -> Option<bool> {
             Some(true)
         }
         ["shrink", file] => shrink::shrink(file).ok(),
+        ["vectors", folder, count] => {
+            vectors::write(folder.as_ref(), count.parse().ok()?, options.seed).ok()?;
+            Some(true)
+        }
         [kind, count] => {
             let order =
                 Order { kind: Kind::named(kind)?, seed: options.seed, threads: options.threads.max(1) };

@@ -62,13 +62,18 @@ fn refuse_if(condition: bool, number: u32) -> Answer<()> {
     }
 }
 
-/// The whole way of a book: rows 1 to 8, growth, passes.
-fn sheet(bytes: &[u8], places: usize, work: Option<u64>) -> Answer<Grown> {
+/// The way of a book up to the passes: rows 1 to 8, growth. Its departure too.
+fn network(bytes: &[u8], places: usize, work: Option<u64>) -> Answer<(Grown, f64)> {
     let places = places.min(MOST_PLACES);
     let book = Book::read(bytes, places, work)?;
     let options = options::options(&book)?;
-    let mut grown = growth::grow(&book, &options, places)?;
-    passes::run(&mut grown.nodes, book.departure)?;
+    Ok((growth::grow(&book, &options, places)?, book.departure))
+}
+
+/// The whole way of a book.
+fn sheet(bytes: &[u8], places: usize, work: Option<u64>) -> Answer<Grown> {
+    let (mut grown, departure) = network(bytes, places, work)?;
+    passes::run(&mut grown.nodes, departure)?;
     Ok(grown)
 }
 
@@ -77,6 +82,14 @@ fn sheet(bytes: &[u8], places: usize, work: Option<u64>) -> Answer<Grown> {
 pub fn book(bytes: &[u8], places: usize, work: Option<u64>) -> Vec<u8> {
     match sheet(bytes, places, work) {
         Ok(grown) => listing::sheet(&grown),
+        Err(no) => listing::refused(no.number()),
+    }
+}
+
+/// The network of a book before the passes, in the same form, or its refusal.
+pub fn grown(bytes: &[u8], places: usize, work: Option<u64>) -> Vec<u8> {
+    match network(bytes, places, work) {
+        Ok((grown, _)) => listing::grown(&grown),
         Err(no) => listing::refused(no.number()),
     }
 }

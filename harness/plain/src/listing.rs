@@ -14,13 +14,22 @@ pub fn refused(number: u32) -> Vec<u8> {
 
 /// The report of a book, then its nodes.
 pub fn sheet(grown: &Grown) -> Vec<u8> {
+    whole(grown, true)
+}
+
+/// The same before the passes: each time is `-`.
+pub fn grown(grown: &Grown) -> Vec<u8> {
+    whole(grown, false)
+}
+
+fn whole(grown: &Grown, is_timed: bool) -> Vec<u8> {
     let mut out = Vec::with_capacity(64 + 64 * grown.nodes.len());
     word(&mut out, b"nodes ", grown.nodes.len(), b' ');
     word(&mut out, b"added ", grown.added, b' ');
     word(&mut out, b"splits ", grown.splits, b' ');
     word(&mut out, b"joined ", grown.joined, b' ');
     word(&mut out, b"finished ", grown.finished, b'\n');
-    lines(&mut out, &grown.nodes);
+    lines(&mut out, &grown.nodes, is_timed);
     out
 }
 
@@ -28,7 +37,7 @@ pub fn sheet(grown: &Grown) -> Vec<u8> {
 pub fn table(nodes: &[Node]) -> Vec<u8> {
     let mut out = Vec::with_capacity(64 + 64 * nodes.len());
     word(&mut out, b"nodes ", nodes.len(), b'\n');
-    lines(&mut out, nodes);
+    lines(&mut out, nodes, true);
     out
 }
 
@@ -46,7 +55,7 @@ pub fn events(events: &[Timed]) -> Vec<u8> {
     out
 }
 
-fn lines(out: &mut Vec<u8>, nodes: &[Node]) {
+fn lines(out: &mut Vec<u8>, nodes: &[Node], is_timed: bool) {
     for (own, node) in nodes.iter().enumerate() {
         decimal(out, own, b' ');
         out.extend([letter(node.event.kind), b' ']);
@@ -54,7 +63,11 @@ fn lines(out: &mut Vec<u8>, nodes: &[Node]) {
         for index in [node.next, node.next_alt, node.prev, node.prev_alt] {
             decimal(out, index, b' ');
         }
-        float(out, node.time, b' ');
+        if is_timed {
+            float(out, node.time, b' ');
+        } else {
+            out.extend(b"- ");
+        }
         float(out, node.to_next, b' ');
         float(out, node.distance, b' ');
         float(out, node.speed, b'\n');

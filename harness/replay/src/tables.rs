@@ -90,23 +90,26 @@ impl Lent {
             return format!("refused {number}\n");
         }
         let mut text = format!("nodes {nodes}\n");
-        for (i, (floats, numbers)) in self.floats.chunks(4).zip(self.numbers.chunks(6)).take(nodes).enumerate() {
-            let kind = ['A', 'C', 'F'][numbers[5] as usize];
-            write!(text, "{i} {kind} {}", numbers[4]).unwrap();
-            for index in &numbers[..4] {
-                write!(text, " {index}").unwrap();
-            }
-            for float in floats {
-                write!(text, " {}", digits(*float)).unwrap();
-            }
-            text.push('\n');
-        }
+        listed(&mut text, &self.floats, &self.numbers, nodes, true);
         text
     }
 
     fn is_zero_from(&self, nodes: usize) -> bool {
         let floats = self.floats.iter().skip(4 * nodes).all(|x| x.to_bits() == 0);
         floats && self.numbers.iter().skip(6 * nodes).all(|&n| n == 0)
+    }
+}
+
+/// The first nodes of a table, as the listing has them; before the passes each time is `-`.
+pub fn listed(text: &mut String, floats: &[f64], numbers: &[u32], nodes: usize, is_timed: bool) {
+    for (i, (floats, numbers)) in floats.chunks(4).zip(numbers.chunks(6)).take(nodes).enumerate() {
+        let kind = ['A', 'C', 'F'][numbers[5] as usize];
+        write!(text, "{i} {kind} {}", numbers[4]).unwrap();
+        for index in &numbers[..4] {
+            write!(text, " {index}").unwrap();
+        }
+        let time = if is_timed { digits(floats[0]) } else { "-".into() };
+        writeln!(text, " {time} {} {} {}", digits(floats[1]), digits(floats[2]), digits(floats[3])).unwrap();
     }
 }
 

@@ -12,8 +12,7 @@ use Rattle.saved.proofs.pop.Reads as pop-reads
 pop-requires : tie.Need-pop-requires
 pop-requires c κs =
     let a = c .before .before .before .before .before in
-    let s = a .pre .0 in
-    (
+    let s = a .pre .0 in (
       omega (arith, s .driving .holds .grown .apart .nodes-inside, s .plan .same-nodes, s .plan .same-places),
       (omega (arith, s .plan .all-legs, s .plan .same-nodes, s .plan .nodes-at), (s .plan .pairs, (a .pre .1 .1 .1, drive-pops s (a .pre .1 .0) (a .pre .1 .1 .0)))),
     )

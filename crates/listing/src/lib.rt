@@ -1,0 +1,221 @@
+// The listing of a sheet, as bytes. Contracts: specs/Listing.antt, specs/Written.antt.
+use growth::Report;
+use network::EstTime;
+use network::EstType;
+ghost use mathlib.Core.Path.{_≡_};
+ghost use mathlib.Core.List.{List, [], _∷_, _++_};
+ghost use Prim.Native.Nat.{ℕ, _-_, _*_, _/_, _≤_, _<_, min};
+ghost use lib.Dec.{leb};
+ghost use lib.ListN.{length, take};
+ghost use lib.Ieee.{binary64, toBits};
+ghost use Rattle.space.specs.Space.{zeros};
+ghost use Rattle.network.specs.Table.{nodeAt};
+ghost use Rattle.listing.specs.Listing.{glyph as Listing·glyph, letter as Listing·letter, digits, decimal, float, line, lines, head, sheetText, refusedText, fitted, bytesAs, sheetListed, sheetBytes};
+ghost use Rattle.listing.specs.Written.{Written, Puts};
+
+// The pattern of NaN.
+const NAN: u64 = 0x7ff8_0000_0000_0000;
+
+// How many bytes a listing has, that the slice is too short for it, or that the table has fewer nodes than the report says.
+pub enum Listed {
+    Bytes(usize),
+    Short,
+    Unfilled,
+}
+
+// Puts a byte behind a text that goes up to `at`, and answers where the next one goes: past the end if there was no room.
+fn put_byte(out: &mut [u8], at: usize, byte: u8) -> usize
+    ensures { λ r. ⌜ Puts (now (out .entry)) at (byte ∷ []) (now (out .exit)) r ⌝ }
+{
+    let size = out.len();
+    if at < size {
+        out[at] = byte;
+        return at + 1;
+    }
+    size + 1
+}
+
+// Puts bytes behind a text.
+fn put_bytes(out: &mut [u8], at: usize, bytes: &[u8]) -> usize
+    ensures { λ r. ⌜ Puts (now (out .entry)) at (now (bytes .entry)) (now (out .exit)) r ⌝ }
+{
+    let mut to = at;
+    let mut i = 0;
+    while i < bytes.len() {
+        to = put_byte(out, to, bytes[i]);
+        i += 1;
+    }
+    to
+}
+
+// Puts a number in decimal behind a text.
+fn put_decimal(out: &mut [u8], at: usize, n: u64) -> usize
+    ensures { λ r. ⌜ Puts (now (out .entry)) at (decimal n) (now (out .exit)) r ⌝ }
+{
+    if n < 10 {
+        return put_byte(out, at, 48 + n as u8);
+    }
+    let to = put_decimal(out, at, n / 10);
+    put_byte(out, to, 48 + (n % 10) as u8)
+}
+
+// Puts a word and a number in decimal behind a text.
+fn put_count(out: &mut [u8], at: usize, word: &[u8], n: u64) -> usize
+    ensures { λ r. ⌜ Puts (now (out .entry)) at (now (word .entry) ++ decimal n) (now (out .exit)) r ⌝ }
+{
+    let to = put_bytes(out, at, word);
+    put_decimal(out, to, n)
+}
+
+// A hexadecimal digit.
+fn glyph(d: u64) -> u8
+    requires { ⌜ d < 16 ⌝ }
+    ensures { λ r. ⌜ r ≡ Listing·glyph d ⌝ }
+{
+    if d < 10 { 48 + d as u8 } else { 87 + d as u8 }
+}
+
+// Puts the last `count` hexadecimal digits of a number behind a text.
+fn put_hex(out: &mut [u8], at: usize, n: u64, count: usize) -> usize
+    ensures { λ r. ⌜ Puts (now (out .entry)) at (digits 16 count n) (now (out .exit)) r ⌝ }
+{
+    if count == 0 {
+        return at;
+    }
+    let to = put_hex(out, at, n / 16, count - 1);
+    put_byte(out, to, glyph(n % 16))
+}
+
+// The bit pattern of a float.
+fn bits_of(x: f64) -> u64
+    ensures { λ r. ⌜ r ≡ toBits binary64 x ⌝ }
+{
+    if x != x {
+        return NAN;
+    }
+    f64::to_bits(x)
+}
+
+// Puts a blank and the hexadecimal digits of a float's bits behind a text, without closing zeros.
+fn put_float(out: &mut [u8], at: usize, x: f64) -> usize
+    ensures { λ r. ⌜ Puts (now (out .entry)) at (32 ∷ float x) (now (out .exit)) r ⌝ }
+{
+    let mut bits = bits_of(x);
+    let mut count = 16;
+    while (1 < count) & (bits % 16 == 0) {
+        bits /= 16;
+        count -= 1;
+    }
+    let to = put_byte(out, at, b' ');
+    put_hex(out, to, bits, count)
+}
+
+// The letter of a kind.
+fn letter(kind: EstType) -> u8
+    ensures { λ r. ⌜ r ≡ Listing·letter kind ⌝ }
+{
+    match kind {
+        EstType::Arrive => b'A',
+        EstType::Clear => b'C',
+        EstType::Fake => b'F',
+    }
+}
+
+// Puts a node's line behind a text.
+fn put_line(out: &mut [u8], at: usize, i: usize, node: EstTime) -> usize
+    ensures { λ r. ⌜ Puts (now (out .entry)) at (line i node) (now (out .exit)) r ⌝ }
+{
+    let event = node.link_event;
+    let kind = event.est_type;
+    let mut to = put_decimal(out, at, i as u64);
+    to = put_byte(out, to, b' ');
+    to = put_byte(out, to, letter(kind));
+    to = put_count(out, to, b" ", event.link_idx as u64);
+    to = put_count(out, to, b" ", node.idx_next as u64);
+    to = put_count(out, to, b" ", node.idx_next_alt as u64);
+    to = put_count(out, to, b" ", node.idx_prev as u64);
+    to = put_count(out, to, b" ", node.idx_prev_alt as u64);
+    to = put_float(out, to, node.time_sched);
+    to = put_float(out, to, node.time_to_next);
+    to = put_float(out, to, node.dist_to_next);
+    to = put_float(out, to, node.speed);
+    put_byte(out, to, b'\n')
+}
+
+// Puts the lines of the first n nodes behind a text.
+fn put_lines(out: &mut [u8], at: usize, floats: &[f64], numbers: &[u32], n: usize) -> usize
+    requires { ⌜ n * 4 ≤ length (now floats) ⌝ }
+    requires { ⌜ n * 6 ≤ length (now numbers) ⌝ }
+    ensures { λ r. ⌜ Puts (now (out .entry)) at (lines (nodeAt (now (floats .entry)) (now (numbers .entry))) n) (now (out .exit)) r ⌝ }
+{
+    let mut to = at;
+    let mut i = 0;
+    while i < n {
+        let node = network::load(floats, numbers, i);
+        to = put_line(out, to, i, node);
+        i += 1;
+    }
+    to
+}
+
+// Puts a report's line behind a text.
+fn put_head(out: &mut [u8], at: usize, report: Report) -> usize
+    ensures { λ r. ⌜ Puts (now (out .entry)) at (head report) (now (out .exit)) r ⌝ }
+{
+    let mut to = put_count(out, at, b"nodes ", report.nodes as u64);
+    to = put_count(out, to, b" added ", report.added as u64);
+    to = put_count(out, to, b" splits ", report.splits as u64);
+    to = put_count(out, to, b" joined ", report.joined as u64);
+    to = put_count(out, to, b" finished ", report.finished as u64);
+    put_byte(out, to, b'\n')
+}
+
+// Makes a slice zero from an index on.
+fn clear_from(s: &mut [u8], from: usize)
+    ensures { λ _. ⌜ now (s .exit) ≡ take from (now (s .entry)) ++ zeros (length (now (s .entry)) - from) ⌝ }
+{
+    let mut i = from;
+    while i < s.len() {
+        s[i] = 0;
+        i += 1;
+    }
+}
+
+// Makes zero what lies behind a text that goes up to `at`, or everything if it has not fitted.
+fn finish(s: &mut [u8], at: usize) -> Listed
+    ensures answer { λ r. ⌜ ((text : List ℕ) → Written (now (s .entry)) at text → r ≡ fitted (leb (length text) (length (now (s .entry)))) text) ⌝ }
+    ensures out { λ _. ⌜ ((text : List ℕ) → Written (now (s .entry)) at text → now (s .exit) ≡ bytesAs (leb (length text) (length (now (s .entry)))) text (length (now (s .entry)))) ⌝ }
+{
+    if s.len() < at {
+        clear_from(s, 0);
+        return Listed::Short;
+    }
+    clear_from(s, at);
+    Listed::Bytes(at)
+}
+
+// Lists a sheet: its report, then as many nodes as that says. A slice that is too short is left zero, and so is one for a table that has fewer nodes.
+pub fn list_sheet(floats: &[f64], numbers: &[u32], report: Report, out: &mut [u8]) -> Listed
+    ensures answer { λ r. ⌜ r ≡ sheetListed (leb (report .nodes) (min (length (now (floats .entry)) / 4) (length (now (numbers .entry)) / 6))) (sheetText report (nodeAt (now (floats .entry)) (now (numbers .entry)))) (length (now (out .entry))) ⌝ }
+    ensures out { λ _. ⌜ now (out .exit) ≡ sheetBytes (leb (report .nodes) (min (length (now (floats .entry)) / 4) (length (now (numbers .entry)) / 6))) (sheetText report (nodeAt (now (floats .entry)) (now (numbers .entry)))) (length (now (out .entry))) ⌝ }
+{
+    let n = report.nodes;
+    let filled = space::smaller(floats.len() / 4, numbers.len() / 6);
+    if filled < n {
+        clear_from(out, 0);
+        return Listed::Unfilled;
+    }
+    let to = put_head(out, 0, report);
+    let end = put_lines(out, to, floats, numbers, n);
+    finish(out, end)
+}
+
+// Lists a refusal.
+pub fn list_refused(number: u32, out: &mut [u8]) -> Listed
+    ensures answer { λ r. ⌜ r ≡ fitted (leb (length (refusedText number)) (length (now (out .entry)))) (refusedText number) ⌝ }
+    ensures out { λ _. ⌜ now (out .exit) ≡ bytesAs (leb (length (refusedText number)) (length (now (out .entry)))) (refusedText number) (length (now (out .entry))) ⌝ }
+{
+    let to = put_count(out, 0, b"refused ", number as u64);
+    let end = put_byte(out, to, b'\n');
+    finish(out, end)
+}

@@ -1,0 +1,1 @@
+// Document 01's marked cases: a proved list alone. See proofs/Marked.antt.

@@ -1,0 +1,28 @@
+// A book to its listing, for programs. Contracts: specs/Sheets.antt.
+use est_times::Sheet;
+use listing::Listed;
+ghost use mathlib.Core.Path.{_≡_};
+ghost use lib.ListN.{length};
+ghost use Rattle.space.specs.Space.{bytesOf};
+ghost use Rattle.est_times.specs.Sheet.{job};
+ghost use Rattle.sheets.specs.Sheets.{bookListed, bookBytes};
+
+// Makes the sheet of a book and lists it, or its refusal, in a lent slice.
+pub fn list_book(
+    book: &[u8],
+    floats: &mut [f64],
+    numbers: &mut [u32],
+    reals: &mut [f64],
+    cells: &mut [u32],
+    marks: &mut [u32],
+    out: &mut [u8],
+) -> Listed
+    ensures answer { λ r. ⌜ r ≡ bookListed (job (now (book .entry)) (length (now (floats .entry))) (length (now (numbers .entry))) (bytesOf (length (now (reals .entry))) (length (now (cells .entry))) (length (now (marks .entry))))) (length (now (floats .entry))) (length (now (numbers .entry))) (length (now (out .entry))) ⌝ }
+    ensures out { λ _. ⌜ now (out .exit) ≡ bookBytes (job (now (book .entry)) (length (now (floats .entry))) (length (now (numbers .entry))) (bytesOf (length (now (reals .entry))) (length (now (cells .entry))) (length (now (marks .entry))))) (length (now (floats .entry))) (length (now (numbers .entry))) (length (now (out .entry))) ⌝ }
+{
+    let sheet = est_times::make_est_times(book, floats, numbers, reals, cells, marks);
+    match sheet {
+        Sheet::Made(report) => listing::list_sheet(floats, numbers, report, out),
+        Sheet::Refused(k) => listing::list_refused(k, out),
+    }
+}
