@@ -221,7 +221,7 @@ impl Growth<'_> {
     }
 
     /// "End Fakes are pushed for the ends in reverse", each the previous alternative
-    /// of the one behind it, then the last node.
+    /// of the one behind it, then the last node, behind the node before it.
     fn close(&mut self) -> Answer<()> {
         let mut before = 0;
         for end in std::mem::take(&mut self.ends).into_iter().rev() {
@@ -235,10 +235,8 @@ impl Growth<'_> {
             before = self.push(fake)?;
             self.grown.nodes[end].next = own;
         }
-        self.push(Node {
-            prev: before,
-            ..Node::BLANK
-        })?;
+        let prev = self.grown.nodes.len() - 1;
+        self.push(Node { prev, ..Node::BLANK })?;
         Ok(())
     }
 }
