@@ -1,0 +1,39 @@
+// Reads a book from standard input and prints the listing of its sheet, or `refused N`: books to 65,536 bytes (longer ones print `too long`), 192 nodes, 65,536 bytes of work space.
+use libc::STDIN_FILENO;
+use libc::STDOUT_FILENO;
+use listing::Listed;
+
+fn print_sheet(book: &[u8], text: &mut [u8]) {
+    let mut floats = [0.0f64; 768];
+    let mut numbers = [0u32; 1152];
+    let mut reals = [0.0f64; 3072];
+    let mut cells = [0u32; 8192];
+    let mut marks = [0u32; 2048];
+    let listed = sheets::list_book(
+        book,
+        &mut floats,
+        &mut numbers,
+        &mut reals,
+        &mut cells,
+        &mut marks,
+        text,
+    );
+    let Listed::Bytes(n) = listed else {
+        return;
+    };
+    if n <= text.len() {
+        io::write_all(STDOUT_FILENO, &text[..n]);
+    }
+}
+
+fn main() {
+    let mut space = io::large_buffer();
+    let n = io::read_full(STDIN_FILENO, &mut space);
+    let mut more = [0u8; 1];
+    if io::read_full(STDIN_FILENO, &mut more) != 0 {
+        io::write_all(STDOUT_FILENO, b"too long\n");
+        return;
+    }
+    let mut text = io::large_buffer();
+    print_sheet(&space[..n], &mut text);
+}
