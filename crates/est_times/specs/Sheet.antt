@@ -45,6 +45,11 @@ abbrev pub sheetNumber : Sheet → ℕ
 sheetNumber (Made r) = 0
 sheetNumber (Refused k) = k
 
+-- the report's numbers, which are zero on a refusal
+abbrev pub reported : Sheet → Report
+reported (Made r) = r
+reported (Refused k) = record { nodes = 0; added = 0; splits = 0; joined = 0; finished = 0 }
+
 -- the answer by the number that the passes give
 abbrev pub answerAs : Report → ℕ → Sheet
 answerAs r zero = Made r

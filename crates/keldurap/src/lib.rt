@@ -1,4 +1,5 @@
 // The entries for other languages. Each is thin: it calls the proved function of its crate and has its contract. include/keldurap.h has the C side.
+use est_times::Sheet;
 use event_maker::Made;
 use growth::Grown;
 use table::TimedTable;
@@ -11,6 +12,8 @@ ghost use Rattle.reader.specs.Reader.{readNumber};
 ghost use Rattle.insertion.specs.Insertion.{Table};
 ghost use Rattle.table.specs.TableEntry.{nodesIn, tableTimes, timedAnswer, tableNumber, tableNodes, floatsAs as Table·floatsAs, numbersAs as Table·numbersAs};
 ghost use Rattle.grower.specs.Network.{network, counted, grownNumber, reported, floatsAs as Network·floatsAs, numbersAs as Network·numbersAs};
+ghost use Rattle.est_times.specs.Sheet.{job, answered, sheetNumber, reported as Sheet·reported, floatsAs as Sheet·floatsAs, numbersAs as Sheet·numbersAs};
+ghost use Rattle.est_times.specs.Demand.{DemandOf};
 ghost use Rattle.event_maker.specs.Maker.{lentCourse, answerOf, listPlaces, madeNumber, madeCount, floatsAs, numbersAs};
 
 // The square root of x, rounded to nearest, a tie to even.
@@ -142,6 +145,55 @@ pub extern "C" fn keldurap_grow_network(
             *splits = r.splits;
             *joined = r.joined;
             *finished = r.finished;
+            0
+        }
+    }
+}
+
+// The sheet of a book in a lent table: 0 and the report's five numbers, or the number of a refusal. Whatever table and work space held, the table has the sheet then, or is zero, and the work space is zero.
+#[no_mangle]
+pub extern "C" fn keldurap_make_est_times(
+    book: &[u8],
+    floats: &mut [f64],
+    numbers: &mut [u32],
+    reals: &mut [f64],
+    cells: &mut [u32],
+    marks: &mut [u32],
+    node_count: &mut usize,
+    added: &mut usize,
+    splits: &mut usize,
+    joined: &mut usize,
+    finished: &mut usize,
+) -> u32
+    ensures number { λ r. ⌜ r ≡ sheetNumber (answered (job (now (book .entry)) (length (now (floats .entry))) (length (now (numbers .entry))) (bytesOf (length (now (reals .entry))) (length (now (cells .entry))) (length (now (marks .entry)))))) ⌝ }
+    ensures nodes { λ _. ⌜ now («node_count» .exit) ≡ Sheet·reported (answered (job (now (book .entry)) (length (now (floats .entry))) (length (now (numbers .entry))) (bytesOf (length (now (reals .entry))) (length (now (cells .entry))) (length (now (marks .entry)))))) .nodes ⌝ }
+    ensures added { λ _. ⌜ now (added .exit) ≡ Sheet·reported (answered (job (now (book .entry)) (length (now (floats .entry))) (length (now (numbers .entry))) (bytesOf (length (now (reals .entry))) (length (now (cells .entry))) (length (now (marks .entry)))))) .added ⌝ }
+    ensures splits { λ _. ⌜ now (splits .exit) ≡ Sheet·reported (answered (job (now (book .entry)) (length (now (floats .entry))) (length (now (numbers .entry))) (bytesOf (length (now (reals .entry))) (length (now (cells .entry))) (length (now (marks .entry)))))) .splits ⌝ }
+    ensures joined { λ _. ⌜ now (joined .exit) ≡ Sheet·reported (answered (job (now (book .entry)) (length (now (floats .entry))) (length (now (numbers .entry))) (bytesOf (length (now (reals .entry))) (length (now (cells .entry))) (length (now (marks .entry)))))) .joined ⌝ }
+    ensures finished { λ _. ⌜ now (finished .exit) ≡ Sheet·reported (answered (job (now (book .entry)) (length (now (floats .entry))) (length (now (numbers .entry))) (bytesOf (length (now (reals .entry))) (length (now (cells .entry))) (length (now (marks .entry)))))) .finished ⌝ }
+    ensures floats { λ _. ⌜ now (floats .exit) ≡ Sheet·floatsAs (job (now (book .entry)) (length (now (floats .entry))) (length (now (numbers .entry))) (bytesOf (length (now (reals .entry))) (length (now (cells .entry))) (length (now (marks .entry))))) (length (now (floats .entry))) ⌝ }
+    ensures numbers { λ _. ⌜ now (numbers .exit) ≡ Sheet·numbersAs (job (now (book .entry)) (length (now (floats .entry))) (length (now (numbers .entry))) (bytesOf (length (now (reals .entry))) (length (now (cells .entry))) (length (now (marks .entry))))) (length (now (numbers .entry))) ⌝ }
+    ensures reals { λ _. ⌜ now (reals .exit) ≡ zeroFloats (length (now (reals .entry))) ⌝ }
+    ensures cells { λ _. ⌜ now (cells .exit) ≡ zeros (length (now (cells .entry))) ⌝ }
+    ensures marks { λ _. ⌜ now (marks .exit) ≡ zeros (length (now (marks .entry))) ⌝ }
+    ensures demand { λ _. ⌜ DemandOf (now (book .entry)) (now (floats .exit)) (now (numbers .exit)) (answered (job (now (book .entry)) (length (now (floats .entry))) (length (now (numbers .entry))) (bytesOf (length (now (reals .entry))) (length (now (cells .entry))) (length (now (marks .entry)))))) ⌝ }
+{
+    let sheet = est_times::make_est_times(book, floats, numbers, reals, cells, marks);
+    match sheet {
+        Sheet::Refused(k) => {
+            *node_count = 0;
+            *added = 0;
+            *splits = 0;
+            *joined = 0;
+            *finished = 0;
+            k
+        }
+        Sheet::Made(report) => {
+            *node_count = report.nodes;
+            *added = report.added;
+            *splits = report.splits;
+            *joined = report.joined;
+            *finished = report.finished;
             0
         }
     }

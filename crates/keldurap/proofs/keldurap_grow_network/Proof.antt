@@ -2,7 +2,8 @@
 use mathlib.Core.Path.{ap}
 use borrow.Author.Needs.{needs}
 use Rattle.growth.specs.declared.Report.{Report}
-use Rattle.keldurap.proofs.Reports.{number-told, report-told}
+use Rattle.grower.specs.Network.{grownNumber, reported}
+use Rattle.keldurap.proofs.Reports.{told}
 use Rattle.keldurap.proofs.keldurap_grow_network.Statement.{statement}
 use Rattle.keldurap.proofs.keldurap_grow_network.Tie as tie
 use Rattle.keldurap.proofs.keldurap_grow_network.Reads as reads
@@ -37,8 +38,8 @@ returns : tie.Need-returns
 returns c =
     let a = c .before .before .before .before .before .before .before .before .before .before .before .before .before .grow-network .ensures in
     let d = c .before .grown .given .1 in
-    let t = report-told _ _ _ (a .0) d in
-    (number-told _ _ _ (a .0) d, (ap (λ (r : Report). r .nodes) t, (ap (λ (r : Report). r .added) t, (ap (λ (r : Report). r .splits) t, (ap (λ (r : Report). r .joined) t, (ap (λ (r : Report). r .finished) t, a .1))))))
+    let t = told reported _ _ _ (a .0) d in
+    (told grownNumber _ _ _ (a .0) d, (ap (λ (r : Report). r .nodes) t, (ap (λ (r : Report). r .added) t, (ap (λ (r : Report). r .splits) t, (ap (λ (r : Report). r .joined) t, (ap (λ (r : Report). r .finished) t, a .1))))))
 
 same-length-6 : tie.Need-same-length-6
 same-length-6 c = search needs
@@ -59,8 +60,8 @@ returns-2 : tie.Need-returns-2
 returns-2 c =
     let a = c .before .before .before .before .before .before .before .before .before .before .before .before .before .grow-network .ensures in
     let d = c .before .grown2 .given .1 in
-    let t = report-told _ _ _ (a .0) d in
-    (number-told _ _ _ (a .0) d, (ap (λ (r : Report). r .nodes) t, (ap (λ (r : Report). r .added) t, (ap (λ (r : Report). r .splits) t, (ap (λ (r : Report). r .joined) t, (ap (λ (r : Report). r .finished) t, a .1))))))
+    let t = told reported _ _ _ (a .0) d in
+    (told grownNumber _ _ _ (a .0) d, (ap (λ (r : Report). r .nodes) t, (ap (λ (r : Report). r .added) t, (ap (λ (r : Report). r .splits) t, (ap (λ (r : Report). r .joined) t, (ap (λ (r : Report). r .finished) t, a .1))))))
 
 pub keldurap-grow-network-spec : {M : Type 1} → statement M
 keldurap-grow-network-spec =
