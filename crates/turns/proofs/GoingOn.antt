@@ -74,8 +74,8 @@ module _ {b : List ℕ} {p : Plan} {fs : List Float} {us : List ℕ} {reals : Li
   pub front-depth : g .front .depth + 1 ≤ 65535
   front-depth = omega (arith, a .front .depth, path-long (plan-above plan) (run .leg) (a .sound .0 .some) (a .sound .0 .within), a .short, plan-legs plan)
 
-  pub front-used : g .used + g .front .mover .count ≤ 66559
-  front-used = omega (arith, saved-room cells reals (p .r) (g .top) (g .used) (a .waiting .runs) (a .waiting .kept), plan .same-places, a .grown .room .most, a .front .moves .few)
+  pub front-used : (g .used ≤ 65535) × (g .front .mover .count ≤ 1024)
+  front-used = (omega (arith, saved-room cells reals (p .r) (g .top) (g .used) (a .waiting .runs) (a .waiting .kept), plan .same-places, a .grown .room .most), a .front .moves .few)
 
   module _ (link : ℕ) (t : Taken) (told : t ≡ takenLeg b (g .front .leg) link) where
     at-run : t ≡ takenLeg b (run .leg) link
@@ -182,9 +182,9 @@ module _ {b : List ℕ} {p : Plan} {fs : List Float} {us : List ℕ} {reals : Li
         others : Others (x .number) (a .waiting .runs)
         others = subst (λ (j : ℕ). Others j (a .waiting .runs)) (sym (child .number)) (clear-others (plan-above plan) (suc i) (g .counts .nodes) (a .waiting .runs) rest (a .sound .1) (a .waiting .same) (free .legs-clear i (child .of .within) (child .of .parent) (child .of .link)))
 
-        pub save-gives : SavedOver (saveOver b (p .w .places) run link rest) b p fs us reals′ cells′ joins (record { counts = g .counts; top = x .number; used = g .used + g .front .mover .count; front = g .front }) net run rest link
+        save-kept : SavedOver (saveOver b (p .w .places) run link rest) b p fs us reals′ cells′ joins (record { counts = g .counts; top = x .number; used = g .used + g .front .mover .count; front = g .front }) net run rest link
         unfolding waitingOf
-        save-gives = record {
+        save-kept = record {
           more = taking false ∷ rest;
           is = save-is ∙ ap (λ (s : Bool). fitsIn s (taking false ∷ rest)) (le-ltb (p .r .places) (g .used + g .front .mover .count) room);
           ends = record {
@@ -205,3 +205,6 @@ module _ {b : List ℕ} {p : Plan} {fs : List Float} {us : List ℕ} {reals : Li
           };
           free = λ l d f. free-more (plan-above plan) run (taking false) i rest link (child .of .within) (child .of .parent) (child .of .link) refl l d f;
         }
+
+        pub save-gives : (used : ℕ) → used ≡ g .used + g .front .mover .count → SavedOver (saveOver b (p .w .places) run link rest) b p fs us reals′ cells′ joins (record { counts = g .counts; top = x .number; used = used; front = g .front }) net run rest link
+        save-gives used e = subst (λ (n : ℕ). SavedOver (saveOver b (p .w .places) run link rest) b p fs us reals′ cells′ joins (record { counts = g .counts; top = x .number; used = n; front = g .front }) net run rest link) (sym e) save-kept

@@ -11,7 +11,7 @@ use state::Turned;
 ghost use mathlib.Core.Path.{_≡_};
 ghost use mathlib.Core.Bool.{true, false};
 ghost use mathlib.Core.List.{List, _∷_};
-ghost use Prim.Native.Nat.{ℕ, _%_, _≤_, _<_};
+ghost use Prim.Native.Nat.{ℕ, _%_, _≤_, _<_, _+_};
 ghost use lib.Dec.{eqb};
 ghost use lib.ListN.{length, getD};
 ghost use lib.Ieee.{Float};
@@ -155,6 +155,15 @@ fn on_over(book: &[u8], cells: &[u32], p: Plan, g: State, link_idx: u32) -> Turn
     }
 }
 
+// The entries of all runs that wait, once one that has `count` of them waits too. The run at the front doesn't wait.
+fn waiting_entries(used: usize, count: usize) -> usize
+    requires { ⌜ used ≤ 65535 ⌝ }
+    requires { ⌜ count ≤ 1024 ⌝ }
+    ensures { λ r. ⌜ r ≡ used + count ⌝ }
+{
+    used + count
+}
+
 // The run at the front goes on over one link, and a copy of it, which has not added, is saved to go on over another. Row 12: the entries of all runs that wait.
 fn save_over(
     book: &[u8],
@@ -180,7 +189,7 @@ fn save_over(
     let Taken::Leg(leg) = taken else {
         return Turned::Refused(10);
     };
-    let used = g.used + mover.count;
+    let used = waiting_entries(g.used, mover.count);
     if r.places < used {
         return Turned::Refused(12);
     }
