@@ -2,7 +2,9 @@
 use mathlib.Core.Path.{_≡_}
 use mathlib.Core.Bool.{Bool}
 use mathlib.Core.List.{List, []}
-use Prim.Native.Nat.{ℕ, _<_}
+use Prim.Native.Nat.{ℕ, _+_, _<_}
+use lib.Dec.{ltb}
+use lib.ListN.{getD}
 use Rattle.network.specs.declared.EstTime.{EstTime}
 use Rattle.insertion.specs.Insertion.{Table}
 use Rattle.passes.specs.Net.{Answer, fails, given, Pass}
@@ -17,6 +19,10 @@ pub record Inside (node : ℕ → EstTime) (n : ℕ) : Type 0 where
   pub next-alt : (i : ℕ) → i < n → node i .«idx_next_alt» < n
   pub prev : (i : ℕ) → i < n → node i .«idx_prev» < n
   pub prev-alt : (i : ℕ) → i < n → node i .«idx_prev_alt» < n
+
+-- whether a node is done (timed forward, passed backward): its cell, one for each node from `base` on, is set
+unfoldable pub doneIn : List ℕ → ℕ → ℕ → Bool
+doneIn cells base i = ltb 0 (getD cells (base + i) 0)
 
 -- a pass's table and done nodes; the walks don't look at the queue
 abbrev pub passOf : Table → (ℕ → Bool) → Pass

@@ -7,12 +7,12 @@ ghost use Prim.Native.Nat.{ℕ, _+_, _-_, _*_, _≤_, _<_};
 ghost use lib.Dec.{eqb};
 ghost use lib.ListN.{length};
 ghost use Rattle.network.specs.Table.{nodeAt, Room};
-ghost use Rattle.insertion.specs.Insertion.{Table, flagged};
+ghost use Rattle.insertion.specs.Insertion.{Table};
 ghost use Rattle.passes.specs.Checks.{fakeKind, differ, prevHolds, nextHolds, fakeHolds, prevLeads, nextLeads, nodeHolds, row14};
 ghost use Rattle.passes.specs.Net.{Pass, setTime, setNext, setPrev, setArc};
 ghost use Rattle.passes.specs.Forward.{swapJoin, isPassable as Forward·isPassable};
 ghost use Rattle.passes.specs.Backward.{swapSplit, isPassable as Backward·isPassable};
-ghost use Rattle.passes.specs.Walks.{Inside, passOf, ForwardWalk, BackwardWalk};
+ghost use Rattle.passes.specs.Walks.{Inside, doneIn, passOf, ForwardWalk, BackwardWalk};
 
 // Where a relink walk ends, or that it has passed more Fakes than there are nodes.
 pub enum Walked {
@@ -146,16 +146,16 @@ fn is_passable_forward(
 ) -> bool
     requires { ⌜ Room (now floats) (now numbers) n ⌝ }
     requires { ⌜ Inside (nodeAt (now floats) (now numbers)) n ⌝ }
-    requires { ⌜ «done_at» + n * 8 ≤ length (now cells) + 7 ⌝ }
+    requires { ⌜ «done_at» + n ≤ length (now cells) ⌝ }
     requires { ⌜ i < n ⌝ }
-    ensures { λ r. ⌜ r ≡ Forward·isPassable (passOf (record { floats = now (floats .entry); numbers = now (numbers .entry) }) (flagged (now (cells .entry)) «done_at»)) n i ⌝ }
+    ensures { λ r. ⌜ r ≡ Forward·isPassable (passOf (record { floats = now (floats .entry); numbers = now (numbers .entry) }) (doneIn (now (cells .entry)) «done_at»)) n i ⌝ }
 {
     let node = network::load(floats, numbers, i as usize);
     let event = node.link_event;
     let kind = event.est_type;
     let fake = is_fake(kind);
     let to = node.idx_next as usize;
-    let done = 0 < cells[done_at + to * 8];
+    let done = 0 < cells[done_at + to];
     fake & (!done & !(to == n - 1))
 }
 
@@ -170,9 +170,9 @@ pub fn relink_walk_forward(
 ) -> Walked
     requires { ⌜ Room (now floats) (now numbers) n ⌝ }
     requires { ⌜ Inside (nodeAt (now floats) (now numbers)) n ⌝ }
-    requires { ⌜ «done_at» + n * 8 ≤ length (now cells) + 7 ⌝ }
+    requires { ⌜ «done_at» + n ≤ length (now cells) ⌝ }
     requires { ⌜ i < n ⌝ }
-    ensures { λ r. ⌜ ForwardWalk (record { floats = now (floats .entry); numbers = now (numbers .entry) }) (flagged (now (cells .entry)) «done_at») n i r ⌝ }
+    ensures { λ r. ⌜ ForwardWalk (record { floats = now (floats .entry); numbers = now (numbers .entry) }) (doneIn (now (cells .entry)) «done_at») n i r ⌝ }
 {
     let mut at = i;
     let mut count = 0;
@@ -225,16 +225,16 @@ fn is_passable_backward(
 ) -> bool
     requires { ⌜ Room (now floats) (now numbers) n ⌝ }
     requires { ⌜ Inside (nodeAt (now floats) (now numbers)) n ⌝ }
-    requires { ⌜ «done_at» + n * 8 ≤ length (now cells) + 7 ⌝ }
+    requires { ⌜ «done_at» + n ≤ length (now cells) ⌝ }
     requires { ⌜ i < n ⌝ }
-    ensures { λ r. ⌜ r ≡ Backward·isPassable (passOf (record { floats = now (floats .entry); numbers = now (numbers .entry) }) (flagged (now (cells .entry)) «done_at»)) i ⌝ }
+    ensures { λ r. ⌜ r ≡ Backward·isPassable (passOf (record { floats = now (floats .entry); numbers = now (numbers .entry) }) (doneIn (now (cells .entry)) «done_at»)) i ⌝ }
 {
     let node = network::load(floats, numbers, i as usize);
     let event = node.link_event;
     let kind = event.est_type;
     let fake = is_fake(kind);
     let to = node.idx_prev as usize;
-    let done = 0 < cells[done_at + to * 8];
+    let done = 0 < cells[done_at + to];
     fake & (!done & !(to == 0))
 }
 
@@ -249,9 +249,9 @@ pub fn relink_walk_backward(
 ) -> Walked
     requires { ⌜ Room (now floats) (now numbers) n ⌝ }
     requires { ⌜ Inside (nodeAt (now floats) (now numbers)) n ⌝ }
-    requires { ⌜ «done_at» + n * 8 ≤ length (now cells) + 7 ⌝ }
+    requires { ⌜ «done_at» + n ≤ length (now cells) ⌝ }
     requires { ⌜ i < n ⌝ }
-    ensures { λ r. ⌜ BackwardWalk (record { floats = now (floats .entry); numbers = now (numbers .entry) }) (flagged (now (cells .entry)) «done_at») n i r ⌝ }
+    ensures { λ r. ⌜ BackwardWalk (record { floats = now (floats .entry); numbers = now (numbers .entry) }) (doneIn (now (cells .entry)) «done_at») n i r ⌝ }
 {
     let mut at = i;
     let mut count = 0;

@@ -1,4 +1,4 @@
--- A time pass at work in the lent slices: the table's nodes in `floats` and `numbers`, a flag for each node that is done (timed or passed) in `cells`, 8 apart, and the queue in `times` and `nodes`.
+-- A time pass at work in the lent slices: the table's nodes in `floats` and `numbers`, a flag for each node that is done (timed or passed) in `cells`, one after the other, and the queue in `times` and `nodes`.
 use mathlib.Core.Path.{_≡_}
 use mathlib.Core.Logic.{_≢_}
 use mathlib.Core.Bool.{Bool, true, false, not, _||_}
@@ -7,11 +7,10 @@ use Prim.Native.Nat.{ℕ, zero, suc, _+_, _*_, _≤_, _<_}
 use lib.ListN.{length, getD}
 use lib.Ieee.{Float, isNan}
 use Rattle.network.specs.Table.{nodeAt, Room}
-use Rattle.insertion.specs.Insertion.{flagged}
 use Rattle.queue.specs.declared.Entry.{Entry}
 use Rattle.queue.specs.Queue.{Holds, Each}
 use Rattle.passes.specs.Net.{Answer, fails, given, Pass}
-use Rattle.passes.specs.Walks.{Inside}
+use Rattle.passes.specs.Walks.{Inside, doneIn}
 use Rattle.passes.specs.declared.Walked.{Walked}
 use Rattle.passes.specs.declared.Walked.the-variants.{Found, Endless}
 use Rattle.progress.specs.declared.Passed.{Passed}
@@ -33,9 +32,9 @@ pub record PassIn (backward : Bool) (n done-at : ℕ) (start : List ℕ) (fs : L
   pub table : p .table ≡ record { floats = fs; numbers = us }
   pub room : Room fs us n
   pub inside : Inside (nodeAt fs us) n
-  pub flags : done-at + n * 8 ≤ length cells + 7
-  pub done : p .done ≡ flagged cells done-at
-  pub elsewhere : (q : ℕ) → ((i : ℕ) → i < n → q ≢ done-at + i * 8) → getD cells q 0 ≡ getD start q 0
+  pub flags : done-at + n ≤ length cells
+  pub done : p .done ≡ doneIn cells done-at
+  pub elsewhere : (q : ℕ) → ((i : ℕ) → i < n → q ≢ done-at + i) → getD cells q 0 ≡ getD start q 0
   pub queue : Holds backward ts ns count (p .queue)
   pub named : Each (λ e. e .node < n) (p .queue)
   pub times : n * 2 ≤ length ts
@@ -91,8 +90,8 @@ pub record Ends (answer : Answer Pass) (n done-at : ℕ) (start : List ℕ) (fs 
   pub pass : Pass
   pub is : answer ≡ given pass
   pub table : pass .table ≡ record { floats = fs; numbers = us }
-  pub done : pass .done ≡ flagged cells done-at
-  pub elsewhere : (q : ℕ) → ((i : ℕ) → i < n → q ≢ done-at + i * 8) → getD cells q 0 ≡ getD start q 0
+  pub done : pass .done ≡ doneIn cells done-at
+  pub elsewhere : (q : ℕ) → ((i : ℕ) → i < n → q ≢ done-at + i) → getD cells q 0 ≡ getD start q 0
   pub inside : Inside (nodeAt fs us) n
 
 -- true: it came to its end

@@ -3,8 +3,8 @@ use queue::Entry;
 ghost use mathlib.Core.Path.{_≡_};
 ghost use Prim.Native.Nat.{_+_, _*_, _≤_, _<_};
 ghost use lib.ListN.{length, set};
-ghost use Rattle.insertion.specs.Insertion.{flagged};
 ghost use Rattle.passes.specs.Net.{setTime};
+ghost use Rattle.passes.specs.Walks.{doneIn};
 ghost use Rattle.progress.specs.Progress.{EnqueuedAs};
 
 // How many entries the queue has then, or that an assertion of the pass fails.
@@ -21,10 +21,10 @@ pub enum Stands {
 
 // Whether a node is done.
 pub fn is_done(cells: &[u32], done_at: usize, i: u32) -> bool
-    requires { ⌜ «done_at» + i * 8 < length (now cells) ⌝ }
-    ensures { λ r. ⌜ r ≡ flagged (now (cells .entry)) «done_at» i ⌝ }
+    requires { ⌜ «done_at» + i < length (now cells) ⌝ }
+    ensures { λ r. ⌜ r ≡ doneIn (now (cells .entry)) «done_at» i ⌝ }
 {
-    0 < cells[done_at + i as usize * 8]
+    0 < cells[done_at + i as usize]
 }
 
 // A node is done, at this time.
@@ -38,13 +38,13 @@ pub fn set_done(
 )
     requires { ⌜ i * 4 + 4 ≤ length (now floats) ⌝ }
     requires { ⌜ i * 6 + 6 ≤ length (now numbers) ⌝ }
-    requires { ⌜ «done_at» + i * 8 < length (now cells) ⌝ }
+    requires { ⌜ «done_at» + i < length (now cells) ⌝ }
     ensures floats { λ _. ⌜ now (floats .exit) ≡ setTime (record { floats = now (floats .entry); numbers = now (numbers .entry) }) i time .floats ⌝ }
     ensures numbers { λ _. ⌜ now (numbers .exit) ≡ setTime (record { floats = now (floats .entry); numbers = now (numbers .entry) }) i time .numbers ⌝ }
-    ensures cells { λ _. ⌜ now (cells .exit) ≡ set (now (cells .entry)) («done_at» + i * 8) 1 ⌝ }
+    ensures cells { λ _. ⌜ now (cells .exit) ≡ set (now (cells .entry)) («done_at» + i) 1 ⌝ }
 {
     passes::set_time(floats, numbers, i as usize, time);
-    cells[done_at + i as usize * 8] = 1;
+    cells[done_at + i as usize] = 1;
 }
 
 // Puts an entry into a queue of `count`, if its time and its sub are numbers.

@@ -119,7 +119,7 @@ fn time_nodes(
     if number != 0 {
         return number;
     }
-    let flags = &mut cells[..n * 8];
+    let flags = &mut cells[..n * 2];
     space::clear_numbers(flags);
     timing::run_passes(floats, numbers, n, departure, reals, flags, marks)
 }

@@ -6,17 +6,17 @@ ghost use Prim.Native.Nat.{ℕ, _+_, _*_, _≤_};
 ghost use lib.ListN.{length};
 ghost use Rattle.space.specs.Space.{zeros};
 ghost use Rattle.network.specs.Table.{nodeAt, Room};
-ghost use Rattle.insertion.specs.Insertion.{Table, flagged};
-ghost use Rattle.passes.specs.Walks.{Inside};
+ghost use Rattle.insertion.specs.Insertion.{Table};
+ghost use Rattle.passes.specs.Walks.{Inside, doneIn};
 ghost use Rattle.passes.specs.Backward.{backward};
 ghost use Rattle.passes.specs.Passes.{someLeft, allZero, afterBackward, passes};
 ghost use Rattle.timing.specs.Timing.{timedNumber, TimedInto, sixteenIf};
 
 // Row 15: whether a pass has left a node out. A node is done whose cell is set.
 fn some_left(cells: &[u32], done_at: usize, n: usize) -> bool
-    requires { ⌜ «done_at» + n * 8 ≤ length (now cells) + 7 ⌝ }
+    requires { ⌜ «done_at» + n ≤ length (now cells) ⌝ }
     requires { ⌜ n ≤ 65535 ⌝ }
-    ensures { λ r. ⌜ r ≡ someLeft (flagged (now (cells .entry)) «done_at») n ⌝ }
+    ensures { λ r. ⌜ r ≡ someLeft (doneIn (now (cells .entry)) «done_at») n ⌝ }
 {
     let mut i = 0;
     while i < n {
@@ -63,16 +63,16 @@ fn pass_backward(
     requires { ⌜ Inside (nodeAt (now floats) (now numbers)) n ⌝ }
     requires { ⌜ 3 ≤ n ⌝ }
     requires { ⌜ n * 2 ≤ length (now reals) ⌝ }
-    requires { ⌜ n * 8 ≤ length (now cells) ⌝ }
+    requires { ⌜ n * 2 ≤ length (now cells) ⌝ }
     requires { ⌜ n ≤ length (now marks) ⌝ }
-    requires { ⌜ ((i : ℕ) → flagged (now cells) 1 i ≡ false) ⌝ }
+    requires { ⌜ ((i : ℕ) → doneIn (now cells) n i ≡ false) ⌝ }
     ensures number { λ r. ⌜ r ≡ timedNumber (afterBackward n (backward (record { floats = now (floats .entry); numbers = now (numbers .entry) }) n)) ⌝ }
     ensures table { λ _. ⌜ TimedInto (afterBackward n (backward (record { floats = now (floats .entry); numbers = now (numbers .entry) }) n)) (now (floats .exit)) (now (numbers .exit)) ⌝ }
 {
-    if !backward::update_times_backward(floats, numbers, n, cells, 1, reals, marks) {
+    if !backward::update_times_backward(floats, numbers, n, cells, n, reals, marks) {
         return 15;
     }
-    if some_left(cells, 1, n) {
+    if some_left(cells, n, n) {
         return 15;
     }
     sixteen_if(all_zero(floats, n))
@@ -92,7 +92,7 @@ pub fn run_passes(
     requires { ⌜ Inside (nodeAt (now floats) (now numbers)) n ⌝ }
     requires { ⌜ 3 ≤ n ⌝ }
     requires { ⌜ n * 2 ≤ length (now reals) ⌝ }
-    requires { ⌜ n * 8 ≤ length (now cells) ⌝ }
+    requires { ⌜ n * 2 ≤ length (now cells) ⌝ }
     requires { ⌜ n ≤ length (now marks) ⌝ }
     requires { ⌜ now cells ≡ zeros (length (now cells)) ⌝ }
     ensures number { λ r. ⌜ r ≡ timedNumber (passes (record { floats = now (floats .entry); numbers = now (numbers .entry) }) n departure) ⌝ }
