@@ -9,10 +9,10 @@ use lib.ListN.{getD}
 use lib.Ieee.{Float}
 use Rattle.network.specs.declared.EstTime.{EstTime}
 use Rattle.network.specs.Table.{nodeAt}
-use Rattle.insertion.specs.Insertion.{Table, at, flagged}
+use Rattle.insertion.specs.Insertion.{Table, at}
 use Rattle.passes.specs.Checks.{fakeKind}
 use Rattle.passes.specs.Net.{Answer, fails, given, Pass}
-use Rattle.passes.specs.Walks.{Inside, passOf}
+use Rattle.passes.specs.Walks.{Inside, doneIn, passOf}
 use Rattle.passes.specs.Forward as Forward
 use Rattle.passes.specs.Backward as Backward
 use Rattle.passes.proofs.Sets.{tableOf, next-inside, prev-inside}
@@ -55,20 +55,20 @@ and-three false b c = refl
 
 module _ (t : Table) (cells : List ℕ) (base : ℕ) (i : ℕ) (x : EstTime) (l : x ≡ nodeAt (t .floats) (t .numbers) i) (fake : Bool) (f : fake ≡ fakeKind (x .«link_event» .«est_type»)) where
   pub forward-passable : (n : ℕ)
-      → (fake && (not (ltb 0 (getD cells (base + x .«idx_next» * 8) 0)) && not (eqb (x .«idx_next») (n - 1)))) ≡ Forward.isPassable (passOf t (flagged cells base)) n i
-  unfolding Forward.isPassable flagged at
+      → (fake && (not (ltb 0 (getD cells (base + x .«idx_next») 0)) && not (eqb (x .«idx_next») (n - 1)))) ≡ Forward.isPassable (passOf t (doneIn cells base)) n i
+  unfolding Forward.isPassable doneIn at
   forward-passable n =
-      ap (λ (b : Bool). b && (not (ltb 0 (getD cells (base + x .«idx_next» * 8) 0)) && not (eqb (x .«idx_next») (n - 1)))) f
-      ∙ ap (λ (z : EstTime). fakeKind (z .«link_event» .«est_type») && (not (ltb 0 (getD cells (base + z .«idx_next» * 8) 0)) && not (eqb (z .«idx_next») (n - 1)))) l
-      ∙ and-three (fakeKind (at t i .«link_event» .«est_type»)) (not (flagged cells base (at t i .«idx_next»))) (not (eqb (at t i .«idx_next») (n - 1)))
+      ap (λ (b : Bool). b && (not (ltb 0 (getD cells (base + x .«idx_next») 0)) && not (eqb (x .«idx_next») (n - 1)))) f
+      ∙ ap (λ (z : EstTime). fakeKind (z .«link_event» .«est_type») && (not (ltb 0 (getD cells (base + z .«idx_next») 0)) && not (eqb (z .«idx_next») (n - 1)))) l
+      ∙ and-three (fakeKind (at t i .«link_event» .«est_type»)) (not (doneIn cells base (at t i .«idx_next»))) (not (eqb (at t i .«idx_next») (n - 1)))
 
   pub backward-passable :
-      (fake && (not (ltb 0 (getD cells (base + x .«idx_prev» * 8) 0)) && not (eqb (x .«idx_prev») 0))) ≡ Backward.isPassable (passOf t (flagged cells base)) i
-  unfolding Backward.isPassable flagged at
+      (fake && (not (ltb 0 (getD cells (base + x .«idx_prev») 0)) && not (eqb (x .«idx_prev») 0))) ≡ Backward.isPassable (passOf t (doneIn cells base)) i
+  unfolding Backward.isPassable doneIn at
   backward-passable =
-      ap (λ (b : Bool). b && (not (ltb 0 (getD cells (base + x .«idx_prev» * 8) 0)) && not (eqb (x .«idx_prev») 0))) f
-      ∙ ap (λ (z : EstTime). fakeKind (z .«link_event» .«est_type») && (not (ltb 0 (getD cells (base + z .«idx_prev» * 8) 0)) && not (eqb (z .«idx_prev») 0))) l
-      ∙ and-three (fakeKind (at t i .«link_event» .«est_type»)) (not (flagged cells base (at t i .«idx_prev»))) (not (eqb (at t i .«idx_prev») 0))
+      ap (λ (b : Bool). b && (not (ltb 0 (getD cells (base + x .«idx_prev») 0)) && not (eqb (x .«idx_prev») 0))) f
+      ∙ ap (λ (z : EstTime). fakeKind (z .«link_event» .«est_type») && (not (ltb 0 (getD cells (base + z .«idx_prev») 0)) && not (eqb (z .«idx_prev») 0))) l
+      ∙ and-three (fakeKind (at t i .«link_event» .«est_type»)) (not (doneIn cells base (at t i .«idx_prev»))) (not (eqb (at t i .«idx_prev») 0))
 
 -- ---- the loop
 
@@ -100,37 +100,37 @@ module _ (walk : ℕ → ℕ → Answer ℕ) (n start : ℕ) where
 -- ---- forward
 
 abbrev pub forwardWalk : List Float → List ℕ → List ℕ → ℕ → ℕ → ℕ → ℕ → Answer ℕ
-forwardWalk fs us cells base n k i = Forward.relinkWalk k (passOf (tableOf fs us) (flagged cells base)) n i
+forwardWalk fs us cells base n k i = Forward.relinkWalk k (passOf (tableOf fs us) (doneIn cells base)) n i
 
 module _ (fs : List Float) (us cells : List ℕ) (base n start i count : ℕ) (v : Walking (forwardWalk fs us cells base n) n start i count) (r : Bool)
-    (e : r ≡ Forward.isPassable (passOf (tableOf fs us) (flagged cells base)) n i) where
+    (e : r ≡ Forward.isPassable (passOf (tableOf fs us) (doneIn cells base)) n i) where
   pub forward-found : r ≡ false → (forwardWalk fs us cells base n n start ≡ given i) × (i < n)
-  forward-found h = walking-found (forwardWalk fs us cells base n) n start i count v (forward-stops (passOf (tableOf fs us) (flagged cells base)) n i (n - count) (sym e ∙ h))
+  forward-found h = walking-found (forwardWalk fs us cells base n) n start i count v (forward-stops (passOf (tableOf fs us) (doneIn cells base)) n i (n - count) (sym e ∙ h))
 
   pub forward-endless : r ≡ true → n ≤ count → forwardWalk fs us cells base n n start ≡ fails
-  forward-endless h g = walking-endless (forwardWalk fs us cells base n) n start i count v g (forward-ends (passOf (tableOf fs us) (flagged cells base)) n i (sym e ∙ h))
+  forward-endless h g = walking-endless (forwardWalk fs us cells base n) n start i count v g (forward-ends (passOf (tableOf fs us) (doneIn cells base)) n i (sym e ∙ h))
 
   pub forward-on : r ≡ true → count < n → Inside (nodeAt fs us) n → (x : EstTime) → x ≡ nodeAt fs us i → Walking (forwardWalk fs us cells base n) n start (x .«idx_next») (count + 1)
   unfolding at
   forward-on h g w x l =
       walking-on (forwardWalk fs us cells base n) n start i count v g (x .«idx_next») (next-inside fs us w i (v .within) x l)
-      (forward-goes (passOf (tableOf fs us) (flagged cells base)) n i (n - (count + 1)) (sym e ∙ h) ∙ ap (λ (z : EstTime). forwardWalk fs us cells base n (n - (count + 1)) (z .«idx_next»)) (sym l))
+      (forward-goes (passOf (tableOf fs us) (doneIn cells base)) n i (n - (count + 1)) (sym e ∙ h) ∙ ap (λ (z : EstTime). forwardWalk fs us cells base n (n - (count + 1)) (z .«idx_next»)) (sym l))
 
 -- ---- backward
 
 abbrev pub backwardWalk : List Float → List ℕ → List ℕ → ℕ → ℕ → ℕ → ℕ → Answer ℕ
-backwardWalk fs us cells base n k i = Backward.relinkWalk k (passOf (tableOf fs us) (flagged cells base)) i
+backwardWalk fs us cells base n k i = Backward.relinkWalk k (passOf (tableOf fs us) (doneIn cells base)) i
 
 module _ (fs : List Float) (us cells : List ℕ) (base n start i count : ℕ) (v : Walking (backwardWalk fs us cells base n) n start i count) (r : Bool)
-    (e : r ≡ Backward.isPassable (passOf (tableOf fs us) (flagged cells base)) i) where
+    (e : r ≡ Backward.isPassable (passOf (tableOf fs us) (doneIn cells base)) i) where
   pub backward-found : r ≡ false → (backwardWalk fs us cells base n n start ≡ given i) × (i < n)
-  backward-found h = walking-found (backwardWalk fs us cells base n) n start i count v (backward-stops (passOf (tableOf fs us) (flagged cells base)) i (n - count) (sym e ∙ h))
+  backward-found h = walking-found (backwardWalk fs us cells base n) n start i count v (backward-stops (passOf (tableOf fs us) (doneIn cells base)) i (n - count) (sym e ∙ h))
 
   pub backward-endless : r ≡ true → n ≤ count → backwardWalk fs us cells base n n start ≡ fails
-  backward-endless h g = walking-endless (backwardWalk fs us cells base n) n start i count v g (backward-ends (passOf (tableOf fs us) (flagged cells base)) i (sym e ∙ h))
+  backward-endless h g = walking-endless (backwardWalk fs us cells base n) n start i count v g (backward-ends (passOf (tableOf fs us) (doneIn cells base)) i (sym e ∙ h))
 
   pub backward-on : r ≡ true → count < n → Inside (nodeAt fs us) n → (x : EstTime) → x ≡ nodeAt fs us i → Walking (backwardWalk fs us cells base n) n start (x .«idx_prev») (count + 1)
   unfolding at
   backward-on h g w x l =
       walking-on (backwardWalk fs us cells base n) n start i count v g (x .«idx_prev») (prev-inside fs us w i (v .within) x l)
-      (backward-goes (passOf (tableOf fs us) (flagged cells base)) i (n - (count + 1)) (sym e ∙ h) ∙ ap (λ (z : EstTime). backwardWalk fs us cells base n (n - (count + 1)) (z .«idx_prev»)) (sym l))
+      (backward-goes (passOf (tableOf fs us) (doneIn cells base)) i (n - (count + 1)) (sym e ∙ h) ∙ ap (λ (z : EstTime). backwardWalk fs us cells base n (n - (count + 1)) (z .«idx_prev»)) (sym l))

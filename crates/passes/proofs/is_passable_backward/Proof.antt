@@ -23,6 +23,5 @@ is-passable-backward-spec =
     (λ c. search needs)
     (λ c. search needs)
     (λ c. search needs)
-    (λ c. search needs)
     shared-slice-read-done
     returns)

@@ -23,7 +23,6 @@ is-passable-forward-spec =
     (λ c. search needs)
     (λ c. search needs)
     (λ c. search needs)
-    (λ c. search needs)
     shared-slice-read-done
     (λ c. search needs)
     returns)
