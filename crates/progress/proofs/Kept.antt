@@ -10,12 +10,12 @@ use lib.Seq.{getD-set-other}
 use lib.Ieee.{Float, isNan}
 use Rattle.network.specs.declared.EstTime.{EstTime}
 use Rattle.network.specs.Table.{nodeAt, Room}
-use Rattle.insertion.specs.Insertion.{Table, at, flagged}
+use Rattle.insertion.specs.Insertion.{Table, at}
 use Rattle.queue.specs.declared.Entry.{Entry}
 use Rattle.queue.specs.Queue.{best, others, Each, Holds}
 use Rattle.queue.proofs.Kept.{each-kept, holds-none}
 use Rattle.passes.specs.Net.{Answer, given, Pass, alsoDone, setTime}
-use Rattle.passes.specs.Walks.{Inside}
+use Rattle.passes.specs.Walks.{Inside, doneIn}
 use Rattle.passes.specs.Backward.{queued}
 use Rattle.progress.specs.declared.Passed.{Passed}
 use Rattle.progress.specs.declared.Passed.the-variants.{Queued, Fails}
@@ -65,7 +65,7 @@ module _ {backward : Bool} {n base : ℕ} {start : List ℕ} {fs : List Float} {
   unfolding at
   node-in i x e = e ∙ ap (λ (t : Table). at t i) (sym (v .table))
 
-  pub done-in : (i : ℕ) (r : Bool) → r ≡ flagged cells base i → p .done i ≡ r
+  pub done-in : (i : ℕ) (r : Bool) → r ≡ doneIn cells base i → p .done i ≡ r
   done-in i r e = ap (λ (f : ℕ → Bool). f i) (v .done) ∙ sym e
 
   pub linked-in : Linked (p .table) n
@@ -95,17 +95,17 @@ module _ {backward : Bool} {n base : ℕ} {start : List ℕ} {fs : List Float} {
 
   -- ---- a node done
 
-  flagged-with : (i : ℕ) → i < n → (cells′ : List ℕ) → cells′ ≡ set cells (base + i * 8) 1 → (less : ℕ) → count + left (alsoDone (p .done) i) n ≤ less
+  flagged-with : (i : ℕ) → i < n → (cells′ : List ℕ) → cells′ ≡ set cells (base + i) 1 → (less : ℕ) → count + left (alsoDone (p .done) i) n ≤ less
       → PassIn backward n base start fs us cells′ ts ns count less (flaggedAt p i)
   flagged-with i h cells′ e less few =
-      let within : base + i * 8 < length cells = omega (arith, v .flags) in
+      let within : base + i < length cells = omega (arith, v .flags) in
       record {
         table = v .table;
         room = v .room;
         inside = v .inside;
-        flags = let l = ap length e ∙ length-set cells (base + i * 8) 1 in omega (arith, v .flags);
-        done = ap (λ (f : ℕ → Bool). alsoDone f i) (v .done) ∙ sym (flags-set cells base i within) ∙ ap (λ (l : List ℕ). flagged l base) (sym e);
-        elsewhere = λ q o. ap (λ (l : List ℕ). getD l q 0) e ∙ getD-set-other cells (base + i * 8) q 1 0 (o i h) ∙ v .elsewhere q o;
+        flags = let l = ap length e ∙ length-set cells (base + i) 1 in omega (arith, v .flags);
+        done = ap (λ (f : ℕ → Bool). alsoDone f i) (v .done) ∙ sym (flags-set cells base i within) ∙ ap (λ (l : List ℕ). doneIn l base) (sym e);
+        elsewhere = λ q o. ap (λ (l : List ℕ). getD l q 0) e ∙ getD-set-other cells (base + i) q 1 0 (o i h) ∙ v .elsewhere q o;
         queue = v .queue;
         named = v .named;
         times = v .times;
@@ -113,16 +113,16 @@ module _ {backward : Bool} {n base : ℕ} {start : List ℕ} {fs : List Float} {
         few = few;
       }
 
-  in-flag : (i : ℕ) → i < n → (cells′ : List ℕ) → cells′ ≡ set cells (base + i * 8) 1 → PassIn backward n base start fs us cells′ ts ns count most (flaggedAt p i)
+  in-flag : (i : ℕ) → i < n → (cells′ : List ℕ) → cells′ ≡ set cells (base + i) 1 → PassIn backward n base start fs us cells′ ts ns count most (flaggedAt p i)
   in-flag i h cells′ e = flagged-with i h cells′ e most (omega (arith, v .few, left-kept (p .done) i n))
 
   -- that was not done: one fewer is left
-  pub in-flag-new : (i : ℕ) → i < n → (cells′ : List ℕ) → cells′ ≡ set cells (base + i * 8) 1 → p .done i ≡ false → (less : ℕ) → most ≤ less + 1
+  pub in-flag-new : (i : ℕ) → i < n → (cells′ : List ℕ) → cells′ ≡ set cells (base + i) 1 → p .done i ≡ false → (less : ℕ) → most ≤ less + 1
       → PassIn backward n base start fs us cells′ ts ns count less (flaggedAt p i)
   in-flag-new i h cells′ e d less l = flagged-with i h cells′ e less (omega (arith, v .few, left-falls (p .done) i n h d))
 
   -- at a time
-  module _ (i : ℕ) (h : i < n) (x : Float) (gs : List Float) (vs cells′ : List ℕ) (e : (gs ≡ setTime (tableOf fs us) i x .floats) × ((vs ≡ setTime (tableOf fs us) i x .numbers) × (cells′ ≡ set cells (base + i * 8) 1))) where
+  module _ (i : ℕ) (h : i < n) (x : Float) (gs : List Float) (vs cells′ : List ℕ) (e : (gs ≡ setTime (tableOf fs us) i x .floats) × ((vs ≡ setTime (tableOf fs us) i x .numbers) × (cells′ ≡ set cells (base + i) 1))) where
     timed : PassIn backward n base start gs vs cells ts ns count most (tabled p (setTime (p .table) i x))
     timed =
         let f = e .0 ∙ ap (λ (t : Table). setTime t i x .floats) (sym (v .table)) in
@@ -197,7 +197,7 @@ module _ {backward : Bool} {n base : ℕ} {start : List ℕ} {fs : List Float} {
 -- a node done at a time
 module _ {backward : Bool} {n base : ℕ} {start : List ℕ} {fs : List Float} {us cells : List ℕ} {ts : List Float} {ns : List ℕ} {count most : ℕ} {p : Pass}
     (v : PassIn backward n base start fs us cells ts ns count most p) (i : ℕ) (h : i < n) (x : Float) (gs : List Float) (vs cells′ : List ℕ)
-    (e : (gs ≡ setTime (tableOf fs us) i x .floats) × ((vs ≡ setTime (tableOf fs us) i x .numbers) × (cells′ ≡ set cells (base + i * 8) 1))) where
+    (e : (gs ≡ setTime (tableOf fs us) i x .floats) × ((vs ≡ setTime (tableOf fs us) i x .numbers) × (cells′ ≡ set cells (base + i) 1))) where
   pub in-done : PassIn backward n base start gs vs cells′ ts ns count most (doneAt p i x)
   in-done = in-flag (timed v i h x gs vs cells′ e) i h cells′ (e .1 .1)
 
@@ -206,8 +206,8 @@ module _ {backward : Bool} {n base : ℕ} {start : List ℕ} {fs : List Float} {
 
 -- ---- the start: nothing is queued yet
 
-pub in-start : (backward : Bool) (n base : ℕ) (fs : List Float) (us cells : List ℕ) (ts : List Float) (ns : List ℕ) → Room fs us n → Inside (nodeAt fs us) n → base + n * 8 ≤ length cells + 7 → n * 2 ≤ length ts → n ≤ length ns
-    → PassIn backward n base cells fs us cells ts ns 0 n (record { table = tableOf fs us; done = flagged cells base; queue = [] })
+pub in-start : (backward : Bool) (n base : ℕ) (fs : List Float) (us cells : List ℕ) (ts : List Float) (ns : List ℕ) → Room fs us n → Inside (nodeAt fs us) n → base + n ≤ length cells → n * 2 ≤ length ts → n ≤ length ns
+    → PassIn backward n base cells fs us cells ts ns 0 n (record { table = tableOf fs us; done = doneIn cells base; queue = [] })
 in-start backward n base fs us cells ts ns r i f t m = record {
   table = refl;
   room = r;
@@ -219,7 +219,7 @@ in-start backward n base fs us cells ts ns r i f t m = record {
   named = tt;
   times = t;
   nodes = m;
-  few = omega (arith, left-most (flagged cells base) n);
+  few = omega (arith, left-most (doneIn cells base) n);
 }
 
 -- ---- answers

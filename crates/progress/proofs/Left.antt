@@ -10,8 +10,8 @@ use borrow.Author.Tests.{eqb-true, eqb-false, eq-eqb, ne-eqb}
 use lib.Dec.{eqb, ltb}
 use lib.ListN.{length, set}
 use lib.Seq.{getD-set-same, getD-set-other}
-use Rattle.insertion.specs.Insertion.{flagged}
 use Rattle.passes.specs.Net.{alsoDone}
+use Rattle.passes.specs.Walks.{doneIn}
 use Rattle.progress.specs.Progress.{oneIf, left}
 
 either : (b : Bool) → (b ≡ true) ⊎ (b ≡ false)
@@ -81,17 +81,17 @@ module _ (done : ℕ → Bool) (i : ℕ) where
 
 -- ---- the flags
 
-module _ (cells : List ℕ) (at i : ℕ) (h : at + i * 8 < length cells) where
-  flag-set : (k : ℕ) → flagged (set cells (at + i * 8) 1) at k ≡ alsoDone (flagged cells at) i k
-  unfolding flagged
+module _ (cells : List ℕ) (at i : ℕ) (h : at + i < length cells) where
+  flag-set : (k : ℕ) → doneIn (set cells (at + i) 1) at k ≡ alsoDone (doneIn cells at) i k
+  unfolding doneIn
   flag-set k = ⊎-elim here there (same-or-not k i)
     where
-      here : k ≡ i → flagged (set cells (at + i * 8) 1) at k ≡ alsoDone (flagged cells at) i k
+      here : k ≡ i → doneIn (set cells (at + i) 1) at k ≡ alsoDone (doneIn cells at) i k
       here o =
-          ap (flagged (set cells (at + i * 8) 1) at) o ∙ ap (ltb 0) (getD-set-same cells (at + i * 8) 1 0 h) ∙ sym (ap (alsoDone (flagged cells at) i) o ∙ done-same (flagged cells at) i)
+          ap (doneIn (set cells (at + i) 1) at) o ∙ ap (ltb 0) (getD-set-same cells (at + i) 1 0 h) ∙ sym (ap (alsoDone (doneIn cells at) i) o ∙ done-same (doneIn cells at) i)
 
-      there : k ≢ i → flagged (set cells (at + i * 8) 1) at k ≡ alsoDone (flagged cells at) i k
-      there o = ap (ltb 0) (getD-set-other cells (at + i * 8) (at + k * 8) 1 0 (λ (q : at + k * 8 ≡ at + i * 8). o (omega arith))) ∙ sym (done-other (flagged cells at) i k o)
+      there : k ≢ i → doneIn (set cells (at + i) 1) at k ≡ alsoDone (doneIn cells at) i k
+      there o = ap (ltb 0) (getD-set-other cells (at + i) (at + k) 1 0 (λ (q : at + k ≡ at + i). o (omega arith))) ∙ sym (done-other (doneIn cells at) i k o)
 
-  pub flags-set : flagged (set cells (at + i * 8) 1) at ≡ alsoDone (flagged cells at) i
+  pub flags-set : doneIn (set cells (at + i) 1) at ≡ alsoDone (doneIn cells at) i
   flags-set = λ t k. flag-set k t

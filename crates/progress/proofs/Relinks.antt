@@ -10,11 +10,11 @@ use lib.Dec.{eqb}
 use lib.Ieee.{Float}
 use Rattle.network.specs.declared.EstTime.{EstTime}
 use Rattle.network.specs.Table.{nodeAt}
-use Rattle.insertion.specs.Insertion.{Table, at, flagged}
+use Rattle.insertion.specs.Insertion.{Table, at}
 use Rattle.passes.specs.declared.Walked.{Walked}
 use Rattle.passes.specs.declared.Walked.the-variants.{Found, Endless}
 use Rattle.passes.specs.Net.{Answer, fails, given, andThen, asserting, Pass}
-use Rattle.passes.specs.Walks.{passOf, WalkAs}
+use Rattle.passes.specs.Walks.{doneIn, passOf, WalkAs}
 use Rattle.progress.specs.Progress.{left, PassIn, FindsBy}
 use Rattle.progress.proofs.Links.{Linked, Names, names-in}
 use Rattle.progress.proofs.Kept.{tableOf, tabled, node-in, done-in, linked-in, in-table}
@@ -42,7 +42,7 @@ module _ {n : ℕ} (w : Relinker n) (p : Pass) (curr : ℕ) where
   relinkBy = let next = w .link (at (p .table) curr) in soughtBy next (p .done curr) (p .done next) (w .walk p next)
 
 module _ {n : ℕ} (w : Relinker n) {backward : Bool} {base : ℕ} {start : List ℕ} {fs : List Float} {us cells : List ℕ} {ts : List Float} {ns : List ℕ} {count most : ℕ} {p : Pass}
-    (v : PassIn backward n base start fs us cells ts ns count most p) (curr : ℕ) (x : EstTime) (l : x ≡ nodeAt fs us curr) (d : Bool) (e : d ≡ flagged cells base curr) where
+    (v : PassIn backward n base start fs us cells ts ns count most p) (curr : ℕ) (x : EstTime) (l : x ≡ nodeAt fs us curr) (d : Bool) (e : d ≡ doneIn cells base curr) where
   abbrev next : ℕ
   next = w .link x
 
@@ -55,7 +55,7 @@ module _ {n : ℕ} (w : Relinker n) {backward : Bool} {base : ℕ} {start : List
   pub relink-undone : d ≡ false → relinkBy w p curr ≡ fails
   relink-undone t = relink-by ∙ ap (λ (z : Bool). soughtBy w p curr next z (p .done next) (w .walk p next)) t
 
-  module _ (t : d ≡ true) (b : Bool) (f : b ≡ flagged cells base (w .link x)) where
+  module _ (t : d ≡ true) (b : Bool) (f : b ≡ doneIn cells base (w .link x)) where
     relink-next : (c : Bool) → b ≡ c → relinkBy w p curr ≡ soughtBy w p curr next true c (w .walk p next)
     relink-next c o =
         relink-by ∙ ap (λ (z : Bool). soughtBy w p curr next z (p .done next) (w .walk p next)) t ∙ ap (λ (z : Bool). soughtBy w p curr next true z (w .walk p next)) (done-in v next b f ∙ o)
@@ -64,20 +64,20 @@ module _ {n : ℕ} (w : Relinker n) {backward : Bool} {base : ℕ} {start : List
     pub relink-done : b ≡ true → relinkBy w p curr ≡ fails
     relink-done o = relink-next true o
 
-    module _ (o : b ≡ false) (r : Walked) (g : WalkAs (w .walk (passOf (tableOf fs us) (flagged cells base)) (w .link x)) n r) where
-      walked : w .walk p next ≡ w .walk (passOf (tableOf fs us) (flagged cells base)) next
+    module _ (o : b ≡ false) (r : Walked) (g : WalkAs (w .walk (passOf (tableOf fs us) (doneIn cells base)) (w .link x)) n r) where
+      walked : w .walk p next ≡ w .walk (passOf (tableOf fs us) (doneIn cells base)) next
       walked = w .same p next ∙ ap (λ (s : Table). w .walk (passOf s (p .done)) next) (v .table) ∙ ap (λ (h : ℕ → Bool). w .walk (passOf (tableOf fs us) h) next) (v .done)
 
-      relink-walk : (a : Answer ℕ) → w .walk (passOf (tableOf fs us) (flagged cells base)) next ≡ a → relinkBy w p curr ≡ soughtBy w p curr next true false a
+      relink-walk : (a : Answer ℕ) → w .walk (passOf (tableOf fs us) (doneIn cells base)) next ≡ a → relinkBy w p curr ≡ soughtBy w p curr next true false a
       relink-walk a q = relink-next false o ∙ ap (soughtBy w p curr next true false) (walked ∙ q)
 
       -- the walk doesn't end
       pub relink-endless : r ≡ Endless → relinkBy w p curr ≡ fails
-      relink-endless q = relink-walk fails (subst (WalkAs (w .walk (passOf (tableOf fs us) (flagged cells base)) next) n) q g)
+      relink-endless q = relink-walk fails (subst (WalkAs (w .walk (passOf (tableOf fs us) (doneIn cells base)) next) n) q g)
 
       module _ (found : ℕ) (q : r ≡ Found found) where
-        ended : (w .walk (passOf (tableOf fs us) (flagged cells base)) next ≡ given found) × (found < n)
-        ended = subst (WalkAs (w .walk (passOf (tableOf fs us) (flagged cells base)) next) n) q g
+        ended : (w .walk (passOf (tableOf fs us) (doneIn cells base)) next ≡ given found) × (found < n)
+        ended = subst (WalkAs (w .walk (passOf (tableOf fs us) (doneIn cells base)) next) n) q g
 
         -- the neighbour itself is found
         pub relink-same : w .link x ≡ found → FindsBy (relinkBy w p curr) (w .form curr) backward n base start fs us cells ts ns count most (left (p .done) n + 1) (Found found)

@@ -11,11 +11,12 @@ use lib.ListN.{length}
 use lib.Ieee.{Float, isNan}
 use Rattle.network.specs.declared.EstTime.{EstTime}
 use Rattle.network.specs.Table.{nodeAt}
-use Rattle.insertion.specs.Insertion.{at, flagged}
+use Rattle.insertion.specs.Insertion.{at}
 use Rattle.queue.specs.declared.Entry.{Entry}
 use Rattle.passes.specs.Checks.{fakeKind, isFake}
 use Rattle.passes.specs.Net.{Answer, given, asserting, Pass}
 use Rattle.passes.specs.Backward.{queued}
+use Rattle.passes.specs.Walks.{doneIn}
 use Rattle.progress.specs.declared.Passed.{Passed}
 use Rattle.progress.specs.declared.Passed.the-variants.{Queued, Fails}
 use Rattle.progress.specs.Progress.{left, PassIn, PassAs, EnqueuedAs}
@@ -43,7 +44,7 @@ both-asserted true b x = refl
 both-asserted false b x = refl
 
 module _ {n : ℕ} (w : Settler n) {backward : Bool} {base : ℕ} {start : List ℕ} {fs : List Float} {us cells : List ℕ} {ts : List Float} {ns : List ℕ} {count : ℕ} {p : Pass} (v : PassIn backward n base start fs us cells ts ns count (n - 2) p)
-    (curr next : ℕ) (x y : EstTime) (l : x ≡ nodeAt fs us curr) (m : y ≡ nodeAt fs us next) (fake : Bool) (f : fake ≡ fakeKind (x .«link_event» .«est_type»)) (d : Bool) (e : d ≡ flagged cells base next) where
+    (curr next : ℕ) (x y : EstTime) (l : x ≡ nodeAt fs us curr) (m : y ≡ nodeAt fs us next) (fake : Bool) (f : fake ≡ fakeKind (x .«link_event» .«est_type»)) (d : Bool) (e : d ≡ doneIn cells base next) where
   fake-is : isFake (at (p .table) curr) ≡ fake
   fake-is = ap isFake (sym (node-in v curr x l)) ∙ sym f
 

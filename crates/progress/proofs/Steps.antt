@@ -9,10 +9,11 @@ use lib.Ieee.{Float, isNan}
 use mathlib.Core.Bool.{_||_}
 use Rattle.network.specs.declared.EstTime.{EstTime}
 use Rattle.network.specs.Table.{nodeAt}
-use Rattle.insertion.specs.Insertion.{Table, at, flagged}
+use Rattle.insertion.specs.Insertion.{Table, at}
 use Rattle.queue.specs.declared.Entry.{Entry}
 use Rattle.passes.specs.Net.{Answer, fails, given, andThen, asserting, Pass, setTime}
 use Rattle.passes.specs.Backward.{queued}
+use Rattle.passes.specs.Walks.{doneIn}
 use Rattle.progress.specs.declared.Passed.{Passed}
 use Rattle.progress.specs.declared.Passed.the-variants.{Queued, Fails}
 use Rattle.progress.specs.declared.Stands.the-variants.{On, Nowhere}
@@ -51,7 +52,7 @@ module _ {n : ℕ} (w : Stepper n) {backward : Bool} {base : ℕ} {start : List 
   pub step-unqueued : r ≡ Fails → StandsAs (w .step (w .form curr next p)) (w .form) backward n base start gs vs flags us′ vs′ (n - 2) (left (p .done) n) Nowhere
   step-unqueued e = record { told = step-after fails (subst (PassAs (w .alternated p curr) backward n base start gs vs flags us′ vs′ (n - 1) (left (p .done) n + 1)) e g .told) }
 
-  module _ (count : ℕ) (e : r ≡ Queued count) (d : Bool) (f : d ≡ flagged flags base next) where
+  module _ (count : ℕ) (e : r ≡ Queued count) (d : Bool) (f : d ≡ doneIn flags base next) where
     queued-as : Gives (w .alternated p curr) (λ q. q) backward n base start gs vs flags us′ vs′ count (n - 1) (left (p .done) n + 1)
     queued-as = subst (PassAs (w .alternated p curr) backward n base start gs vs flags us′ vs′ (n - 1) (left (p .done) n + 1)) e g .told
 
@@ -66,7 +67,7 @@ module _ {n : ℕ} (w : Stepper n) {backward : Bool} {base : ℕ} {start : List 
 
     -- it gets done
     pub step-on : d ≡ false → next < n → (t : Float) → t ≡ w .time (tableOf gs vs) curr next → {fs : List Float} {us cells : List ℕ}
-        → (fs ≡ setTime (tableOf gs vs) next t .floats) × ((us ≡ setTime (tableOf gs vs) next t .numbers) × (cells ≡ set flags (base + next * 8) 1)) → (y : EstTime) → y ≡ nodeAt fs us next
+        → (fs ≡ setTime (tableOf gs vs) next t .floats) × ((us ≡ setTime (tableOf gs vs) next t .numbers) × (cells ≡ set flags (base + next) 1)) → (y : EstTime) → y ≡ nodeAt fs us next
         → StandsAs (w .step (w .form curr next p)) (w .form) backward n base start fs us cells us′ vs′ (n - 2) (left (p .done) n) (On next (w .link y) count)
     step-on c k t s {fs} {us} {cells} o y m =
         let v = queued-as .holds in
@@ -91,7 +92,7 @@ module _ {backward : Bool} {n base : ℕ} {start : List ℕ} {fs : List Float} {
 
   -- it gets done and is queued
   pub alternate-some : (k : ℕ) → 0 < k → k < n → (t : Float) (e : Entry) → e .node ≡ k → a ≡ queued (isNan (e .time) || isNan (e .sub)) (doneAt p k t) e → {gs : List Float} {vs flags : List ℕ}
-      → (gs ≡ setTime (tableOf fs us) k t .floats) × ((vs ≡ setTime (tableOf fs us) k t .numbers) × (flags ≡ set cells (base + k * 8) 1)) → {ts′ : List Float} {ns′ : List ℕ} {r : Passed}
+      → (gs ≡ setTime (tableOf fs us) k t .floats) × ((vs ≡ setTime (tableOf fs us) k t .numbers) × (flags ≡ set cells (base + k) 1)) → {ts′ : List Float} {ns′ : List ℕ} {r : Passed}
       → EnqueuedAs backward ts ns ts′ ns′ count e r → length ts ≡ length ts′ → length ns ≡ length ns′ → PassAs a backward n base start gs vs flags ts′ ns′ (n - 1) (left (p .done) n + 1) r
   alternate-some k z h t e j i {gs} {vs} {flags} d q lt ln =
       pass-after (left (p .done) n + 1) i (omega arith) (enqueued-in (in-done v k h t gs vs flags d) e (omega arith) q lt ln (n - 1) (omega arith) (left (p .done) n + 1) (omega (arith, left-kept (p .done) k n)))

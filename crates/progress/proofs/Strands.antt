@@ -10,9 +10,10 @@ use lib.ListN.{length}
 use lib.Ieee.{Float}
 use Rattle.network.specs.declared.EstTime.{EstTime}
 use Rattle.network.specs.Table.{nodeAt}
-use Rattle.insertion.specs.Insertion.{at, flagged}
+use Rattle.insertion.specs.Insertion.{at}
 use Rattle.passes.specs.Checks.{fakeKind, isFake}
 use Rattle.passes.specs.Net.{Answer, fails, given, andThen, Pass}
+use Rattle.passes.specs.Walks.{doneIn}
 use Rattle.progress.specs.declared.Stands.{Stands}
 use Rattle.progress.specs.declared.Stands.the-variants.{On, Nowhere}
 use Rattle.progress.specs.Progress.{left, PassIn, Working, Gives, StandsAs}
@@ -117,12 +118,12 @@ module _ (w : Walker) {backward : Bool} {n base most : ℕ} {fs₀ : List Float}
     strand-looks = given-by (s .working .pass) (s .working .start) (s .working .holds) .told .1 .1
 
     -- one fewer is left
-    pub strand-less : left (flagged flags base) n < left (flagged cells base) n
+    pub strand-less : left (doneIn flags base) n < left (doneIn cells base) n
     strand-less =
         let o = s .working in
         let g = given-by (o .pass) (o .start) (o .holds) .told .0 in
-        let a : left (g .pass .done) n ≡ left (flagged flags base) n = ap (λ (f : ℕ → Bool). left f n) (g .holds .done) in
-        let b : left (o .pass .done) n ≡ left (flagged cells base) n = ap (λ (f : ℕ → Bool). left f n) (o .holds .done) in
+        let a : left (g .pass .done) n ≡ left (doneIn flags base) n = ap (λ (f : ℕ → Bool). left f n) (g .holds .done) in
+        let b : left (o .pass .done) n ≡ left (doneIn cells base) n = ap (λ (f : ℕ → Bool). left f n) (o .holds .done) in
         omega (arith, g .fewer)
 
     module _ (t : Bool) (stop : (p : Pass) (start : List ℕ) → PassIn backward n base start gs vs flags us′ vs′ more most p → t ≡ w .stops (w .form i k p)) where

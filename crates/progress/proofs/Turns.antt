@@ -7,10 +7,10 @@ use native.Mathlib.Nat.{not-suc-le-zero, le-trans}
 use native.Mathlib.Omega.{arith}
 use lib.ListN.{length}
 use lib.Ieee.{Float}
-use Rattle.insertion.specs.Insertion.{flagged}
 use Rattle.queue.specs.declared.Entry.{Entry}
 use Rattle.queue.specs.Queue.{best, others, Holds}
 use Rattle.passes.specs.Net.{Answer, fails, given, andThen, Pass}
+use Rattle.passes.specs.Walks.{doneIn}
 use Rattle.progress.specs.declared.Passed.{Passed}
 use Rattle.progress.specs.declared.Passed.the-variants.{Queued, Fails}
 use Rattle.progress.specs.Progress.{left, PassIn, Working, Gives, PassAs, Ends}
@@ -87,12 +87,12 @@ module _ (w : Turner) {n base : ℕ} {fs₀ : List Float} {us₀ cells₀ : List
         given-by p start v = subst (PassAs (w .turn p e) (w .backward) n base start gs vs flags us′ vs′ (n - 1) (left (p .done) n)) q (a p start v)
 
         -- one fewer is left
-        pub turning-less : left (flagged flags base) n < left (flagged cells base) n
+        pub turning-less : left (doneIn flags base) n < left (doneIn cells base) n
         turning-less =
             let v = taken-out (s .working .holds) .holds in
             let g = given-by (queueing (s .working .pass) (others (w .backward) (taken-out (s .working .holds) .first) (taken-out (s .working .holds) .rest))) (s .working .start) v .told in
-            let x : left (g .pass .done) n ≡ left (flagged flags base) n = ap (λ (f : ℕ → Bool). left f n) (g .holds .done) in
-            let y : left (s .working .pass .done) n ≡ left (flagged cells base) n = ap (λ (f : ℕ → Bool). left f n) (s .working .holds .done) in
+            let x : left (g .pass .done) n ≡ left (doneIn flags base) n = ap (λ (f : ℕ → Bool). left f n) (g .holds .done) in
+            let y : left (s .working .pass .done) n ≡ left (doneIn cells base) n = ap (λ (f : ℕ → Bool). left f n) (s .working .holds .done) in
             omega (arith, g .fewer)
 
         -- the turn is over

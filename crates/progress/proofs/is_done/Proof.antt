@@ -1,13 +1,13 @@
 -- `progress::is_done` meets its contract.
 use borrow.Author.Needs.{needs}
 use mathlib.Core.Path.{refl}
-use Rattle.insertion.specs.Insertion.{flagged}
+use Rattle.passes.specs.Walks.{doneIn}
 use Rattle.progress.proofs.is_done.Statement.{statement}
 use Rattle.progress.proofs.is_done.Tie as tie
 
 returns : tie.Need-returns
-unfolding flagged
+unfolding doneIn
 returns c = refl
 
 pub is-done-spec : {M : Type 1} → statement M
-is-done-spec = tie.close (tie.spec (λ c. search needs) (λ c. search needs) (λ c. search needs) (λ c. search needs) returns)
+is-done-spec = tie.close (tie.spec (λ c. search needs) (λ c. search needs) (λ c. search needs) returns)
