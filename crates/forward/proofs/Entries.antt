@@ -64,7 +64,7 @@ module _ {n base : ℕ} {start : List ℕ} {fs : List Float} {us cells : List �
   next-alt-none z = alternate-none v goal (goal-is ∙ ap (λ (k : ℕ). alternatedBy k p curr) z)
 
   pub next-alt-some : x .«idx_next_alt» ≢ 0 → x .«idx_next_alt» < n → {gs : List Float} {vs flags : List ℕ}
-      → (gs ≡ setTime (tableOf fs us) (x .«idx_next_alt») (x .«time_sched») .floats) × ((vs ≡ setTime (tableOf fs us) (x .«idx_next_alt») (x .«time_sched») .numbers) × (flags ≡ set cells (base + x .«idx_next_alt» * 8) 1))
+      → (gs ≡ setTime (tableOf fs us) (x .«idx_next_alt») (x .«time_sched») .floats) × ((vs ≡ setTime (tableOf fs us) (x .«idx_next_alt») (x .«time_sched») .numbers) × (flags ≡ set cells (base + x .«idx_next_alt») 1))
       → {ts′ : List Float} {ns′ : List ℕ} {r : Passed} → EnqueuedAs false ts ns ts′ ns′ count (reaching (tableOf gs vs) (x .«idx_next_alt»)) r → length ts ≡ length ts′ → length ns ≡ length ns′
       → PassAs (alternatedBy (at (p .table) curr .«idx_next_alt») p curr) false n base start gs vs flags ts′ ns′ (n - 1) (left (p .done) n + 1) r
   unfolding timed

@@ -128,7 +128,7 @@ settler n = record {
 -- the last node is timed as the one before it
 pub last-in : {n base : ℕ} {start : List ℕ} {fs : List Float} {us cells : List ℕ} {ts : List Float} {ns : List ℕ} {count most : ℕ} {p : Pass} (v : PassIn false n base start fs us cells ts ns count most p) (curr next : ℕ) → next < n
     → (x : EstTime) → x ≡ nodeAt fs us curr → {gs : List Float} {vs flags : List ℕ}
-    → (gs ≡ setTime (tableOf fs us) next (x .«time_sched») .floats) × ((vs ≡ setTime (tableOf fs us) next (x .«time_sched») .numbers) × (flags ≡ set cells (base + next * 8) 1))
+    → (gs ≡ setTime (tableOf fs us) next (x .«time_sched») .floats) × ((vs ≡ setTime (tableOf fs us) next (x .«time_sched») .numbers) × (flags ≡ set cells (base + next) 1))
     → PassIn false n base start gs vs flags ts ns count most (doneAt p next (at (p .table) curr .«time_sched»))
 last-in {n} {base} {start} {fs} {us} {cells} {ts} {ns} {count} {most} {p} v curr next h x l {gs} {vs} {flags} d =
     subst (λ (y : EstTime). PassIn false n base start gs vs flags ts ns count most (doneAt p next (y .«time_sched»))) (node-in v curr x l) (in-done v next h (x .«time_sched») gs vs flags d)

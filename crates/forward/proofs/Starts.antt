@@ -7,10 +7,9 @@ use native.Mathlib.Omega.{arith}
 use lib.ListN.{length, set}
 use lib.Ieee.{Float, binary64, ofBits, isNan}
 use Rattle.network.specs.Table.{nodeAt, Room}
-use Rattle.insertion.specs.Insertion.{flagged}
 use Rattle.queue.specs.declared.Entry.{Entry}
 use Rattle.passes.specs.Net.{fails, asserting, Pass, alsoDone, setTime}
-use Rattle.passes.specs.Walks.{Inside}
+use Rattle.passes.specs.Walks.{Inside, doneIn}
 use Rattle.passes.specs.Forward.{turns, firstTwo, forward}
 use Rattle.progress.specs.declared.Passed.{Passed}
 use Rattle.progress.specs.declared.Passed.the-variants.{Queued, Fails}
@@ -45,22 +44,22 @@ module _ (fs : List Float) (us cells : List ℕ) (n base : ℕ) (departure : Flo
 
     -- the pass at its start
     abbrev pub started : Pass
-    started = doneAt (doneAt (record { table = tableOf fs us; done = flagged cells base; queue = firstOf departure ∷ [] }) 0 departure) 1 departure
+    started = doneAt (doneAt (record { table = tableOf fs us; done = doneIn cells base; queue = firstOf departure ∷ [] }) 0 departure) 1 departure
 
-    pub start-is : ((i : ℕ) → flagged cells base i ≡ false) → forward (tableOf fs us) n departure ≡ turns n n (started .table) (started .done) (started .queue)
+    pub start-is : ((i : ℕ) → doneIn cells base i ≡ false) → forward (tableOf fs us) n departure ≡ turns n n (started .table) (started .done) (started .queue)
     unfolding forward
     start-is f =
         let t : isNan departure ≡ false = sym (zero-number departure) ∙ queued-as .told .0 in
         ap (λ (b : Bool). asserting (not b) (turns n n (setTime (setTime (tableOf fs us) 0 departure) 1 departure) firstTwo (firstOf departure ∷ []))) t
-        ∙ ap (λ (d : ℕ → Bool). turns n n (setTime (setTime (tableOf fs us) 0 departure) 1 departure) d (firstOf departure ∷ [])) (sym (first-two (flagged cells base) f))
+        ∙ ap (λ (d : ℕ → Bool). turns n n (setTime (setTime (tableOf fs us) 0 departure) 1 departure) d (firstOf departure ∷ [])) (sym (first-two (doneIn cells base) f))
 
-    pub start-in : Room fs us n → Inside (nodeAt fs us) n → 3 ≤ n → base + n * 8 ≤ length cells + 7 → ((i : ℕ) → flagged cells base i ≡ false) → n * 2 ≤ length ts → n ≤ length ns → length ts ≡ length ts′ → length ns ≡ length ns′
-        → {f1 : List Float} {u1 c1 : List ℕ} → (f1 ≡ setTime (tableOf fs us) 0 departure .floats) × ((u1 ≡ setTime (tableOf fs us) 0 departure .numbers) × (c1 ≡ set cells (base + 0 * 8) 1))
-        → {f2 : List Float} {u2 c2 : List ℕ} → (f2 ≡ setTime (tableOf f1 u1) 1 departure .floats) × ((u2 ≡ setTime (tableOf f1 u1) 1 departure .numbers) × (c2 ≡ set c1 (base + 1 * 8) 1))
+    pub start-in : Room fs us n → Inside (nodeAt fs us) n → 3 ≤ n → base + n ≤ length cells → ((i : ℕ) → doneIn cells base i ≡ false) → n * 2 ≤ length ts → n ≤ length ns → length ts ≡ length ts′ → length ns ≡ length ns′
+        → {f1 : List Float} {u1 c1 : List ℕ} → (f1 ≡ setTime (tableOf fs us) 0 departure .floats) × ((u1 ≡ setTime (tableOf fs us) 0 departure .numbers) × (c1 ≡ set cells (base + 0) 1))
+        → {f2 : List Float} {u2 c2 : List ℕ} → (f2 ≡ setTime (tableOf f1 u1) 1 departure .floats) × ((u2 ≡ setTime (tableOf f1 u1) 1 departure .numbers) × (c2 ≡ set c1 (base + 1) 1))
         → PassIn false n base cells f2 u2 c2 ts′ ns′ count (n - 1) started
     start-in room inside three flags f lts lns lt ln {f1} {u1} {c1} a {f2} {u2} {c2} b =
         let v0 = in-start false n base fs us cells ts ns room inside flags lts lns in
         let v1 = queued-in v0 (firstOf departure) (omega arith) queued-as lt ln (n + 1) (omega arith) in
         let v2 = in-done-new v1 0 (omega arith) departure f1 u1 c1 a (f 0) n (omega arith) in
-        let un : alsoDone (flagged cells base) 0 1 ≡ false = done-other (flagged cells base) 0 1 (λ (o : _≡_ {A = ℕ} 1 0). omega arith) ∙ f 1 in
+        let un : alsoDone (doneIn cells base) 0 1 ≡ false = done-other (doneIn cells base) 0 1 (λ (o : _≡_ {A = ℕ} 1 0). omega arith) ∙ f 1 in
         in-done-new v2 1 (omega arith) departure f2 u2 c2 b un (n - 1) (omega arith)
