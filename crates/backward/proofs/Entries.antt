@@ -42,7 +42,7 @@ module _ {n base : ℕ} {start : List ℕ} {fs : List Float} {us cells : List �
   prev-alt-none z = alternate-none v goal (goal-is ∙ ap (λ (k : ℕ). alternatedBy k p curr) z)
 
   pub prev-alt-some : x .«idx_prev_alt» ≢ 0 → x .«idx_prev_alt» < n → (y : EstTime) → y ≡ nodeAt fs us (x .«idx_prev_alt») → {gs : List Float} {vs flags : List ℕ}
-      → (gs ≡ setTime (tableOf fs us) (x .«idx_prev_alt») (x .«time_sched») .floats) × ((vs ≡ setTime (tableOf fs us) (x .«idx_prev_alt») (x .«time_sched») .numbers) × (flags ≡ set cells (base + x .«idx_prev_alt» * 8) 1))
+      → (gs ≡ setTime (tableOf fs us) (x .«idx_prev_alt») (x .«time_sched») .floats) × ((vs ≡ setTime (tableOf fs us) (x .«idx_prev_alt») (x .«time_sched») .numbers) × (flags ≡ set cells (base + x .«idx_prev_alt») 1))
       → {ts′ : List Float} {ns′ : List ℕ} {r : Passed}
       → EnqueuedAs true ts ns ts′ ns′ count (record { time = x .«time_sched»; sub = sub binary64 (y .«time_sched») (x .«time_sched»); node = x .«idx_prev_alt» }) r → length ts ≡ length ts′ → length ns ≡ length ns′
       → PassAs (alternatedBy (at (p .table) curr .«idx_prev_alt») p curr) true n base start gs vs flags ts′ ns′ (n - 1) (left (p .done) n + 1) r

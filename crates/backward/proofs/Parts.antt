@@ -146,8 +146,8 @@ module _ {n base : ℕ} {start : List ℕ} {fs : List Float} {us cells : List �
     (l : x ≡ nodeAt fs us curr) where
   -- the first two nodes get the time of the one behind them
   pub first-in : prev < n → {gs : List Float} {vs flags : List ℕ}
-      → (gs ≡ setTime (tableOf fs us) prev (x .«time_sched») .floats) × ((vs ≡ setTime (tableOf fs us) prev (x .«time_sched») .numbers) × (flags ≡ set cells (base + prev * 8) 1)) → {hs : List Float} {ws marks : List ℕ}
-      → (hs ≡ setTime (tableOf gs vs) 0 (x .«time_sched») .floats) × ((ws ≡ setTime (tableOf gs vs) 0 (x .«time_sched») .numbers) × (marks ≡ set flags (base + 0 * 8) 1))
+      → (gs ≡ setTime (tableOf fs us) prev (x .«time_sched») .floats) × ((vs ≡ setTime (tableOf fs us) prev (x .«time_sched») .numbers) × (flags ≡ set cells (base + prev) 1)) → {hs : List Float} {ws marks : List ℕ}
+      → (hs ≡ setTime (tableOf gs vs) 0 (x .«time_sched») .floats) × ((ws ≡ setTime (tableOf gs vs) 0 (x .«time_sched») .numbers) × (marks ≡ set flags (base + 0) 1))
       → PassIn true n base start hs ws marks ts ns count most (doneAt (doneAt p prev (at (p .table) curr .«time_sched»)) 0 (at (p .table) curr .«time_sched»))
   first-in h {gs} {vs} {flags} d {hs} {ws} {marks} e =
       subst (λ (y : EstTime). PassIn true n base start hs ws marks ts ns count most (doneAt (doneAt p prev (y .«time_sched»)) 0 (y .«time_sched»))) (node-in v curr x l)

@@ -8,10 +8,9 @@ use lib.Dec.{eqb}
 use lib.ListN.{length, set, length-set}
 use lib.Ieee.{Float, binary64, ofBits, isNan}
 use Rattle.network.specs.Table.{nodeAt, Room}
-use Rattle.insertion.specs.Insertion.{flagged}
 use Rattle.queue.specs.declared.Entry.{Entry}
 use Rattle.passes.specs.Net.{Pass, alsoDone}
-use Rattle.passes.specs.Walks.{Inside}
+use Rattle.passes.specs.Walks.{Inside, doneIn}
 use Rattle.passes.specs.Backward.{turns, lastTwo, backward}
 use Rattle.progress.specs.declared.Passed.{Passed}
 use Rattle.progress.specs.declared.Passed.the-variants.{Queued, Fails}
@@ -38,8 +37,8 @@ last-two done n e = λ t k. go (eqb k (n - 1)) (eqb k (n - 2)) (done k) (e k) t
     go false false c h = h
 
 -- a flag set keeps the length
-pub flag-length : (cells : List ℕ) (base n : ℕ) → length (set (set cells (base + (n - 2) * 8) 1) (base + (n - 1) * 8) 1) ≡ length cells
-flag-length cells base n = length-set (set cells (base + (n - 2) * 8) 1) (base + (n - 1) * 8) 1 ∙ length-set cells (base + (n - 2) * 8) 1
+pub flag-length : (cells : List ℕ) (base n : ℕ) → length (set (set cells (base + (n - 2)) 1) (base + (n - 1)) 1) ≡ length cells
+flag-length cells base n = length-set (set cells (base + (n - 2)) 1) (base + (n - 1)) 1 ∙ length-set cells (base + (n - 2)) 1
 
 module _ (fs : List Float) (us cells : List ℕ) (n base : ℕ) {ts ts′ : List Float} {ns ns′ : List ℕ} (r : Passed) (q : EnqueuedAs true ts ns ts′ ns′ 0 (lastOf n) r) where
   -- both floats of the entry are numbers
@@ -53,17 +52,17 @@ module _ (fs : List Float) (us cells : List ℕ) (n base : ℕ) {ts ts′ : List
   module _ (count : ℕ) (e : r ≡ Queued count) where
     -- the pass at its start
     abbrev pub started : Pass
-    started = flaggedAt (flaggedAt (record { table = tableOf fs us; done = flagged cells base; queue = lastOf n ∷ [] }) (n - 2)) (n - 1)
+    started = flaggedAt (flaggedAt (record { table = tableOf fs us; done = doneIn cells base; queue = lastOf n ∷ [] }) (n - 2)) (n - 1)
 
-    pub start-is : ((i : ℕ) → flagged cells base i ≡ false) → backward (tableOf fs us) n ≡ turns n n (started .table) (started .done) (started .queue)
+    pub start-is : ((i : ℕ) → doneIn cells base i ≡ false) → backward (tableOf fs us) n ≡ turns n n (started .table) (started .done) (started .queue)
     unfolding backward
-    start-is f = ap (λ (d : ℕ → Bool). turns n n (tableOf fs us) d (lastOf n ∷ [])) (sym (last-two (flagged cells base) n f))
+    start-is f = ap (λ (d : ℕ → Bool). turns n n (tableOf fs us) d (lastOf n ∷ [])) (sym (last-two (doneIn cells base) n f))
 
-    pub start-in : Room fs us n → Inside (nodeAt fs us) n → 3 ≤ n → base + n * 8 ≤ length cells + 7 → ((i : ℕ) → flagged cells base i ≡ false) → n * 2 ≤ length ts → n ≤ length ns → length ts ≡ length ts′ → length ns ≡ length ns′
-        → PassIn true n base cells fs us (set (set cells (base + (n - 2) * 8) 1) (base + (n - 1) * 8) 1) ts′ ns′ count (n - 1) started
+    pub start-in : Room fs us n → Inside (nodeAt fs us) n → 3 ≤ n → base + n ≤ length cells → ((i : ℕ) → doneIn cells base i ≡ false) → n * 2 ≤ length ts → n ≤ length ns → length ts ≡ length ts′ → length ns ≡ length ns′
+        → PassIn true n base cells fs us (set (set cells (base + (n - 2)) 1) (base + (n - 1)) 1) ts′ ns′ count (n - 1) started
     start-in room inside three flags f lts lns lt ln =
         let v0 = in-start true n base fs us cells ts ns room inside flags lts lns in
         let v1 = queued-in v0 (lastOf n) (omega arith) (subst (EnqueuedAs true ts ns ts′ ns′ 0 (lastOf n)) e q) lt ln (n + 1) (omega arith) in
-        let v2 = in-flag-new v1 (n - 2) (omega arith) (set cells (base + (n - 2) * 8) 1) refl (f (n - 2)) n (omega arith) in
-        let un : alsoDone (flagged cells base) (n - 2) (n - 1) ≡ false = done-other (flagged cells base) (n - 2) (n - 1) (λ (o : n - 1 ≡ n - 2). omega arith) ∙ f (n - 1) in
-        in-flag-new v2 (n - 1) (omega arith) (set (set cells (base + (n - 2) * 8) 1) (base + (n - 1) * 8) 1) refl un (n - 1) (omega arith)
+        let v2 = in-flag-new v1 (n - 2) (omega arith) (set cells (base + (n - 2)) 1) refl (f (n - 2)) n (omega arith) in
+        let un : alsoDone (doneIn cells base) (n - 2) (n - 1) ≡ false = done-other (doneIn cells base) (n - 2) (n - 1) (λ (o : n - 1 ≡ n - 2). omega arith) ∙ f (n - 1) in
+        in-flag-new v2 (n - 1) (omega arith) (set (set cells (base + (n - 2)) 1) (base + (n - 1)) 1) refl un (n - 1) (omega arith)

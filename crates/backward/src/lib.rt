@@ -356,7 +356,7 @@ pub fn update_times_backward(
     let Passed::Queued(count) = progress::enqueue(times, nodes, 0, true, e) else {
         return false;
     };
-    cells[done_at + (n - 2) * 8] = 1;
-    cells[done_at + (n - 1) * 8] = 1;
+    cells[done_at + (n - 2)] = 1;
+    cells[done_at + (n - 1)] = 1;
     turns(floats, numbers, n, cells, done_at, times, nodes, count)
 }

@@ -3,7 +3,7 @@ use borrow.Author.Needs.{needs}
 use native.Mathlib.Omega.{arith}
 use Prim.Native.Nat.{_-_}
 use mathlib.Core.Bool.{true}
-use Rattle.insertion.specs.Insertion.{flagged}
+use Rattle.passes.specs.Walks.{doneIn}
 use Rattle.progress.specs.Progress.{left}
 use Rattle.progress.proofs.Strands.{Stranding, strand-start, strand-falls, strand-looks, strand-less, strand-ends, strand-goes}
 use Rattle.backward.proofs.Parts.{walker, stops-as}
@@ -15,7 +15,7 @@ Inv-loop floats₀ numbers₀ n cells₀ done-at times₀ nodes₀ count curr pr
     Stranding (walker less) true n done-at (n - 2) floats₀ numbers₀ cells₀ times₀ nodes₀ count curr prev floats numbers cells times nodes queued here ahead
 
 abbrev μ-loop : tie.MeasureT-loop
-μ-loop floats₀ numbers₀ n cells₀ done-at times₀ nodes₀ count curr prev less here₀ ahead₀ queued₀ floats numbers cells times nodes here ahead queued = left (flagged cells done-at) n
+μ-loop floats₀ numbers₀ n cells₀ done-at times₀ nodes₀ count curr prev less here₀ ahead₀ queued₀ floats numbers cells times nodes here ahead queued = left (doneIn cells done-at) n
 
 loop-holds : tie.Need-loop-holds Inv-loop μ-loop
 loop-holds c = strand-start (walker (c .before .before .before .before .before .args .less)) (c .before .before .before .before .before .pre .0) (c .before .before .before .before .before .pre .1 .0) (c .before .before .before .before .before .pre .1 .1)

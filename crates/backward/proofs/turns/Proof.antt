@@ -1,7 +1,7 @@
 -- `backward::turns` meets its contract.
 use borrow.Author.Needs.{needs}
 use native.Mathlib.Omega.{arith}
-use Rattle.insertion.specs.Insertion.{flagged}
+use Rattle.passes.specs.Walks.{doneIn}
 use Rattle.progress.specs.Progress.{left}
 use Rattle.progress.proofs.Turns.{Turning, turning-start, turning-ends, turning-works, turning-within, turning-falls, turning-less, turning-goes}
 use Rattle.backward.proofs.Parts.{turner}
@@ -13,7 +13,7 @@ Inv-loop floats₀ numbers₀ n cells₀ done-at times₀ nodes₀ count queued�
     Turning (turner n) n done-at floats₀ numbers₀ cells₀ times₀ nodes₀ count floats numbers cells times nodes queued
 
 abbrev μ-loop : tie.MeasureT-loop
-μ-loop floats₀ numbers₀ n cells₀ done-at times₀ nodes₀ count queued₀ floats numbers cells times nodes queued = left (flagged cells done-at) n
+μ-loop floats₀ numbers₀ n cells₀ done-at times₀ nodes₀ count queued₀ floats numbers cells times nodes queued = left (doneIn cells done-at) n
 
 loop-holds : tie.Need-loop-holds Inv-loop μ-loop
 loop-holds c = turning-start (turner (c .before .before .before .before .before .args .n)) (c .before .before .before .before .before .pre .1) (c .before .before .before .before .before .pre .0)

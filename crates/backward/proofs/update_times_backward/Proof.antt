@@ -27,4 +27,4 @@ returns-2 c =
     rw (start-is (c .before .before .before .before .before .before .before .before .before .before .before .before .before .before .before .before .before .before .before .before .before .before .before .before .before .before .before .before .before .before .before .args .floats .now) (c .before .before .before .before .before .before .before .before .before .before .before .before .before .before .before .before .before .before .before .before .before .before .before .before .before .before .before .before .before .before .before .args .numbers .now) (c .before .before .before .before .before .before .before .before .before .before .before .before .before .before .before .before .before .before .before .before .before .before .before .before .before .before .before .before .before .before .before .args .cells .now) (c .before .before .before .before .before .before .before .before .before .before .before .before .before .before .before .before .before .before .before .before .before .before .before .before .before .before .before .before .before .before .before .args .n) (c .before .before .before .before .before .before .before .before .before .before .before .before .before .before .before .before .before .before .before .before .before .before .before .before .before .before .before .before .before .before .before .args .done-at) _ (c .before .before .before .before .before .before .before .before .before .before .before .before .before .before .before .before .before .before .before .before .before .before .before .enqueue .ensures) _ (c .before .before .before .before .before .before .before .before .before .before .before .before .before .before .before .before .before .count .given .1) (r .1 .1 .1 .1 .0)) (c .before .before .before .before .before .before .before .before .before .before .turns .ensures _ _ (start-in (c .before .before .before .before .before .before .before .before .before .before .before .before .before .before .before .before .before .before .before .before .before .before .before .before .before .before .before .before .before .before .before .args .floats .now) (c .before .before .before .before .before .before .before .before .before .before .before .before .before .before .before .before .before .before .before .before .before .before .before .before .before .before .before .before .before .before .before .args .numbers .now) (c .before .before .before .before .before .before .before .before .before .before .before .before .before .before .before .before .before .before .before .before .before .before .before .before .before .before .before .before .before .before .before .args .cells .now) (c .before .before .before .before .before .before .before .before .before .before .before .before .before .before .before .before .before .before .before .before .before .before .before .before .before .before .before .before .before .before .before .args .n) (c .before .before .before .before .before .before .before .before .before .before .before .before .before .before .before .before .before .before .before .before .before .before .before .before .before .before .before .before .before .before .before .args .done-at) _ (c .before .before .before .before .before .before .before .before .before .before .before .before .before .before .before .before .before .before .before .before .before .before .before .enqueue .ensures) _ (c .before .before .before .before .before .before .before .before .before .before .before .before .before .before .before .before .before .count .given .1) (r .0) (r .1 .0) (r .1 .1 .0) (r .1 .1 .1 .0) (r .1 .1 .1 .1 .0) (r .1 .1 .1 .1 .1 .0) (r .1 .1 .1 .1 .1 .1) (omega (arith, c .before .before .before .before .before .before .before .before .before .before .before .before .before .before .before .before .before .before .before .before .before .before .before .enqueue .kept)) (omega (arith, c .before .before .before .before .before .before .before .before .before .before .before .before .before .before .before .before .before .before .before .before .before .before .before .enqueue .kept))))
 
 pub update-times-backward-spec : {M : Type 1} → statement M
-update-times-backward-spec = tie.close (tie.spec (λ c. search needs) (λ c. search needs) (λ c κs. search needs) (λ c. search needs) (λ c. search needs) (λ c. search needs) (λ c. search needs) returns (λ c. search needs) (λ c. search needs) (λ c. search needs) (λ c. search needs) (λ c. search needs) (λ c. search needs) (λ c. search needs) (λ c. search needs) (λ c. search needs) slice-write-cells-2 turns-requires (λ c. search needs) (λ c. search needs) same-length-5 (λ c. search needs) (λ c. search needs) returns-2)
+update-times-backward-spec = tie.close (tie.spec (λ c. search needs) (λ c. search needs) (λ c κs. search needs) (λ c. search needs) (λ c. search needs) (λ c. search needs) (λ c. search needs) returns (λ c. search needs) (λ c. search needs) (λ c. search needs) (λ c. search needs) (λ c. search needs) (λ c. search needs) (λ c. search needs) slice-write-cells-2 turns-requires (λ c. search needs) (λ c. search needs) same-length-5 (λ c. search needs) (λ c. search needs) returns-2)
