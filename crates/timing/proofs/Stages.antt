@@ -11,12 +11,12 @@ use lib.Ieee.{Float}
 use Rattle.space.specs.Space.{zeros}
 use Rattle.space.proofs.Zeros.{zero-at}
 use Rattle.network.specs.Table.{nodeAt, Room}
-use Rattle.insertion.specs.Insertion.{Table, at, flagged}
+use Rattle.insertion.specs.Insertion.{Table, at}
 use Rattle.passes.specs.Checks.{row14}
 use Rattle.passes.specs.Net.{Answer, fails, given, Pass}
 use Rattle.passes.specs.Forward.{forward}
 use Rattle.passes.specs.Backward.{backward}
-use Rattle.passes.specs.Walks.{Inside}
+use Rattle.passes.specs.Walks.{Inside, doneIn}
 use Rattle.passes.specs.Passes.{Timed, refused, timedAs, someLeft, allZero, checkedAs, afterForward, afterBackward, passes}
 use Rattle.progress.specs.Progress.{Ends, EndsAs}
 use Rattle.timing.specs.Timing.{timedNumber, TimedInto, sixteenIf}
@@ -48,17 +48,17 @@ room-kept fs gs us vs n r f u = record { floats = omega (arith, r .floats); numb
 
 -- ---- no flag is set before a pass
 
-pub none-flagged : (cells : List ℕ) (base : ℕ) → cells ≡ zeros (length cells) → (i : ℕ) → flagged cells base i ≡ false
-unfolding flagged
-none-flagged cells base e i = ap (λ (s : List ℕ). ltb 0 (getD s (base + i * 8) 0)) e ∙ ap (ltb 0) (zero-at (length cells) (base + i * 8))
+pub none-flagged : (cells : List ℕ) (base : ℕ) → cells ≡ zeros (length cells) → (i : ℕ) → doneIn cells base i ≡ false
+unfolding doneIn
+none-flagged cells base e i = ap (λ (s : List ℕ). ltb 0 (getD s (base + i) 0)) e ∙ ap (ltb 0) (zero-at (length cells) (base + i))
 
--- the forward pass has its flags in column 0, so column 1 is as it was
-other-column : (i j : ℕ) → 1 + i * 8 ≡ 0 + j * 8 → ⊥
-other-column i j e = omega arith
+-- the forward pass has its flags below n, so the cells from n on are as they were
+from-n-on : (n i j : ℕ) → j < n → n + i ≡ 0 + j → ⊥
+from-n-on n i j h e = omega arith
 
-pub none-flagged-yet : {answer : Answer Pass} {n : ℕ} {start : List ℕ} {fs : List Float} {us cells : List ℕ} → Ends answer n 0 start fs us cells → start ≡ zeros (length start) → (i : ℕ) → flagged cells 1 i ≡ false
-unfolding flagged
-none-flagged-yet {start = start} d z i = ap (ltb 0) (d .elsewhere (1 + i * 8) (λ j h. other-column i j) ∙ ap (λ (s : List ℕ). getD s (1 + i * 8) 0) z ∙ zero-at (length start) (1 + i * 8))
+pub none-flagged-yet : {answer : Answer Pass} {n : ℕ} {start : List ℕ} {fs : List Float} {us cells : List ℕ} → Ends answer n 0 start fs us cells → start ≡ zeros (length start) → (i : ℕ) → doneIn cells n i ≡ false
+unfolding doneIn
+none-flagged-yet {n = n} {start = start} d z i = ap (ltb 0) (d .elsewhere (n + i) (λ j h. from-n-on n i j h) ∙ ap (λ (s : List ℕ). getD s (n + i) 0) z ∙ zero-at (length start) (n + i))
 
 -- ---- backward
 
@@ -70,21 +70,21 @@ module _ (fs : List Float) (us : List ℕ) (n : ℕ) where
   told-backward gs vs h = refused-told back 15 gs vs (ap (afterBackward n) h)
 
   -- the pass came to its end
-  module _ {start cells : List ℕ} {gs : List Float} {vs : List ℕ} (q : Ends (backward (record { floats = fs; numbers = us }) n) n 1 start gs vs cells) where
+  module _ {start cells : List ℕ} {gs : List Float} {vs : List ℕ} (q : Ends (backward (record { floats = fs; numbers = us }) n) n n start gs vs cells) where
     abbrev behind : Timed
     behind = checkedAs (allZero (record { floats = gs; numbers = vs }) n) 16 (timedAs (record { floats = gs; numbers = vs }))
 
-    passed-is : (s t : Bool) → s ≡ someLeft (flagged cells 1) n → s ≡ t → back ≡ checkedAs t 15 behind
+    passed-is : (s t : Bool) → s ≡ someLeft (doneIn cells n) n → s ≡ t → back ≡ checkedAs t 15 behind
     passed-is s t e d =
         ap (afterBackward n) (q .is)
         ∙ ap (λ (done : ℕ → Bool). checkedAs (someLeft done n) 15 (checkedAs (allZero (q .pass .table) n) 16 (timedAs (q .pass .table)))) (q .done)
-        ∙ ap (λ (x : Table). checkedAs (someLeft (flagged cells 1) n) 15 (checkedAs (allZero x n) 16 (timedAs x))) (q .table)
+        ∙ ap (λ (x : Table). checkedAs (someLeft (doneIn cells n) n) 15 (checkedAs (allZero x n) 16 (timedAs x))) (q .table)
         ∙ ap (λ (x : Bool). checkedAs x 15 behind) (sym e ∙ d)
 
-    pub told-unpassed : (s : Bool) → s ≡ someLeft (flagged cells 1) n → s ≡ true → Told back 15 gs vs
+    pub told-unpassed : (s : Bool) → s ≡ someLeft (doneIn cells n) n → s ≡ true → Told back 15 gs vs
     told-unpassed s e d = refused-told back 15 gs vs (passed-is s true e d)
 
-    pub told-times : (s : Bool) → s ≡ someLeft (flagged cells 1) n → s ≡ false → (z : Bool) → ((ws : List ℕ) → z ≡ allZero (record { floats = gs; numbers = ws }) n) → (r : ℕ) → r ≡ sixteenIf z → Told back r gs vs
+    pub told-times : (s : Bool) → s ≡ someLeft (doneIn cells n) n → s ≡ false → (z : Bool) → ((ws : List ℕ) → z ≡ allZero (record { floats = gs; numbers = ws }) n) → (r : ℕ) → r ≡ sixteenIf z → Told back r gs vs
     told-times s e d z f r h =
         subst (λ (k : ℕ). Told back k gs vs) (sym h)
         (subst (λ (t : Timed). Told t (sixteenIf z) gs vs)
@@ -114,16 +114,16 @@ module _ (fs : List Float) (us : List ℕ) (n : ℕ) (departure : Float) where
 
     -- the pass came to its end
     module _ {start cells : List ℕ} {gs : List Float} {vs : List ℕ} (q : Ends (forward lent n departure) n 0 start gs vs cells) where
-      timed-is : (s t : Bool) → s ≡ someLeft (flagged cells 0) n → s ≡ t → whole ≡ checkedAs t 15 (back gs vs n)
+      timed-is : (s t : Bool) → s ≡ someLeft (doneIn cells 0) n → s ≡ t → whole ≡ checkedAs t 15 (back gs vs n)
       timed-is s t f g =
           checks-is b false e d
           ∙ ap (afterForward n) (q .is)
           ∙ ap (λ (done : ℕ → Bool). checkedAs (someLeft done n) 15 (afterBackward n (backward (q .pass .table) n))) (q .done)
-          ∙ ap (λ (x : Table). checkedAs (someLeft (flagged cells 0) n) 15 (afterBackward n (backward x n))) (q .table)
+          ∙ ap (λ (x : Table). checkedAs (someLeft (doneIn cells 0) n) 15 (afterBackward n (backward x n))) (q .table)
           ∙ ap (λ (x : Bool). checkedAs x 15 (back gs vs n)) (sym f ∙ g)
 
-      pub told-untimed : (s : Bool) → s ≡ someLeft (flagged cells 0) n → s ≡ true → Told whole 15 gs vs
+      pub told-untimed : (s : Bool) → s ≡ someLeft (doneIn cells 0) n → s ≡ true → Told whole 15 gs vs
       told-untimed s f g = refused-told whole 15 gs vs (timed-is s true f g)
 
-      pub told-whole : (s : Bool) → s ≡ someLeft (flagged cells 0) n → s ≡ false → (r : ℕ) (hs : List Float) (ws : List ℕ) → Told (back gs vs n) r hs ws → Told whole r hs ws
+      pub told-whole : (s : Bool) → s ≡ someLeft (doneIn cells 0) n → s ≡ false → (r : ℕ) (hs : List Float) (ws : List ℕ) → Told (back gs vs n) r hs ws → Told whole r hs ws
       told-whole s f g r hs ws = subst (λ (t : Timed). Told t r hs ws) (sym (timed-is s false f g))

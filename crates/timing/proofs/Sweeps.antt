@@ -9,7 +9,8 @@ use lib.Ieee.{Float, nan, binary64, eq, ofBits}
 use Rattle.fields.specs.Below.{someBelow}
 use Rattle.fields.proofs.Below.{some-at, none-more}
 use Rattle.network.specs.Table.{nodeAt}
-use Rattle.insertion.specs.Insertion.{Table, at, flagged}
+use Rattle.insertion.specs.Insertion.{Table, at}
+use Rattle.passes.specs.Walks.{doneIn}
 use Rattle.passes.specs.Passes.{someLeft, allZero}
 
 pub record NoneYet (p : ℕ → Bool) (n i : ℕ) : Type 0 where
@@ -30,10 +31,10 @@ module _ (p : ℕ → Bool) (n : ℕ) where
 -- ---- row 15: a node that is not done
 
 unfoldable pub notDone : List ℕ → ℕ → ℕ → Bool
-notDone cells base i = not (flagged cells base i)
+notDone cells base i = not (doneIn cells base i)
 
 module _ (cells : List ℕ) (base n : ℕ) where
-  left-is : someLeft (flagged cells base) n ≡ someBelow n (notDone cells base)
+  left-is : someLeft (doneIn cells base) n ≡ someBelow n (notDone cells base)
   unfolding someLeft notDone
   left-is = refl
 
@@ -41,15 +42,15 @@ module _ (cells : List ℕ) (base n : ℕ) where
   left-start = none-start (notDone cells base) n
 
   module _ (i : ℕ) (v : NoneYet (notDone cells base) n i) where
-    pub left-hit : (r : Bool) → i < n → r ≡ flagged cells base i → not r ≡ true → true ≡ someLeft (flagged cells base) n
+    pub left-hit : (r : Bool) → i < n → r ≡ doneIn cells base i → not r ≡ true → true ≡ someLeft (doneIn cells base) n
     unfolding notDone
     left-hit r h e d = sym (left-is ∙ some-at n (notDone cells base) i h (ap not (sym e) ∙ d))
 
-    pub left-on : (r : Bool) → i < n → r ≡ flagged cells base i → not r ≡ false → NoneYet (notDone cells base) n (i + 1)
+    pub left-on : (r : Bool) → i < n → r ≡ doneIn cells base i → not r ≡ false → NoneYet (notDone cells base) n (i + 1)
     unfolding notDone
     left-on r h e d = none-on (notDone cells base) n i v h (ap not (sym e) ∙ d)
 
-    pub left-end : n ≤ i → false ≡ someLeft (flagged cells base) n
+    pub left-end : n ≤ i → false ≡ someLeft (doneIn cells base) n
     left-end h = sym (left-is ∙ none-end (notDone cells base) n i v h)
 
 -- ---- row 16: a time that is not 0 or -0
