@@ -180,7 +180,7 @@ pub record Ready (fs : List Float) (us : List ℕ) (n rs cs ms : ℕ) : Type 0 w
   pub inside : Inside (nodeAt fs us) n
   pub three : 3 ≤ n
   pub reals : n * 2 ≤ rs
-  pub cells : n * 8 ≤ cs
+  pub cells : n * 2 ≤ cs
   pub marks : n ≤ ms
 
 pub nodes-fit : (fs : List Float) (us : List ℕ) (n : ℕ) → n ≡ nodesIn (record { floats = fs; numbers = us }) → (n * 4 ≤ length fs) × (n * 6 ≤ length us)
@@ -203,5 +203,5 @@ ready fs us n departure units rs cs ms number e f g z =
     }
 
 -- the cells of n nodes are as many as the passes ask for
-pub flags-fit : (n : ℕ) (cells : List ℕ) (m : ℕ) → n * 8 ≤ length cells → m ≡ length (take (n * 8) cells) → n * 8 ≤ m
-flags-fit n cells m h e = omega (arith, length-take-le (n * 8) cells h)
+pub flags-fit : (n : ℕ) (cells : List ℕ) (m : ℕ) → n * 2 ≤ length cells → m ≡ length (take (n * 2) cells) → n * 2 ≤ m
+flags-fit n cells m h e = omega (arith, length-take-le (n * 2) cells h)
