@@ -5,7 +5,8 @@ use mathlib.Core.List.{List}
 use Prim.Native.Nat.{ℕ, zero, suc, _*_, _≤_, _<_}
 use native.Mathlib.Omega.{arith}
 use lib.Dec.{T}
-use lib.ListN.{length}
+use lib.ListN.{length, take}
+use lib.Seq.{length-take-le}
 use lib.Ieee.{Float, binary64, nanBits, ofBits}
 use Rattle.fields.specs.Fields.{u64At}
 use Rattle.floats.specs.Floats.{bookFloat}
@@ -74,7 +75,7 @@ pub record Ripe (b : List ℕ) (r c m : ℕ) (fs : List Float) (us : List ℕ) (
   pub inside : Inside (nodeAt fs us) n
   pub three : 3 ≤ n
   pub reals : n * 2 ≤ r
-  pub cells : n * 8 ≤ c
+  pub cells : n * 2 ≤ c
   pub marks : n ≤ m
 
 module _ (b : List ℕ) (f n r c m : ℕ) (fs : List Float) (us : List ℕ) (k added splits joined ended : ℕ) (w : WholeAs (network b f n (bytesOf r c m)) fs us k added splits joined ended) where
@@ -113,6 +114,14 @@ module _ (b : List ℕ) (f n r c m : ℕ) (fs : List Float) (us : List ℕ) (k a
         cells = omega (arith, e .flags);
         marks = omega (arith, e .names);
       }
+
+-- the cells that hold the flags of n nodes, when growth has left as many cells as there were
+module _ (n c : ℕ) (cells : List ℕ) (h : n * 2 ≤ c) (e : length cells ≡ c) where
+  pub flags-are : n * 2 ≡ length (take (n * 2) cells)
+  flags-are = let l : n * 2 ≤ length cells = omega arith in sym (length-take-le (n * 2) cells l)
+
+  pub flags-fit : (m : ℕ) → m ≡ length (take (n * 2) cells) → n * 2 ≤ m
+  flags-fit m d = omega (arith, flags-are)
 
 -- ---- the passes' number
 

@@ -68,17 +68,11 @@ fn build(
     let Grown::Whole(report) = grown else {
         return Sheet::Refused(number_of(grown));
     };
-    space::clear_numbers(cells);
+    let n = report.nodes;
+    let flags = &mut cells[..n * 2];
+    space::clear_numbers(flags);
     let departure = departure_of(book);
-    let number = timing::run_passes(
-        floats,
-        numbers,
-        report.nodes,
-        departure,
-        reals,
-        cells,
-        marks,
-    );
+    let number = timing::run_passes(floats, numbers, n, departure, reals, flags, marks);
     answer(report, number)
 }
 
