@@ -2,10 +2,16 @@
 use est_times::Sheet;
 use event_maker::Made;
 use growth::Grown;
+use growth::Report;
+use listing::Listed;
 use table::TimedTable;
 ghost use mathlib.Core.Path.{_≡_};
 ghost use lib.Ieee.{binary64};
 ghost use lib.ListN.{length};
+ghost use lib.Dec.{leb};
+ghost use Prim.Native.Nat.{_/_, min};
+ghost use Rattle.network.specs.Table.{nodeAt};
+ghost use Rattle.listing.specs.Listing.{sheetText, sheetListed, sheetBytes, listedNumber, listedLength};
 ghost use Rattle.root.specs.Root.{sqrt};
 ghost use Rattle.space.specs.Space.{bytesOf, zeros, zeroFloats};
 ghost use Rattle.reader.specs.Reader.{readNumber};
@@ -195,6 +201,41 @@ pub extern "C" fn keldurap_make_est_times(
             *joined = report.joined;
             *finished = report.finished;
             0
+        }
+    }
+}
+
+// The listing of a sheet in a lent slice, by the table and the report's five numbers: 0 and its length, 1 where the slice is too short, 2 where the table has fewer nodes than the report says; then the slice is zero.
+#[no_mangle]
+pub extern "C" fn keldurap_list_sheet(
+    floats: &[f64],
+    numbers: &[u32],
+    nodes: usize,
+    added: usize,
+    splits: usize,
+    joined: usize,
+    finished: usize,
+    out: &mut [u8],
+    text_length: &mut usize,
+) -> u32
+    ensures number { λ r. ⌜ r ≡ listedNumber (sheetListed (leb nodes (min (length (now (floats .entry)) / 4) (length (now (numbers .entry)) / 6))) (sheetText (record { nodes = nodes; added = added; splits = splits; joined = joined; finished = finished }) (nodeAt (now (floats .entry)) (now (numbers .entry)))) (length (now (out .entry)))) ⌝ }
+    ensures text_length { λ _. ⌜ now («text_length» .exit) ≡ listedLength (sheetListed (leb nodes (min (length (now (floats .entry)) / 4) (length (now (numbers .entry)) / 6))) (sheetText (record { nodes = nodes; added = added; splits = splits; joined = joined; finished = finished }) (nodeAt (now (floats .entry)) (now (numbers .entry)))) (length (now (out .entry)))) ⌝ }
+    ensures out { λ _. ⌜ now (out .exit) ≡ sheetBytes (leb nodes (min (length (now (floats .entry)) / 4) (length (now (numbers .entry)) / 6))) (sheetText (record { nodes = nodes; added = added; splits = splits; joined = joined; finished = finished }) (nodeAt (now (floats .entry)) (now (numbers .entry)))) (length (now (out .entry))) ⌝ }
+{
+    let report = Report { nodes, added, splits, joined, finished };
+    let listed = listing::list_sheet(floats, numbers, report, out);
+    match listed {
+        Listed::Bytes(n) => {
+            *text_length = n;
+            0
+        }
+        Listed::Short => {
+            *text_length = 0;
+            1
+        }
+        Listed::Unfilled => {
+            *text_length = 0;
+            2
         }
     }
 }

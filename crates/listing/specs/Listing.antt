@@ -128,3 +128,14 @@ sheetListed false text size = Unfilled
 abbrev pub sheetBytes : Bool → List ℕ → ℕ → List ℕ
 sheetBytes true text size = bytesAs (leb (length text) size) text size
 sheetBytes false text size = zeros size
+
+-- what a function for other languages says of an answer: a number, 0 where the text stands in the slice, and its length
+abbrev pub listedNumber : Listed → ℕ
+listedNumber (Bytes n) = 0
+listedNumber Short = 1
+listedNumber Unfilled = 2
+
+abbrev pub listedLength : Listed → ℕ
+listedLength (Bytes n) = n
+listedLength Short = 0
+listedLength Unfilled = 0

@@ -109,6 +109,15 @@ pub fn time_grown(bytes: &[u8]) -> (std::time::Duration, usize) {
     (time, caught(outcome).unwrap().len())
 }
 
+/// How long an accepted book takes: its reading, and the published function. And how many nodes there are. For timing.
+pub fn time_book(bytes: &[u8]) -> (std::time::Duration, usize) {
+    let start = std::time::Instant::now();
+    let book = Book::read(bytes, MOST_PLACES, None).unwrap();
+    let outcome = run(book, Orders { places: MOST_PLACES, ..Orders::default() });
+    let time = start.elapsed();
+    (time, timed(outcome).unwrap().len())
+}
+
 /// How long the table entry's work takes for an accepted item, from a vector of nodes that is there: the tests of rows 4 and 5, and the published checks and passes.
 /// And how many nodes there are. For timing.
 pub fn time_table(item: &[u8]) -> (std::time::Duration, usize) {
