@@ -222,7 +222,13 @@ pub extern "C" fn keldurap_list_sheet(
     ensures text_length { λ _. ⌜ now («text_length» .exit) ≡ listedLength (sheetListed (leb nodes (min (length (now (floats .entry)) / 4) (length (now (numbers .entry)) / 6))) (sheetText (record { nodes = nodes; added = added; splits = splits; joined = joined; finished = finished }) (nodeAt (now (floats .entry)) (now (numbers .entry)))) (length (now (out .entry)))) ⌝ }
     ensures out { λ _. ⌜ now (out .exit) ≡ sheetBytes (leb nodes (min (length (now (floats .entry)) / 4) (length (now (numbers .entry)) / 6))) (sheetText (record { nodes = nodes; added = added; splits = splits; joined = joined; finished = finished }) (nodeAt (now (floats .entry)) (now (numbers .entry)))) (length (now (out .entry))) ⌝ }
 {
-    let report = Report { nodes, added, splits, joined, finished };
+    let report = Report {
+        nodes,
+        added,
+        splits,
+        joined,
+        finished,
+    };
     let listed = listing::list_sheet(floats, numbers, report, out);
     match listed {
         Listed::Bytes(n) => {
