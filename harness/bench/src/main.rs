@@ -4,6 +4,7 @@ mod lists;
 mod sidings;
 mod tables;
 
+use replay::room::{Entry, Lengths, Room};
 use std::hint::black_box;
 use std::time::Instant;
 
@@ -66,12 +67,12 @@ fn passes(name: &str, items: &[Vec<u8>]) {
 /// Growth: ours is the whole of `keldurap_grow_network` (rows 1 to 13, table and work space made zero before and after); the reference's is its reading and the published function up to the checks.
 /// Ours' time, and the nodes.
 fn growth(name: &str, bytes: &[u8]) -> (f64, f64) {
-    let mut room = replay::grown::Room::default();
-    room.lend(65_535, replay::books::asked(bytes, 65_535));
+    let mut room = Room::default();
+    room.lend(Lengths::of(65_535, replay::books::asked(bytes, 65_535)));
     let nodes = uncounted::time_grown(bytes).1;
-    let (number, report) = room.grow(bytes);
+    let (number, report) = room.call(Entry::Grow, bytes);
     assert_eq!((number, report[0]), (0, nodes), "{name}");
-    let ours = best(9, || room.grow(bytes).0);
+    let ours = best(9, || room.call(Entry::Grow, bytes).0);
     let theirs = (0..9).map(|_| uncounted::time_grown(bytes).0.as_secs_f64() * 1e3).fold(f64::INFINITY, f64::min);
     println!("{name:<44} {ours:>9.3} {theirs:>9.3} {:>7.2}", ours / theirs);
     (ours, nodes as f64)

@@ -337,7 +337,7 @@ fn with_room(r: &mut Random, book: Book) -> BookItem {
 }
 
 /// The fewest places with which the book is not refused with 12.
-fn needed(bytes: &[u8]) -> usize {
+pub fn needed(bytes: &[u8]) -> usize {
     if let Some(nodes) = nodes(&plain::book(bytes, PLENTY, None)) {
         return nodes;
     }

@@ -14,7 +14,7 @@ mod roots;
 mod tables;
 
 pub use book::{work_asked, Book, Leg, Link, Origin, Sample};
-pub use books::{book, BookItem};
+pub use books::{book, needed, BookItem};
 pub use events::events;
 pub use limits::{limits, Limit};
 pub use random::Random;

@@ -25,12 +25,22 @@ pub struct Work {
 }
 
 impl Work {
+    /// How long the slices of so many bytes are, each with a part of a unit more.
+    pub(crate) fn lengths(bytes: u64) -> [usize; 3] {
+        let units = (bytes / 64) as usize;
+        [3 * units + 2, 8 * units + 7, 2 * units + 1]
+    }
+
     /// So many bytes of work space, filled with what no call has left there.
     pub fn lend(&mut self, bytes: u64) {
-        let units = (bytes / 64) as usize;
-        refill(&mut self.reals, 3 * units, f64::MAX);
-        refill(&mut self.cells, 8 * units, 0xa5a5_a5a5);
-        refill(&mut self.marks, 2 * units, 0x5a5a_5a5a);
+        self.lend_slices(Self::lengths(bytes));
+    }
+
+    /// Slices so long, filled likewise.
+    pub(crate) fn lend_slices(&mut self, [reals, cells, marks]: [usize; 3]) {
+        refill(&mut self.reals, reals, f64::MAX);
+        refill(&mut self.cells, cells, 0xa5a5_a5a5);
+        refill(&mut self.marks, marks, 0x5a5a_5a5a);
     }
 
     pub(crate) fn is_zero(&self) -> bool {
@@ -38,7 +48,7 @@ impl Work {
     }
 }
 
-fn refill<T: Copy>(slice: &mut Vec<T>, len: usize, value: T) {
+pub(crate) fn refill<T: Copy>(slice: &mut Vec<T>, len: usize, value: T) {
     slice.clear();
     slice.resize(len, value);
 }

@@ -1,7 +1,10 @@
 //! Drives the proved static library, and holds it to outside answers.
 pub mod books;
 pub mod events;
-pub mod grown;
+pub mod jobs;
+mod listing;
+pub mod room;
 pub mod roots;
+pub mod sizes;
 mod stream;
 pub mod tables;

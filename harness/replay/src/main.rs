@@ -1,8 +1,13 @@
 //! The programs over the proved static library.
-use replay::{books, events, grown, roots, tables};
+use replay::jobs::{GROWN, SHEETS};
+use replay::{books, events, roots, sizes, tables};
 use std::process::ExitCode;
 
-const USAGE: &str = "replay roots | events | tables | grown [PLACES] | check-roots [N [SEED]] | check-events [N [SEED]] | check-tables [N [SEED]] | check-books [N [SEED]] | check-grown [N [SEED]] | check-damage [N [SEED]] | check-limits";
+const USAGE: &str = "\
+replay books|grown [--places P] [--work BYTES] | tables | events | roots      answers a stream from standard input
+replay check-books|check-grown|check-sheets|check-sizes|check-damage|check-tables|check-events|check-roots [N [SEED]]
+replay check-limits
+Exit status 1: a difference.";
 
 fn verdict(differences: u64) -> ExitCode {
     if differences == 0 {
@@ -15,28 +20,57 @@ fn verdict(differences: u64) -> ExitCode {
 fn replayed(result: std::io::Result<()>) -> ExitCode {
     match result {
         Ok(()) => ExitCode::SUCCESS,
-        Err(_) => ExitCode::FAILURE,
+        Err(error) => {
+            eprintln!("{error}");
+            ExitCode::FAILURE
+        }
     }
+}
+
+fn usage() -> ExitCode {
+    eprintln!("{USAGE}");
+    ExitCode::from(2)
+}
+
+/// What `--places` and `--work` say: by default 65,535 places, and as much work space as a book asks for.
+fn settings(words: &[String]) -> Option<(usize, Option<u64>)> {
+    let (mut places, mut work) = (65_535, None);
+    for pair in words.chunks(2) {
+        let number = pair.get(1)?.parse().ok()?;
+        match pair[0].as_str() {
+            "--places" => places = number as usize,
+            "--work" => work = Some(number),
+            _ => return None,
+        }
+    }
+    Some((places, work))
+}
+
+/// The named limits of every entry.
+fn limits() -> u64 {
+    books::check_limits() + GROWN.check_limits() + SHEETS.check_limits() + events::check_limits() + tables::check_limits()
 }
 
 fn main() -> ExitCode {
     let words: Vec<String> = std::env::args().skip(1).collect();
     let number = |i: usize, or: u64| words.get(i).and_then(|w| w.parse().ok()).unwrap_or(or);
-    match words.first().map(String::as_str) {
-        Some("roots") => replayed(roots::replay()),
-        Some("events") => replayed(events::replay()),
-        Some("tables") => replayed(tables::replay()),
-        Some("grown") => replayed(grown::replay(number(1, 65_535) as usize, None)),
-        Some("check-tables") => verdict(tables::check(number(1, 1_000_000), number(2, 1))),
-        Some("check-events") => verdict(events::check(number(1, 1_000_000), number(2, 1))),
-        Some("check-roots") => verdict(roots::check(number(1, 10_000_000), number(2, 1))),
-        Some("check-books") => verdict(books::check(number(1, 1_000_000), number(2, 1))),
-        Some("check-grown") => verdict(grown::check(number(1, 1_000_000), number(2, 1))),
-        Some("check-damage") => verdict(books::check_damage(number(1, 200), number(2, 1))),
-        Some("check-limits") => verdict(books::check_limits() + grown::check_limits() + events::check_limits() + tables::check_limits()),
-        _ => {
-            eprintln!("{USAGE}");
-            ExitCode::from(2)
-        }
+    match words.first().map_or("", String::as_str) {
+        what @ ("books" | "grown") => match settings(&words[1..]) {
+            Some((places, work)) => replayed(if what == "books" { SHEETS } else { GROWN }.replay(places, work)),
+            None => usage(),
+        },
+        "tables" => replayed(tables::replay()),
+        "events" => replayed(events::replay()),
+        "roots" => replayed(roots::replay()),
+        "check-books" => verdict(books::check(number(1, 1_000_000), number(2, 1))),
+        "check-grown" => verdict(GROWN.check(number(1, 1_000_000), number(2, 1))),
+        "check-sheets" => verdict(SHEETS.check(number(1, 1_000_000), number(2, 1))),
+        "check-sizes" => verdict(sizes::check(&SHEETS, number(1, 10_000), number(2, 1))),
+        "check-damage" => verdict(books::check_damage(number(1, 200), number(2, 1))),
+        "check-tables" => verdict(tables::check(number(1, 1_000_000), number(2, 1))),
+        "check-events" => verdict(events::check(number(1, 1_000_000), number(2, 1))),
+        "check-roots" => verdict(roots::check(number(1, 10_000_000), number(2, 1))),
+        "check-limits" => verdict(limits()),
+        _ => usage(),
     }
 }

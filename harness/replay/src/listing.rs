@@ -1,0 +1,61 @@
+//! The library's listing of a sheet, against the text that is made here.
+
+extern "C" {
+    fn keldurap_list_sheet(
+        floats: *const f64,
+        floats_len: usize,
+        numbers: *const u32,
+        numbers_len: usize,
+        nodes: usize,
+        added: usize,
+        splits: usize,
+        joined: usize,
+        finished: usize,
+        out: *mut u8,
+        out_len: usize,
+        length: *mut usize,
+    ) -> u32;
+}
+
+/// The library's answer, all of a lent slice of so many bytes, and the length.
+fn listed(floats: &[f64], numbers: &[u32], report: [usize; 5], size: usize) -> (u32, Vec<u8>, usize) {
+    let [nodes, added, splits, joined, finished] = report;
+    let (mut out, mut length) = (vec![0xa5; size], usize::MAX);
+    // Pointers and lengths are those of slices that nothing else uses during the call.
+    let answer = unsafe {
+        keldurap_list_sheet(
+            floats.as_ptr(),
+            floats.len(),
+            numbers.as_ptr(),
+            numbers.len(),
+            nodes,
+            added,
+            splits,
+            joined,
+            finished,
+            out.as_mut_ptr(),
+            out.len(),
+            &mut length,
+        )
+    };
+    (answer, out, length)
+}
+
+/// Whether the library lists a sheet as the text does: into a slice of the text's size, with zeros behind it into a longer one,
+/// with 1 and zeros alone into one that is a byte short, and with 2 and zeros alone from a table of which either slice is an element short.
+pub fn is_listed(floats: &[f64], numbers: &[u32], report: [usize; 5], text: &[u8]) -> bool {
+    let (nodes, size) = (report[0], text.len());
+    let whole = |more: usize| {
+        let (answer, out, length) = listed(floats, numbers, report, size + more);
+        (answer, length) == (0, size) && out[..size] == *text && out[size..].iter().all(|&byte| byte == 0)
+    };
+    let none = |answer: u32, floats: &[f64], numbers: &[u32], size: usize| {
+        listed(floats, numbers, report, size) == (answer, vec![0; size], 0)
+    };
+    whole(0)
+        && whole(9)
+        && none(1, floats, numbers, size - 1)
+        && none(1, floats, numbers, 0)
+        && none(2, &floats[..4 * nodes - 1], numbers, size)
+        && none(2, floats, &numbers[..6 * nodes - 1], size)
+}
