@@ -9,6 +9,54 @@
 extern "C" {
 #endif
 
+/* The most of each that a book may have, and the largest book in bytes: 44 + 24 links + 16 origins + 4 destinations + 12 legs + 24 samples. */
+#define KELDURAP_LINKS_MAX 65535
+#define KELDURAP_ORIGINS_MAX 1000
+#define KELDURAP_DESTINATIONS_MAX 1000
+#define KELDURAP_LEGS_MAX 65535
+#define KELDURAP_SAMPLES_MAX 1000000
+#define KELDURAP_BOOK_MAX 26379304
+
+/* A table's place is 4 doubles and 6 numbers; places past the most are never used. */
+#define KELDURAP_PLACES_MAX 65535
+#define KELDURAP_PLACE_FLOATS 4
+#define KELDURAP_PLACE_NUMBERS 6
+
+/* A unit of work space is 64 bytes: 3 reals, 8 cells and 2 marks. Row 3 asks for 576 units, and one for each link, origin, destination, leg and table place,
+ * so the most that it can ask for is 199,181 units (12,747,584 bytes). */
+#define KELDURAP_UNIT_REALS 3
+#define KELDURAP_UNIT_CELLS 8
+#define KELDURAP_UNIT_MARKS 2
+#define KELDURAP_UNITS_MIN 576
+#define KELDURAP_UNITS_MAX 199181
+
+/* The longest listing of a sheet of so many nodes, in bytes: a head of 65 and lines of 106. */
+#define KELDURAP_LISTING_MAX(nodes) (65 + 106 * (size_t)(nodes))
+
+/* A count of a book: the u32 at an offset, 0 where the bytes end before it does. */
+static inline uint32_t keldurap_count_at(const uint8_t *book, size_t book_len, uint64_t at)
+{
+    if (book_len < 4 || book_len - 4 < at)
+        return 0;
+    return (uint32_t)book[at] | (uint32_t)book[at + 1] << 8 | (uint32_t)book[at + 2] << 16 | (uint32_t)book[at + 3] << 24;
+}
+
+/* The units of work space to lend for a book and a table of so many places: as many as row 3 asks for, and never more than KELDURAP_UNITS_MAX.
+ * A count past the bytes' end is taken as 0 and one above its limit as its limit: such books get 1, 2 or 3 whatever is lent. */
+static inline size_t keldurap_units(const uint8_t *book, size_t book_len, size_t places)
+{
+    static const uint32_t widths[4] = {24, 16, 4, 12};
+    static const uint32_t limits[4] = {KELDURAP_LINKS_MAX, KELDURAP_ORIGINS_MAX, KELDURAP_DESTINATIONS_MAX, KELDURAP_LEGS_MAX};
+    size_t units = KELDURAP_UNITS_MIN + (places < KELDURAP_PLACES_MAX ? places : KELDURAP_PLACES_MAX);
+    uint64_t at = 24;
+    for (int i = 0; i < 4; i++) {
+        uint32_t count = keldurap_count_at(book, book_len, at);
+        units += count < limits[i] ? count : limits[i];
+        at += 4 + (uint64_t)count * widths[i];
+    }
+    return units;
+}
+
 /* The square root of x, rounded to nearest, a tie to even (IEEE 754 binary64), for every x. */
 double keldurap_root(double x);
 
@@ -40,6 +88,23 @@ uint32_t keldurap_update_times(double *floats, size_t floats_len, uint32_t *numb
  * Whatever table and work space held, the table has the nodes and zeros behind them, or on a refusal zeros alone, as the five numbers are; the work space is zero.
  * The slices and numbers must not overlap. A slice of no elements may have any pointer that is not null. */
 uint32_t keldurap_grow_network(const uint8_t *book, size_t book_len, double *floats, size_t floats_len, uint32_t *numbers, size_t numbers_len, double *reals, size_t reals_len, uint32_t *cells, size_t cells_len, uint32_t *marks, size_t marks_len, size_t *nodes, size_t *added, size_t *splits, size_t *joined, size_t *finished);
+
+/* The sheet of a book: every route in one network with its splits and joins, timed forward and backward. Gives 0, or the number of a refusal, 1 to 16 of docs/REFUSALS.md.
+ * book: its bytes, at most KELDURAP_BOOK_MAX of them in a book that is accepted: 1 to 65,535 links and legs, 1 to 1,000 origins and destinations, 1 to 1,000,000 samples.
+ * Table: 4 floats (time, time to next, distance to next, speed) and 6 numbers (next, next alternative, previous, previous alternative; link; kind, 0 Arrive, 1 Clear or 2 Fake)
+ * to a node, as many places as both slices fill, at most 65,535. Work space in units of 64 bytes as above; row 3 asks for 36,864 + 64 * (links + origins + destinations + legs + places)
+ * bytes, which are keldurap_units(book, book_len, places) units. The last five are the report: nodes of the sheet, of these added for events, then splits, joins and finished runs.
+ * Whatever table and work space held, the table has the sheet and zeros behind it, or on a refusal zeros alone, as the report's numbers are; the work space is zero.
+ * The slices and numbers must not overlap. A slice of no elements may have any pointer that is not null. */
+uint32_t keldurap_make_est_times(const uint8_t *book, size_t book_len, double *floats, size_t floats_len, uint32_t *numbers, size_t numbers_len, double *reals, size_t reals_len, uint32_t *cells, size_t cells_len, uint32_t *marks, size_t marks_len, size_t *nodes, size_t *added, size_t *splits, size_t *joined, size_t *finished);
+
+/* The listing of a sheet in ASCII: `nodes N added N splits N joined N finished N`, then a line for each node: its number, kind (A, C, F), link, next, next alternative, previous, previous
+ * alternative in decimal; time, time to next, distance to next and speed, each the 16 hexadecimal digits of its bits without closing zeros, one digit kept. A blank between fields, a newline
+ * behind each line. Table and report are those that keldurap_make_est_times gave. Gives 0: the listing stands in out, zeros behind it, and length is how many bytes it has (no byte closes it);
+ * 1: out is too short; 2: the table's slices have fewer nodes than `nodes` says. With 1 or 2 all of out is zero, and length is.
+ * A sheet's head has at most 65 bytes and a line at most 106, so KELDURAP_LISTING_MAX(nodes) bytes are always enough, 6,946,775 for 65,535 nodes. (Of other tables and reports, whose numbers may
+ * have any size: 140, and 126 and the digits of the node's number.) The slices and length must not overlap. A slice of no elements may have any pointer that is not null. */
+uint32_t keldurap_list_sheet(const double *floats, size_t floats_len, const uint32_t *numbers, size_t numbers_len, size_t nodes, size_t added, size_t splits, size_t joined, size_t finished, uint8_t *out, size_t out_len, size_t *length);
 
 #ifdef __cplusplus
 }
