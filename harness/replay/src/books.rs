@@ -152,23 +152,22 @@ pub fn check_limits() -> u64 {
     tally.print("limits")
 }
 
-/// n accepted books, each damaged in every way: every byte 0, 255 and with one bit changed, every prefix, one byte more,
-/// every count 0, 1, its limit and one more, and the largest number.
+/// n books of a seed that rows 1 to 8 let through, each damaged in every way, with a name: every byte 0, 255 and with one bit changed, every prefix,
+/// one byte more, every count 0, 1, its limit and one more, and the largest number.
+pub(crate) fn damaged(n: u64, seed: u64) -> impl Iterator<Item = (BookItem, String)> {
+    let is_good = |item: &BookItem| item.bytes.len() <= 600 && number(&plain::book(&item.bytes, item.places, item.work)) == 0;
+    let good = (0..).map(move |k| (k, book(seed, k))).filter(move |(_, item)| is_good(item));
+    good.take(n as usize).flat_map(move |(k, BookItem { bytes, places, work })| {
+        let name = move |what| format!("book {k} of seed {seed}, {what}");
+        damages(&bytes).into_iter().map(move |(what, bytes)| (BookItem { bytes, places, work }, name(what)))
+    })
+}
+
+/// The damaged copies of n good books.
 pub fn check_damage(n: u64, seed: u64) -> u64 {
     let (mut tally, mut work) = (Tally::default(), Work::default());
-    let mut found = 0;
-    for k in 0.. {
-        if found == n {
-            break;
-        }
-        let item = book(seed, k);
-        if item.bytes.len() <= 600 && number(&plain::book(&item.bytes, item.places, item.work)) == 0 {
-            found += 1;
-            for (what, bytes) in damages(&item.bytes) {
-                let damaged = BookItem { bytes, places: item.places, work: item.work };
-                tally.compare(&mut work, &damaged, &format!("book {k} of seed {seed}, {what}"));
-            }
-        }
+    for (item, what) in damaged(n, seed) {
+        tally.compare(&mut work, &item, &what);
     }
     tally.print("damaged books")
 }

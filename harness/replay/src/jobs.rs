@@ -1,5 +1,5 @@
 //! From a book to nodes, growth alone and the whole job: driven from a stream and against both outside answers.
-use crate::books::asked;
+use crate::books::{asked, damaged};
 use crate::listing;
 use crate::room::{Entry, Lengths, Room};
 use crate::stream;
@@ -64,6 +64,15 @@ impl Job {
             tally.compare_item(&book(seed, k), &format!("book {k} of seed {seed}"));
         }
         tally.print(&format!("{n} books of seed {seed}"))
+    }
+
+    /// The damaged copies of n good books.
+    pub fn check_damage(&self, n: u64, seed: u64) -> u64 {
+        let mut tally = Tally::new(self);
+        for (item, what) in damaged(n, seed) {
+            tally.compare_item(&item, &what);
+        }
+        tally.print(&format!("damaged copies of {n} books of seed {seed}"))
     }
 
     /// The named limits that are books.

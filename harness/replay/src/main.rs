@@ -51,6 +51,11 @@ fn limits() -> u64 {
     books::check_limits() + GROWN.check_limits() + SHEETS.check_limits() + events::check_limits() + tables::check_limits()
 }
 
+/// Damaged books, through the reading and the whole job.
+fn damage(n: u64, seed: u64) -> u64 {
+    books::check_damage(n, seed) + SHEETS.check_damage(n, seed)
+}
+
 fn main() -> ExitCode {
     let words: Vec<String> = std::env::args().skip(1).collect();
     let number = |i: usize, or: u64| words.get(i).and_then(|w| w.parse().ok()).unwrap_or(or);
@@ -66,7 +71,7 @@ fn main() -> ExitCode {
         "check-grown" => verdict(GROWN.check(number(1, 1_000_000), number(2, 1))),
         "check-sheets" => verdict(SHEETS.check(number(1, 1_000_000), number(2, 1))),
         "check-sizes" => verdict(sizes::check(&SHEETS, number(1, 10_000), number(2, 1))),
-        "check-damage" => verdict(books::check_damage(number(1, 200), number(2, 1))),
+        "check-damage" => verdict(damage(number(1, 200), number(2, 1))),
         "check-tables" => verdict(tables::check(number(1, 1_000_000), number(2, 1))),
         "check-events" => verdict(events::check(number(1, 1_000_000), number(2, 1))),
         "check-roots" => verdict(roots::check(number(1, 10_000_000), number(2, 1))),
