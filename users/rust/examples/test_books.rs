@@ -1,4 +1,4 @@
-//! test_books FOLDER BOOK...: books for users/test. Into FOLDER go two at the limit of the table, full.book and too_many.book, and into FOLDER/damaged
+//! `test_books FOLDER BOOK...` makes books for users/test. Into FOLDER go two at the limit of the table, full.book and too_many.book, and into FOLDER/damaged
 //! damaged copies of each BOOK: every prefix, every byte with one bit changed, one byte more, and every count at other values.
 #[path = "../tests/books/mod.rs"]
 mod books;

@@ -1,4 +1,4 @@
-//! print_sheet BOOK [PLACES]: prints the listing of a book's sheet, or `refused N`.
+//! `print_sheet BOOK [PLACES]` prints the listing of a book's sheet, or `refused N`.
 //! PLACES is how many nodes the table has places for, 65,535 if it is left out.
 //! Exit status: 0 a sheet, 1 a refusal, 2 wrong words, a file error or no memory.
 use keldurap::{list_sheet, listing_max, make_est_times, units_for_book, Table, WorkSpace, BOOK_MAX, PLACES_MAX};
