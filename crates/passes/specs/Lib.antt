@@ -4,3 +4,4 @@ pub mod Forward
 pub mod Backward
 pub mod Passes
 pub mod Walks
+pub mod Plain

@@ -9,6 +9,7 @@ ghost use lib.ListN.{length};
 ghost use Rattle.network.specs.Table.{nodeAt, Room};
 ghost use Rattle.insertion.specs.Insertion.{Table};
 ghost use Rattle.passes.specs.Checks.{fakeKind, differ, prevHolds, nextHolds, fakeHolds, prevLeads, nextLeads, nodeHolds, row14};
+ghost use Rattle.passes.specs.Plain.{plain};
 ghost use Rattle.passes.specs.Net.{Pass, setTime, setNext, setPrev, setArc};
 ghost use Rattle.passes.specs.Forward.{swapJoin, isPassable as Forward·isPassable};
 ghost use Rattle.passes.specs.Backward.{swapSplit, isPassable as Backward·isPassable};
@@ -62,6 +63,23 @@ fn neighbours_hold(before: EstTime, after: EstTime, n: usize, i: usize) -> bool
     prev_leads & (next_leads & not_both)
 }
 
+// Whether a node is an event between two nodes that lead to it: then all its checks hold.
+fn is_plain(here: EstTime, before: EstTime, after: EstTime, n: usize, i: usize) -> bool
+    requires { ⌜ i < n ⌝ }
+    ensures { λ r. ⌜ r ≡ plain here before after n i ⌝ }
+{
+    let event = here.link_event;
+    let kind = event.est_type;
+    let fake = is_fake(kind);
+    (1 < i)
+        & ((i < n - 1)
+            & (!(here.idx_prev == 0)
+                & (!(here.idx_next == 0)
+                    & ((before.idx_next as usize == i)
+                        & ((after.idx_prev as usize == i)
+                            & (!(before.idx_next_alt as usize == i) & !fake))))))
+}
+
 // Whether all checks of a node hold.
 fn node_holds(floats: &[f64], numbers: &[u32], n: usize, i: usize) -> bool
     requires { ⌜ Room (now floats) (now numbers) n ⌝ }
@@ -72,6 +90,9 @@ fn node_holds(floats: &[f64], numbers: &[u32], n: usize, i: usize) -> bool
     let here = network::load(floats, numbers, i);
     let before = network::load(floats, numbers, here.idx_prev as usize);
     let after = network::load(floats, numbers, here.idx_next as usize);
+    if is_plain(here, before, after, n, i) {
+        return true;
+    }
     let own = own_links_hold(here, n, i);
     let near = neighbours_hold(before, after, n, i);
     own & near

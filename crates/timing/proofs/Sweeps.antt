@@ -1,13 +1,14 @@
 -- The loops of rows 15 and 16: no node so far has what is sought.
 use mathlib.Core.Path.{_≡_, refl, sym, ap, _∙_}
-use mathlib.Core.Bool.{Bool, true, false, not}
+use mathlib.Core.Bool.{Bool, true, false, not, _||_}
 use mathlib.Core.List.{List}
 use Prim.Native.Nat.{ℕ, _+_, _*_, _≤_, _<_}
 use native.Mathlib.Omega.{arith}
+use lib.Dec.{ltb}
 use lib.ListN.{getD}
 use lib.Ieee.{Float, nan, binary64, eq, ofBits}
 use Rattle.fields.specs.Below.{someBelow}
-use Rattle.fields.proofs.Below.{some-at, none-more}
+use Rattle.fields.proofs.Below.{some-at, some-more, none-more}
 use Rattle.network.specs.Table.{nodeAt}
 use Rattle.insertion.specs.Insertion.{Table, at}
 use Rattle.passes.specs.Walks.{doneIn}
@@ -33,25 +34,21 @@ module _ (p : ℕ → Bool) (n : ℕ) where
 unfoldable pub notDone : List ℕ → ℕ → ℕ → Bool
 notDone cells base i = not (doneIn cells base i)
 
-module _ (cells : List ℕ) (base n : ℕ) where
-  left-is : someLeft (doneIn cells base) n ≡ someBelow n (notDone cells base)
+module _ (cells : List ℕ) (base : ℕ) where
+  left-is : (n : ℕ) → someLeft (doneIn cells base) n ≡ someBelow n (notDone cells base)
   unfolding someLeft notDone
-  left-is = refl
+  left-is n = refl
 
-  pub left-start : NoneYet (notDone cells base) n 0
-  left-start = none-start (notDone cells base) n
+  pub left-start : false ≡ someBelow 0 (notDone cells base)
+  unfolding someBelow
+  left-start = refl
 
-  module _ (i : ℕ) (v : NoneYet (notDone cells base) n i) where
-    pub left-hit : (r : Bool) → i < n → r ≡ doneIn cells base i → not r ≡ true → true ≡ someLeft (doneIn cells base) n
-    unfolding notDone
-    left-hit r h e d = sym (left-is ∙ some-at n (notDone cells base) i h (ap not (sym e) ∙ d))
+  pub left-on : (i : ℕ) (left : Bool) → left ≡ someBelow i (notDone cells base) → (left || not (ltb 0 (getD cells (base + i) 0))) ≡ someBelow (i + 1) (notDone cells base)
+  unfolding notDone doneIn
+  left-on i left e = ap (λ (t : Bool). t || not (ltb 0 (getD cells (base + i) 0))) e ∙ sym (some-more i (notDone cells base))
 
-    pub left-on : (r : Bool) → i < n → r ≡ doneIn cells base i → not r ≡ false → NoneYet (notDone cells base) n (i + 1)
-    unfolding notDone
-    left-on r h e d = none-on (notDone cells base) n i v h (ap not (sym e) ∙ d)
-
-    pub left-end : n ≤ i → false ≡ someLeft (doneIn cells base) n
-    left-end h = sym (left-is ∙ none-end (notDone cells base) n i v h)
+  pub left-end : (n i : ℕ) (left : Bool) → i ≤ n → left ≡ someBelow i (notDone cells base) → n ≤ i → left ≡ someLeft (doneIn cells base) n
+  left-end n i left h e m = let d : i ≡ n = omega (arith, h, m) in e ∙ ap (λ (k : ℕ). someBelow k (notDone cells base)) d ∙ sym (left-is n)
 
 -- ---- row 16: a time that is not 0 or -0
 

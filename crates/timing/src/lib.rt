@@ -12,20 +12,18 @@ ghost use Rattle.passes.specs.Backward.{backward};
 ghost use Rattle.passes.specs.Passes.{someLeft, allZero, afterBackward, passes};
 ghost use Rattle.timing.specs.Timing.{timedNumber, TimedInto, sixteenIf};
 
-// Row 15: whether a pass has left a node out. A node is done whose cell is set.
+// Row 15: whether a pass has left a node out. A node is done whose cell is set. All cells are looked at, whatever is found: that is faster than stopping.
 fn some_left(cells: &[u32], done_at: usize, n: usize) -> bool
     requires { ⌜ «done_at» + n ≤ length (now cells) ⌝ }
-    requires { ⌜ n ≤ 65535 ⌝ }
     ensures { λ r. ⌜ r ≡ someLeft (doneIn (now (cells .entry)) «done_at») n ⌝ }
 {
+    let mut left = false;
     let mut i = 0;
     while i < n {
-        if !progress::is_done(cells, done_at, i as u32) {
-            return true;
-        }
+        left = left | !(0 < cells[done_at + i]);
         i += 1;
     }
-    false
+    left
 }
 
 // Row 16: whether all times are 0 or -0.

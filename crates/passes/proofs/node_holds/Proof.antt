@@ -2,7 +2,7 @@
 use borrow.Author.Needs.{needs}
 use native.Mathlib.Omega.{arith}
 use Rattle.passes.proofs.Sets.{next-inside, prev-inside}
-use Rattle.passes.proofs.Held.{all-hold}
+use Rattle.passes.proofs.Held.{plain-holds, all-hold}
 use Rattle.passes.proofs.node_holds.Statement.{statement}
 use Rattle.passes.proofs.node_holds.Tie as tie
 
@@ -17,7 +17,11 @@ load-requires-3 c κs =
     (omega (arith, h, c .before .before .before .before .before .before .pre .0 .floats), omega (arith, h, c .before .before .before .before .before .before .pre .0 .numbers))
 
 returns : tie.Need-returns
-returns c = all-hold _ _ _ _ _ _ _ _ (c .before .before .before .before .before .before .load .ensures) (c .before .before .before .before .load2 .ensures) (c .before .before .load3 .ensures) (c .before .own-links-hold .ensures) (c .neighbours-hold .ensures)
+returns c = plain-holds _ _ _ _ _ _ (c .before .before .before .before .before .before .load .ensures) (c .before .before .before .before .load2 .ensures) (c .before .before .load3 .ensures) _ (c .before .is-plain .ensures) (c .if1 .taken)
+
+returns-2 : tie.Need-returns-2
+returns-2 c =
+    all-hold _ _ _ _ _ _ _ _ (c .before .before .before .before .before .before .before .before .load .ensures) (c .before .before .before .before .before .before .load2 .ensures) (c .before .before .before .before .load3 .ensures) (c .before .own-links-hold .ensures) (c .neighbours-hold .ensures)
 
 pub node-holds-spec : {M : Type 1} → statement M
 node-holds-spec =
@@ -29,5 +33,7 @@ node-holds-spec =
     (λ c. search needs)
     load-requires-3
     (λ c κs. search needs)
+    returns
     (λ c κs. search needs)
-    returns)
+    (λ c κs. search needs)
+    returns-2)

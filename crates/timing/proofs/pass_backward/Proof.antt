@@ -13,7 +13,7 @@ returns : tie.Need-returns
 returns c = told-backward _ _ _ _ _ (failed _ _ _ _ _ _ _ (c .before .before .before .before .before .before .before .before .before .before .before .update-times-backward .result) (c .before .before .before .before .before .before .before .before .before .before .before .update-times-backward .ensures) (c .if1 .taken))
 
 some-left-requires : tie.Need-some-left-requires
-some-left-requires c κs = (omega (arith, c .before .before .before .before .before .before .before .before .before .before .before .before .before .before .before .before .before .before .before .before .before .before .before .pre .1 .1 .1 .1 .0, c .before .before .before .before .before .before .before .before .before .before .before .before .update-times-backward .kept), c .before .before .before .before .before .before .before .before .before .before .before .before .before .before .before .before .before .before .before .before .before .before .before .pre .0 .most)
+some-left-requires c κs = omega (arith, c .before .before .before .before .before .before .before .before .before .before .before .before .before .before .before .before .before .before .before .before .before .before .before .pre .1 .1 .1 .1 .0, c .before .before .before .before .before .before .before .before .before .before .before .before .update-times-backward .kept)
 
 returns-2 : tie.Need-returns-2
 returns-2 c = told-unpassed _ _ _ (ended _ _ _ _ _ _ _ (c .before .before .before .before .before .before .before .before .before .before .before .before .before .before .update-times-backward .result) (c .before .before .before .before .before .before .before .before .before .before .before .before .before .before .update-times-backward .ensures) (c .before .before .before .if1 .left)) _ (c .before .some-left .ensures) (c .if2 .taken)

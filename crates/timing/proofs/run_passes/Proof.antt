@@ -16,7 +16,7 @@ returns-2 : tie.Need-returns-2
 returns-2 c = told-forward _ _ _ _ _ (c .before .before .before .before .before .before .before .before .before .before .before .before .before .before .before .before .before .before .checks-fail .ensures) (c .before .before .before .before .before .before .before .before .before .before .before .before .before .before .before .before .before .if1 .left) _ _ (failed _ _ _ _ _ _ _ (c .before .before .before .before .before .before .before .before .before .before .before .update-times-forward .result) (c .before .before .before .before .before .before .before .before .before .before .before .update-times-forward .ensures) (c .if2 .taken))
 
 some-left-requires : tie.Need-some-left-requires
-some-left-requires c κs = (omega (arith, c .before .before .before .before .before .before .before .before .before .before .before .before .before .before .before .before .before .before .before .before .before .before .before .before .before .before .before .pre .1 .1 .1 .1 .0, c .before .before .before .before .before .before .before .before .before .before .before .before .update-times-forward .kept), c .before .before .before .before .before .before .before .before .before .before .before .before .before .before .before .before .before .before .before .before .before .before .before .before .before .before .before .pre .0 .most)
+some-left-requires c κs = omega (arith, c .before .before .before .before .before .before .before .before .before .before .before .before .before .before .before .before .before .before .before .before .before .before .before .before .before .before .before .pre .1 .1 .1 .1 .0, c .before .before .before .before .before .before .before .before .before .before .before .before .update-times-forward .kept)
 
 returns-3 : tie.Need-returns-3
 returns-3 c = told-untimed _ _ _ _ _ (c .before .before .before .before .before .before .before .before .before .before .before .before .before .before .before .before .before .before .before .before .before .checks-fail .ensures) (c .before .before .before .before .before .before .before .before .before .before .before .before .before .before .before .before .before .before .before .before .if1 .left) (ended _ _ _ _ _ _ _ (c .before .before .before .before .before .before .before .before .before .before .before .before .before .before .update-times-forward .result) (c .before .before .before .before .before .before .before .before .before .before .before .before .before .before .update-times-forward .ensures) (c .before .before .before .if2 .left)) _ (c .before .some-left .ensures) (c .if3 .taken)

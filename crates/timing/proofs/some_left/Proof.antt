@@ -1,36 +1,48 @@
--- `timing::some_left` meets its contract: `NoneYet` is the loop's invariant.
-use Prim.Native.Nat.{_-_}
+-- `timing::some_left` meets its contract: `Looked` is the loop's invariant.
+use mathlib.Core.Path.{_≡_}
+use mathlib.Core.Bool.{Bool}
+use mathlib.Core.List.{List}
+use Prim.Native.Nat.{ℕ, _-_, _≤_}
 use native.Mathlib.Omega.{arith}
-use Rattle.timing.proofs.Sweeps.{NoneYet, notDone, left-start, left-hit, left-on, left-end}
+use borrow.Author.Needs.{needs}
+use Rattle.fields.specs.Below.{someBelow}
+use Rattle.timing.proofs.Sweeps.{notDone, left-start, left-on, left-end}
 use Rattle.timing.proofs.some_left.Statement.{statement}
 use Rattle.timing.proofs.some_left.Tie as tie
 
+record Looked (cells : List ℕ) (base n : ℕ) (left : Bool) (i : ℕ) : Type 0 where
+  pub within : i ≤ n
+  pub left-is : left ≡ someBelow i (notDone cells base)
+
 abbrev Inv-loop : tie.InvT-loop
-Inv-loop cells done-at n i₀ i = NoneYet (notDone cells done-at) n i
+Inv-loop cells done-at n left₀ i₀ left i = Looked cells done-at n left i
 
 abbrev μ-loop : tie.MeasureT-loop
-μ-loop cells done-at n i₀ i = n - i
+μ-loop cells done-at n left₀ i₀ left i = n - i
 
-cast-is-done : tie.Need-cast-is-done Inv-loop μ-loop
-cast-is-done c = omega (arith, c .before .before .before .pre, c .loop-test .taken)
+loop-holds : tie.Need-loop-holds Inv-loop μ-loop
+loop-holds c = record { within = omega arith; left-is = left-start _ _ }
 
-is-done-requires : tie.Need-is-done-requires Inv-loop μ-loop
-is-done-requires c κs = omega (arith, c .before .before .before .pre, c .loop-test .taken)
+add-left : tie.Need-add-left Inv-loop μ-loop
+add-left c = omega (arith, c .before .before .pre, c .loop-test .taken)
 
-returns : tie.Need-returns Inv-loop μ-loop
-returns c = left-hit _ _ _ _ (c .before .before .before .loop .inv) _ (c .before .before .loop-test .taken) (c .before .is-done .ensures) (c .if1 .taken)
+mul-left : tie.Need-mul-left Inv-loop μ-loop
+mul-left c = omega (arith, c .before .before .pre, c .loop-test .taken)
+
+shared-slice-read-left : tie.Need-shared-slice-read-left Inv-loop μ-loop
+shared-slice-read-left c = omega (arith, c .before .before .before .pre, c .before .loop-test .taken)
 
 add-i : tie.Need-add-i Inv-loop μ-loop
-add-i c = omega (arith, c .before .before .before .before .before .pre, c .before .before .loop-test .taken)
+add-i c = omega (arith, c .before .before .before .pre, c .before .loop-test .taken)
 
 loop-less : tie.Need-loop-less Inv-loop μ-loop
-loop-less c = omega (arith, c .before .before .loop-test .taken)
+loop-less c = omega (arith, c .before .loop-test .taken)
 
 loop-again : tie.Need-loop-again Inv-loop μ-loop
-loop-again c = left-on _ _ _ _ (c .before .before .before .loop .inv) _ (c .before .before .loop-test .taken) (c .before .is-done .ensures) (c .if1 .left)
+loop-again c = record { within = omega (arith, c .before .loop-test .taken); left-is = left-on _ _ _ _ (c .before .before .loop .inv .left-is) }
 
-returns-2 : tie.Need-returns-2 Inv-loop μ-loop
-returns-2 c = left-end _ _ _ _ (c .before .loop .inv) (c .loop-test .left)
+returns : tie.Need-returns Inv-loop μ-loop
+returns c = left-end _ _ _ _ _ (c .before .loop .inv .within) (c .before .loop .inv .left-is) (c .loop-test .left)
 
 pub some-left-spec : {M : Type 1} → statement M
-some-left-spec = tie.close (tie.spec Inv-loop μ-loop (λ c. left-start _ _ _) cast-is-done is-done-requires returns add-i loop-less loop-again returns-2)
+some-left-spec = tie.close (tie.spec Inv-loop μ-loop loop-holds add-left mul-left shared-slice-read-left add-i loop-less loop-again returns)
