@@ -3,11 +3,11 @@ use est_times::Sheet;
 use listing::Listed;
 ghost use mathlib.Core.Path.{_≡_};
 ghost use lib.ListN.{length};
-ghost use Rattle.space.specs.Space.{bytesOf};
-ghost use Rattle.est_times.specs.Sheet.{job};
+ghost use Rattle.space.specs.Space.{bytesOf, zeros, zeroFloats};
+ghost use Rattle.est_times.specs.Sheet.{job, floatsAs, numbersAs};
 ghost use Rattle.sheets.specs.Sheets.{bookListed, bookBytes};
 
-// Makes the sheet of a book and lists it, or its refusal, in a lent slice.
+// Makes the sheet of a book and lists it, or its refusal, in a lent slice. Table and work space are left as `make_est_times` leaves them.
 pub fn list_book(
     book: &[u8],
     floats: &mut [f64],
@@ -19,6 +19,11 @@ pub fn list_book(
 ) -> Listed
     ensures answer { λ r. ⌜ r ≡ bookListed (job (now (book .entry)) (length (now (floats .entry))) (length (now (numbers .entry))) (bytesOf (length (now (reals .entry))) (length (now (cells .entry))) (length (now (marks .entry))))) (length (now (floats .entry))) (length (now (numbers .entry))) (length (now (out .entry))) ⌝ }
     ensures out { λ _. ⌜ now (out .exit) ≡ bookBytes (job (now (book .entry)) (length (now (floats .entry))) (length (now (numbers .entry))) (bytesOf (length (now (reals .entry))) (length (now (cells .entry))) (length (now (marks .entry))))) (length (now (floats .entry))) (length (now (numbers .entry))) (length (now (out .entry))) ⌝ }
+    ensures floats { λ _. ⌜ now (floats .exit) ≡ floatsAs (job (now (book .entry)) (length (now (floats .entry))) (length (now (numbers .entry))) (bytesOf (length (now (reals .entry))) (length (now (cells .entry))) (length (now (marks .entry))))) (length (now (floats .entry))) ⌝ }
+    ensures numbers { λ _. ⌜ now (numbers .exit) ≡ numbersAs (job (now (book .entry)) (length (now (floats .entry))) (length (now (numbers .entry))) (bytesOf (length (now (reals .entry))) (length (now (cells .entry))) (length (now (marks .entry))))) (length (now (numbers .entry))) ⌝ }
+    ensures reals { λ _. ⌜ now (reals .exit) ≡ zeroFloats (length (now (reals .entry))) ⌝ }
+    ensures cells { λ _. ⌜ now (cells .exit) ≡ zeros (length (now (cells .entry))) ⌝ }
+    ensures marks { λ _. ⌜ now (marks .exit) ≡ zeros (length (now (marks .entry))) ⌝ }
 {
     let sheet = est_times::make_est_times(book, floats, numbers, reals, cells, marks);
     match sheet {
