@@ -102,7 +102,7 @@ fn parts(bench: &Bench) {
     passes.case("1,000 runs of 57 events that meet", || timers::passes(&[tables::meeting(1_000, 57)]));
     passes.case("accepted ones of 10,000 random tables", || timers::passes(&lists::accepted_tables(10_000)));
     for count in [70, 700, 7_000] {
-        passes.size(&format!("a line of {count} sidings"), 8 * count, || timers::passes(&[tables::sidings(count)]));
+        passes.size(&format!("the network of {count} sidings, {} nodes", nodes(count)), nodes(count), || timers::passes(&[timers::network(&sidings::book(count))]));
     }
     let mut events = bench.group("event lists", "keldurap_make_events. The reference's is the same tests but 12, and the published function.");
     events.case("1,000,000 samples, 1,000 points", || timers::events(&[lists::even(1_000_000, 1_000)]));

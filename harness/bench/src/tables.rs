@@ -84,18 +84,6 @@ pub fn line(events: usize) -> Vec<u8> {
     net.close(&[end])
 }
 
-/// A line with so many sidings: 4 events on the line, 2 on the siding, its split and its join for each. The run that was saved last goes first.
-pub fn sidings(count: usize) -> Vec<u8> {
-    let mut net = Net::new();
-    let end = net.events(1, 4 * count + 2);
-    for k in (0..count as u32).rev() {
-        let from = net.split(2 + 4 * k);
-        let place = net.events(from, 2);
-        net.join(place, 2 + 4 * k + 3);
-    }
-    net.close(&[end])
-}
-
 /// So many runs that start together, of so many events each, with an end each.
 pub fn runs(count: usize, events: usize) -> Vec<u8> {
     let mut net = Net::new();

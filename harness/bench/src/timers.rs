@@ -44,6 +44,14 @@ pub fn growth(bytes: &[u8]) -> Times {
     best(|| took(|| room.call(Entry::Grow, bytes)), || uncounted::time_grown(bytes).0)
 }
 
+/// The network that a book grows to, as a node table.
+pub fn network(bytes: &[u8]) -> Vec<u8> {
+    let mut room = Room::default();
+    room.lend(Lengths::of(65_535, replay::books::asked(bytes, 65_535)));
+    let (_, report) = room.call(Entry::Grow, bytes);
+    room.item(report[0])
+}
+
 /// Node tables: ours is the whole of `keldurap_update_times`, the reference's is rows 4 and 5, the checks and both passes.
 pub fn passes(items: &[Vec<u8>]) -> Times {
     let lent: Vec<_> = items.iter().map(|item| replay::tables::Lent::new(item)).collect();

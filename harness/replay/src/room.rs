@@ -112,6 +112,16 @@ impl Room {
         (number, [nodes, added, splits, joined, finished])
     }
 
+    /// The first nodes as an item for `keldurap_update_times`, with a departure of 0.
+    pub fn item(&self, nodes: usize) -> Vec<u8> {
+        let mut item = vec![0; 8];
+        for (floats, numbers) in self.floats.chunks(4).zip(self.numbers.chunks(6)).take(nodes) {
+            item.extend(floats.iter().flat_map(|x| x.to_le_bytes()));
+            item.extend(numbers.iter().flat_map(|n| n.to_le_bytes()));
+        }
+        item
+    }
+
     /// Whether the work space is zero, and the table from a node on.
     pub(crate) fn is_zero_from(&self, nodes: usize) -> bool {
         let floats = self.floats.iter().skip(4 * nodes).all(|x| x.to_bits() == 0);
