@@ -69,7 +69,7 @@ fn whole(bench: &Bench) {
     let how = "keldurap_make_est_times. All that is lent is zero before each call, left so by the one before, and is made zero all the same. Work space as row 3 asks.";
     let mut lines = bench.group("lines of sidings, places as nodes", how);
     for count in [10, 100, 1_000, 7_000] {
-        lines.size(&format!("a line of {count} sidings"), nodes(count), || timers::sheets(&[sidings::book(count)], nodes(count)));
+        lines.size(&format!("a line of {count} sidings"), nodes(count), || timers::fitted(&sidings::book(count)));
     }
     lines.plot();
     let mut kinds = bench.group("a book, 65,535 places", how);
@@ -81,13 +81,13 @@ fn whole(bench: &Bench) {
     let items = books::small(1_000);
     small.case("1,000 random books, 192 places", || timers::sheets(&items, 192));
     small.case("1,000 random books, 4,096 places", || timers::sheets(&items, 4_096));
-    let mut chains = bench.group("chains of legs, 65,535 places", how);
+    let mut chains = bench.group("chains of legs, places as nodes", how);
     for legs in [650, 6_500, 65_000] {
-        chains.size(&format!("{legs} legs"), legs, || timers::sheets(&[books::chain(legs)], 65_535));
+        chains.size(&format!("{legs} legs"), legs, || timers::fitted(&books::chain(legs)));
     }
-    let mut origins = bench.group("origins, 65,535 places", how);
+    let mut origins = bench.group("origins, places as nodes", how);
     for count in [10, 100, 1_000] {
-        origins.size(&format!("{count} origins"), count, || timers::sheets(&[books::origins(count)], 65_535));
+        origins.size(&format!("{count} origins"), count, || timers::fitted(&books::origins(count)));
     }
 }
 

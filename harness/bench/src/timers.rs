@@ -35,6 +35,11 @@ pub fn sheets(books: &[Vec<u8>], places: usize) -> Times {
     best(|| took(|| books.iter().map(|bytes| room.call(Entry::Make, bytes).0).sum::<u32>()), || books.iter().map(|bytes| uncounted::time_book(bytes).0).sum())
 }
 
+/// The whole job on a book, in a table of just as many places as it has nodes.
+pub fn fitted(bytes: &[u8]) -> Times {
+    sheets(&[bytes.to_vec()], uncounted::time_book(bytes).1)
+}
+
 /// Growth alone, in a table of 65,535 places: ours is the whole of `keldurap_grow_network`, the reference's is its reading and the published function up to the checks.
 pub fn growth(bytes: &[u8]) -> Times {
     let mut room = Room::default();
