@@ -3,22 +3,9 @@ use libc::STDIN_FILENO;
 use libc::STDOUT_FILENO;
 use listing::Listed;
 
+// Prints the listing of a book's sheet, or of its refusal, which is first put into a slice.
 fn print_sheet(book: &[u8], text: &mut [u8]) {
-    let mut floats = [0.0f64; 768];
-    let mut numbers = [0u32; 1152];
-    let mut reals = [0.0f64; 3072];
-    let mut cells = [0u32; 8192];
-    let mut marks = [0u32; 2048];
-    let listed = sheets::list_book(
-        book,
-        &mut floats,
-        &mut numbers,
-        &mut reals,
-        &mut cells,
-        &mut marks,
-        text,
-    );
-    let Listed::Bytes(n) = listed else {
+    let Listed::Bytes(n) = sheets::sheet_text(book, text) else {
         return;
     };
     if n <= text.len() {

@@ -6,6 +6,7 @@ use Prim.Native.Nat.{ℕ, _/_, min}
 use lib.Dec.{leb}
 use lib.ListN.{length}
 use lib.Ieee.{Float}
+use Rattle.space.specs.Space.{bytesOf}
 use Rattle.network.specs.Table.{nodeAt}
 use Rattle.growth.specs.declared.Report.{Report}
 use Rattle.est_times.specs.declared.Sheet.{Sheet}
@@ -68,3 +69,15 @@ module _ (b : List ℕ) (f u w size : ℕ) (a : Listed) (out : List ℕ) (s : Sh
   pub refused-listed : (k : ℕ) → s ≡ Refused k → a ≡ fitted (leb (length (refusedText k)) size) (refusedText k) → out ≡ bytesAs (leb (length (refusedText k)) size) (refusedText k) size
       → (a ≡ bookListed (job b f u w) f u size) × (out ≡ bookBytes (job b f u w) f u size)
   refused-listed k d x y = let t = refused-lists f u size a out (job b f u w) s k e d x y in (t .answer, t .bytes)
+
+-- the same of slices whose lengths are known
+pub of-lengths : {Rest : Type 0} (b : List ℕ) (f u r c m f′ u′ w′ size : ℕ) (a : Listed) (out : List ℕ) → f ≡ f′ → u ≡ u′ → bytesOf r c m ≡ w′
+    → (a ≡ bookListed (job b f u (bytesOf r c m)) f u size) × ((out ≡ bookBytes (job b f u (bytesOf r c m)) f u size) × Rest) → (a ≡ bookListed (job b f′ u′ w′) f′ u′ size) × (out ≡ bookBytes (job b f′ u′ w′) f′ u′ size)
+of-lengths b f u r c m f′ u′ w′ size a out p q s e = (
+  e .0 ∙ ap (λ (n : ℕ). bookListed (job b n u (bytesOf r c m)) n u size) p ∙ ap (λ (n : ℕ). bookListed (job b f′ n (bytesOf r c m)) f′ n size) q ∙ ap (λ (n : ℕ). bookListed (job b f′ u′ n) f′ u′ size) s,
+  e .1 .0 ∙ ap (λ (n : ℕ). bookBytes (job b n u (bytesOf r c m)) n u size) p ∙ ap (λ (n : ℕ). bookBytes (job b f′ n (bytesOf r c m)) f′ n size) q ∙ ap (λ (n : ℕ). bookBytes (job b f′ u′ n) f′ u′ size) s,
+)
+
+pub of-work : (r c m : ℕ) → r ≡ 3072 → c ≡ 8192 → m ≡ 2048 → bytesOf r c m ≡ 65536
+unfolding bytesOf
+of-work r c m p q s = ap (λ (n : ℕ). bytesOf n c m) p ∙ ap (λ (n : ℕ). bytesOf 3072 n m) q ∙ ap (λ (n : ℕ). bytesOf 3072 8192 n) s

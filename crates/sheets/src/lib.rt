@@ -31,3 +31,24 @@ pub fn list_book(
         Sheet::Refused(k) => listing::list_refused(k, out),
     }
 }
+
+// What the program `sheet` prints for a book, in a lent slice: 192 nodes and 65,536 bytes of work space.
+pub fn sheet_text(book: &[u8], out: &mut [u8]) -> Listed
+    ensures answer { λ r. ⌜ r ≡ bookListed (job (now (book .entry)) 768 1152 65536) 768 1152 (length (now (out .entry))) ⌝ }
+    ensures out { λ _. ⌜ now (out .exit) ≡ bookBytes (job (now (book .entry)) 768 1152 65536) 768 1152 (length (now (out .entry))) ⌝ }
+{
+    let mut floats = [0.0f64; 768];
+    let mut numbers = [0u32; 1152];
+    let mut reals = [0.0f64; 3072];
+    let mut cells = [0u32; 8192];
+    let mut marks = [0u32; 2048];
+    list_book(
+        book,
+        &mut floats,
+        &mut numbers,
+        &mut reals,
+        &mut cells,
+        &mut marks,
+        out,
+    )
+}
