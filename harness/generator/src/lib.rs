@@ -12,11 +12,13 @@ mod networks;
 mod random;
 mod roots;
 mod tables;
+mod writer;
 
 pub use book::{work_asked, Book, Leg, Link, Origin, Sample};
 pub use books::{book, needed, BookItem};
 pub use events::events;
-pub use limits::{limits, Limit};
+pub use limits::{example, limits, Limit};
 pub use random::Random;
 pub use roots::root;
-pub use tables::{Node, Tables};
+pub use tables::{item as table_item, Node, Tables};
+pub use writer::{link, origins, Writer};

@@ -71,7 +71,8 @@ fn accepted(r: &mut Random) -> (Vec<Node>, f64) {
     }
 }
 
-fn item(departure: f64, nodes: &[Node]) -> Vec<u8> {
+/// The bytes of a departure and nodes.
+pub fn item(departure: f64, nodes: &[Node]) -> Vec<u8> {
     let mut bytes = departure.to_le_bytes().to_vec();
     for node in nodes {
         bytes.extend(node.floats.iter().flat_map(|float| float.to_le_bytes()));
