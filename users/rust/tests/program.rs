@@ -17,7 +17,7 @@ fn a_sheet() {
 
 #[test]
 fn a_refusal() {
-    assert_eq!(run(&["../../examples/own_parent.book"]), ("refused 7\n".into(), 1));
+    assert_eq!(run(&["../../examples/refused/07.book"]), ("refused 7\n".into(), 1));
     assert_eq!(run(&["../../examples/siding.book", "14"]), ("refused 12\n".into(), 1));
     assert_eq!(run(&["../../examples/siding.book", "0"]), ("refused 12\n".into(), 1));
 }
