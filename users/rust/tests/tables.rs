@@ -63,6 +63,39 @@ fn row_15_two_nodes_linked_only_to_each_other() {
     assert_eq!(timed(&nodes, 1.0), Err(15));
 }
 
+/// A stored table: the departure, then of each node four floats, four indices, link and kind.
+fn stored(file: &str) -> (f64, Vec<Node>) {
+    let bytes = std::fs::read(file).unwrap();
+    let (departure, nodes) = bytes.split_at(8);
+    (f64::from_le_bytes(departure.try_into().unwrap()), nodes.chunks_exact(56).map(stored_node).collect())
+}
+
+fn stored_node(bytes: &[u8]) -> Node {
+    let float = |i: usize| f64::from_le_bytes(bytes[8 * i..8 * i + 8].try_into().unwrap());
+    let number = |i: usize| u32::from_le_bytes(bytes[32 + 4 * i..36 + 4 * i].try_into().unwrap());
+    let kind = [Kind::Arrive, Kind::Clear, Kind::Fake][number(5) as usize];
+    let [time, time_to_next, dist_to_next, speed] = [0, 1, 2, 3].map(float);
+    let [next, next_alt, prev, prev_alt, link] = [0, 1, 2, 3, 4].map(number);
+    Node { kind, link, next, next_alt, prev, prev_alt, time, time_to_next, dist_to_next, speed }
+}
+
+#[test]
+fn the_stored_tables_have_their_numbers() {
+    for (number, count) in [(14, 3), (15, 6)] {
+        let (departure, nodes) = stored(&format!("../../examples/refused/{number}.table"));
+        assert_eq!(nodes.len(), count);
+        assert_eq!(timed(&nodes, departure), Err(number));
+    }
+}
+
+/// The stored table of 15 with its two nodes put between 1 and 4.
+#[test]
+fn the_stored_table_of_row_15_mended() {
+    let (departure, mut nodes) = stored("../../examples/refused/15.table");
+    (nodes[1].next, nodes[2].prev, nodes[3].next, nodes[4].prev) = (2, 1, 4, 3);
+    assert!(timed(&nodes, departure).is_ok());
+}
+
 #[test]
 fn row_16_of_a_table() {
     assert_eq!(timed(&chain(), 0.0), Err(16));
