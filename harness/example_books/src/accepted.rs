@@ -1,7 +1,7 @@
 //! Books that are accepted.
 //!
-//! But in document 01's own, each link has 100 m and the train 10 m; it departs at 0 s with its front at 10 m.
-//! But in these two, J is 2.5 m/s, and each leg ends 10 m before its link does.
+//! All but document 01's have links of 100 m and a train of 10 m that departs at 0 s, its front at 10 m.
+//! All but that and `siding` have a J of 2.5 m/s if none is named, and legs that end 10 m before their links.
 
 use generator::{example, link, origins, Book, Link, Writer};
 
