@@ -35,7 +35,7 @@ use Rattle.state.specs.declared.State.{State}
 use Rattle.state.specs.declared.Turned.the-variants.{On}
 use Rattle.state.specs.Held.{PlanIn, pathBefore, Beneath, Clear, ClearOf, RunSound, AllSound, SameRuns, WaitIn, RunsIn, DriveIn}
 use Rattle.turns.proofs.Paths.{LegOf, leg-found}
-use Rattle.turns.proofs.Keeping.{plan-legs, plan-room, net-same, chained-same, wait-same, sound-more}
+use Rattle.state.proofs.Keeping.{plan-legs, plan-room, net-same, chained-same, wait-same, sound-more}
 use Rattle.growth.specs.Grower.{Elsewhere, AllFirst, NotOver, OriginsAs, savedOrigin, Sown}
 
 -- ---- the leg

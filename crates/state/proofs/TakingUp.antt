@@ -1,6 +1,6 @@
 -- Taking up the run that was saved last.
 use mathlib.Core.Path.{_≡_, sym, ap, _∙_, subst}
-use mathlib.Core.Bool.{Bool, true, false}
+use mathlib.Core.Bool.{true, false}
 use mathlib.Core.List.{List, [], _∷_}
 use Prim.Native.Nat.{ℕ, _-_, _≤_, _<_}
 use native.Mathlib.Omega.{arith}
@@ -17,6 +17,7 @@ use Rattle.driver.specs.Run.{Net, Run}
 use Rattle.state.specs.declared.Plan.{Plan}
 use Rattle.state.specs.declared.State.{State}
 use Rattle.state.specs.Held.{PlanIn, RunSound, AllSound, SameRun, SameRuns, WaitIn, RunsIn, DriveIn, SomeDrive}
+use Rattle.state.proofs.Keeping.{idle-waits}
 
 -- the state with a popped run at the front
 abbrev pub takenUp : State → Popped → State
@@ -40,7 +41,7 @@ module _ {r : Rooms} {reals : List Float} {cells : List ℕ} (top used : ℕ) (s
 
 module _ {b : List ℕ} {p : Plan} {fs : List Float} {us : List ℕ} {reals : List Float} {cells joins path : List ℕ} {g : State} {net : Net} {runs : List Run} (d : DriveIn b p fs us reals cells joins path g net runs) (idle : g .front .moves ≡ false) (some : 0 < g .top) where
   waits : WaitIn b (p .r) reals cells (g .top) (g .used) runs
-  waits = subst (λ (t : Bool). RunsIn t b (p .r) reals cells joins g runs) idle (d .waiting)
+  waits = idle-waits d idle
 
   pub pops : SomeWaits cells reals (p .r) (g .top) (g .used)
   pops = some-waits (g .top) (g .used) some b (g .counts .nodes) (waits .runs) runs (waits .kept) (waits .same) (d .sound)

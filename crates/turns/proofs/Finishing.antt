@@ -22,8 +22,8 @@ use Rattle.runs.specs.Held.{NetIn, endsAt}
 use Rattle.state.specs.declared.Plan.{Plan}
 use Rattle.state.specs.declared.State.{State}
 use Rattle.state.specs.Held.{PlanIn, GivesAs}
+use Rattle.state.proofs.Keeping.{plan-room, apart-same, chained-same, wait-same}
 use Rattle.turns.specs.Turns.{AtEnd}
-use Rattle.turns.proofs.Keeping.{plan-room, apart-same, chained-same, wait-same}
 
 -- ---- what `ends::finish` asks
 

@@ -26,10 +26,11 @@ use Rattle.runs.specs.Held.{endsAt}
 use Rattle.state.specs.declared.Plan.{Plan}
 use Rattle.state.specs.declared.State.{State}
 use Rattle.state.specs.Held.{PlanIn, GivesAs, RunSound, Begins, Beneath, pathBefore}
+use Rattle.state.proofs.Keeping.{plan-legs, plan-room, net-same}
 use Rattle.turns.specs.Turns.{AtEnd, Free, SavedOver}
 use Rattle.turns.proofs.Paths.{LegOf, leg-found, path-long, before-child}
 use Rattle.turns.proofs.Clearing.{free-more, clear-others}
-use Rattle.turns.proofs.Keeping.{plan-above, plan-legs, plan-room, net-same, wait-used, append-nil}
+use Rattle.turns.proofs.Keeping.{plan-above, wait-used, append-nil}
 
 -- ---- what `legs::take_leg` answers
 

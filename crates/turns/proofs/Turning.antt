@@ -28,10 +28,11 @@ use Rattle.state.specs.declared.Plan.{Plan}
 use Rattle.state.specs.declared.State.{State}
 use Rattle.state.specs.declared.Turned.{Turned}
 use Rattle.state.specs.Held.{PlanIn, DriveIn, WaitIn, AllSound, Beneath, ClearOf, GivesAs, TurnedAs, pathBefore}
+use Rattle.state.proofs.Keeping.{plan-room, chained-same, wait-same, sound-more}
 use Rattle.turns.specs.Turns.{outcomeAs, legOutcome, WalkedAs, AtEnd, SomeWay, Free}
 use Rattle.turns.proofs.Paths.{path-is, path-most}
 use Rattle.turns.proofs.Clearing.{all-free}
-use Rattle.turns.proofs.Keeping.{plan-above, plan-room, chained-same, wait-same, sound-more, beneath-more}
+use Rattle.turns.proofs.Keeping.{plan-above, beneath-more}
 use Rattle.turns.proofs.Walking.{front-in, wait-in, same-leg, depth-inside}
 
 -- a leg's events, then what becomes of the run

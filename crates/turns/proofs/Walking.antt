@@ -39,9 +39,10 @@ use Rattle.runs.specs.Held.{NetIn, RunIn, Moving, Along, SomePath, OutcomeAs}
 use Rattle.state.specs.declared.Plan.{Plan}
 use Rattle.state.specs.declared.State.{State}
 use Rattle.state.specs.Held.{PlanIn, DriveIn, Driving, FrontIn, WaitIn, RunsIn, pathBefore}
+use Rattle.state.proofs.Keeping.{net-same}
 use Rattle.turns.specs.Turns.{outcomeAs, legOutcome, WalkedAs}
 use Rattle.turns.proofs.Paths.{path-is, path-long, path-most, path-named}
-use Rattle.turns.proofs.Keeping.{plan-above, net-same}
+use Rattle.turns.proofs.Keeping.{plan-above}
 use Rattle.turns.proofs.Ending.{link-named}
 
 -- ---- two courses that agree

@@ -1,7 +1,7 @@
 -- `turns::save_over` meets its contract.
 use borrow.Author.Needs.{needs}
 use native.Mathlib.Omega.{arith}
-use Rattle.turns.proofs.Keeping.{plan-legs, plan-room}
+use Rattle.state.proofs.Keeping.{plan-legs, plan-room}
 use Rattle.turns.proofs.GoingOn.{front-leg, front-depth, front-used, save-none, save-full, save-leg, save-gives}
 use Rattle.turns.proofs.save_over.Statement.{statement}
 use Rattle.turns.proofs.save_over.Tie as tie

@@ -2,7 +2,7 @@
 use borrow.Author.Needs.{needs}
 use native.Mathlib.Omega.{arith}
 use Rattle.book.proofs.Places.{sized-legs}
-use Rattle.turns.proofs.Keeping.{plan-legs}
+use Rattle.state.proofs.Keeping.{plan-legs}
 use Rattle.turns.proofs.Walking.{Looks, some-front, some-leg, leg-inside, depth-inside, link-inside, samples-inside, section-inside, walk-held, walk-sound, walk-refused, walk-walkable, walk-path, walk-moving, walk-goes}
 use Rattle.turns.proofs.walk_leg.Statement.{statement}
 use Rattle.turns.proofs.walk_leg.Tie as tie
