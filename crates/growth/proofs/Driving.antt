@@ -20,8 +20,8 @@ use Rattle.state.specs.declared.State.{State}
 use Rattle.state.specs.declared.Turned.{Turned}
 use Rattle.state.specs.declared.Turned.the-variants.{On, Refused}
 use Rattle.state.specs.Held.{PlanIn, SameRuns, RunsIn, DriveIn, Driving, GivesAs, TurnedAs}
+use Rattle.state.proofs.Keeping.{idle-waits}
 use Rattle.growth.specs.Grower.{nextTurn, DriveAs}
-use Rattle.growth.proofs.Saving.{waits}
 
 -- ---- the definition, a turn at a time
 
@@ -46,7 +46,7 @@ both true true e = (refl, refl)
 both true false e = absurd (true≢false (sym e))
 both false b e = absurd (true≢false (sym e))
 
-module _ {b : List ℕ} {p : Plan} {fs : List Float} {us : List ℕ} {reals : List Float} {cells joins path : List ℕ} {g : State} {net : Net} {runs : List Run} {n : ℕ} (plan : PlanIn b p n) (d : DriveIn b p fs us reals cells joins path g net runs) where
+module _ {b : List ℕ} {p : Plan} {fs : List Float} {us : List ℕ} {reals : List Float} {cells joins path : List ℕ} {g : State} {net : Net} {runs : List Run} (d : DriveIn b p fs us reals cells joins path g net runs) where
   none-same : (ws : List Waiting) (rs : List Run) → ws ≡ [] → SameRuns b ws rs → rs ≡ []
   none-same [] [] e s = refl
   none-same [] (r ∷ rs) e s = absurd s
@@ -55,7 +55,7 @@ module _ {b : List ℕ} {p : Plan} {fs : List Float} {us : List ℕ} {reals : Li
   none-left : (not (g .front .moves) && eqb (g .top) 0) ≡ true → runs ≡ []
   none-left e =
       let t = both (not (g .front .moves)) (eqb (g .top) 0) e in
-      let w = waits plan d (not-true (g .front .moves) (t .0)) in
+      let w = idle-waits d (not-true (g .front .moves) (t .0)) in
       none-same (w .runs) runs (saved-end cells reals (p .r) (g .top) (g .used) (w .runs) (eqb-true (g .top) 0 (t .1)) (w .kept)) (w .same)
 
 -- ---- one turn
@@ -136,11 +136,11 @@ module _ (b : List ℕ) (p : Plan) (fs₀ : List Float) (us₀ : List ℕ) (real
   turning-some s = let x = v .goes (s .path) (s .net) (s .runs) (s .holds) in record { path = x .path; net = x .net; runs = x .runs; holds = x .holds }
 
   -- no run is left
-  pub turning-done : {n : ℕ} → PlanIn b p n → (not (g .front .moves) && eqb (g .top) 0) ≡ true → (path : List ℕ) (net : Net) (runs : List Run) → DriveIn b p fs₀ us₀ reals₀ cells₀ joins₀ path g₀ net runs
+  pub turning-done : (not (g .front .moves) && eqb (g .top) 0) ≡ true → (path : List ℕ) (net : Net) (runs : List Run) → DriveIn b p fs₀ us₀ reals₀ cells₀ joins₀ path g₀ net runs
       → DriveAs (drive (legs b) b (p .w .places) net runs) p fs us cells (On g)
-  turning-done plan e path net runs d =
+  turning-done e path net runs d =
       let x = v .goes path net runs d in
-      record { net = x .net; is = x .same ∙ ap (drive (legs b - k) b (p .w .places) (x .net)) (none-left plan (x .holds) e) ∙ drive-none (legs b - k) b (p .w .places) (x .net); holds = x .holds .grown }
+      record { net = x .net; is = x .same ∙ ap (drive (legs b - k) b (p .w .places) (x .net)) (none-left (x .holds) e) ∙ drive-none (legs b - k) b (p .w .places) (x .net); holds = x .holds .grown }
 
   -- each leg had its turn
   pub turning-over : legs b ≤ k → (path : List ℕ) (net : Net) (runs : List Run) → DriveIn b p fs₀ us₀ reals₀ cells₀ joins₀ path g₀ net runs → DriveAs (drive (legs b) b (p .w .places) net runs) p fs us cells (On g)

@@ -30,8 +30,9 @@ use Rattle.state.specs.declared.State.{State}
 use Rattle.state.specs.declared.Turned.{Turned}
 use Rattle.state.specs.declared.Turned.the-variants.{On, Refused}
 use Rattle.state.specs.Held.{PlanIn, DriveIn, Driving}
+use Rattle.origins.specs.Origins.{startState, OriginsIn, SomeOrigins, PlantedAs, OriginsAs}
 use Rattle.growth.specs.declared.Grown.{Grown}
-use Rattle.growth.specs.Grower.{OriginsIn, SomeOrigins, PlantedAs, OriginsAs, DrivenAs, DriveAs, startState, closing, grownFrom, Closing, SomeClosing, GrownAs}
+use Rattle.growth.specs.Grower.{DrivenAs, DriveAs, closing, grownFrom, Closing, SomeClosing, GrownAs}
 
 -- ---- from the origins on
 

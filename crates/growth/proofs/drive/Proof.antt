@@ -40,7 +40,7 @@ same-length-7 : tie.Need-same-length-7 Inv-loop μ-loop
 same-length-7 c = c .before .before .before .before .loop .inv .stack-long
 
 returns : tie.Need-returns Inv-loop μ-loop
-returns c = λ path net runs d. turning-done _ _ _ _ _ _ _ _ _ _ _ _ _ _ _ _ _ _ _ (c .before .before .before .before .loop .inv) (c .before .before .before .before .before .before .before .before .before .before .before .before .before .before .before .pre .0) (sym (c .before .is-done .ensures) ∙ c .if2 .taken) path net runs d
+returns c = λ path net runs d. turning-done _ _ _ _ _ _ _ _ _ _ _ _ _ _ _ _ _ _ _ (c .before .before .before .before .loop .inv) (sym (c .before .is-done .ensures) ∙ c .if2 .taken) path net runs d
 
 next-turn-requires : tie.Need-next-turn-requires Inv-loop μ-loop
 next-turn-requires c κs =

@@ -1,8 +1,8 @@
--- `growth::first_state` meets its contract.
+-- `origins::first_state` meets its contract.
 use borrow.Author.Needs.{needs}
-use Rattle.growth.proofs.Planning.{first-is}
-use Rattle.growth.proofs.first_state.Statement.{statement}
-use Rattle.growth.proofs.first_state.Tie as tie
+use Rattle.origins.proofs.Planning.{first-is}
+use Rattle.origins.proofs.first_state.Statement.{statement}
+use Rattle.origins.proofs.first_state.Tie as tie
 
 returns : tie.Need-returns
 returns c = first-is _ (c .origin-run .ensures)

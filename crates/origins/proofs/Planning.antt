@@ -22,7 +22,7 @@ use Rattle.runs.specs.declared.Mover.{Mover}
 use Rattle.state.specs.declared.Plan.{Plan}
 use Rattle.state.specs.declared.State.{State}
 use Rattle.state.specs.Held.{PlanIn}
-use Rattle.growth.specs.Grower.{startState}
+use Rattle.origins.specs.Origins.{startState}
 
 -- ---- the floats at the head
 

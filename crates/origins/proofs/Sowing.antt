@@ -30,7 +30,7 @@ use Rattle.runs.specs.Held.{NetIn, RunIn, Growing, OutcomeAs, NotFewer}
 use Rattle.runs.proofs.Kept.{goes-given}
 use Rattle.state.specs.declared.Plan.{Plan}
 use Rattle.state.specs.Held.{PlanIn}
-use Rattle.growth.specs.Grower.{originAnswer, savedOrigin}
+use Rattle.origins.specs.Origins.{originAnswer, savedOrigin}
 
 -- ---- the run and the events, as the code makes them
 

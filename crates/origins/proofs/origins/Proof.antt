@@ -1,10 +1,10 @@
--- `growth::origins` meets its contract: `Planting` is the loop's invariant.
+-- `origins::origins` meets its contract: `Planting` is the loop's invariant.
 use borrow.Author.Needs.{needs}
 use native.Mathlib.Omega.{arith}
 use Prim.Native.Nat.{_-_}
-use Rattle.growth.proofs.Planting.{Planting, row-left, planting-start, links-fit, destinations-fit, rows-fit, rows-inside, row-at, row-small, planting-plan, row-named, planting-some, planting-stop, planting-on, planting-end}
-use Rattle.growth.proofs.origins.Statement.{statement}
-use Rattle.growth.proofs.origins.Tie as tie
+use Rattle.origins.proofs.Planting.{Planting, row-left, planting-start, links-fit, destinations-fit, rows-fit, rows-inside, row-at, row-small, planting-plan, row-named, planting-some, planting-stop, planting-on, planting-end}
+use Rattle.origins.proofs.origins.Statement.{statement}
+use Rattle.origins.proofs.origins.Tie as tie
 
 abbrev Inv-loop : tie.InvT-loop
 Inv-loop book floats₀ numbers₀ reals₀ cells₀ marks joins kept p rows-at state₀ k₀ floats numbers reals cells state k =

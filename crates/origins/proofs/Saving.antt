@@ -25,6 +25,7 @@ use Rattle.saved.specs.declared.Rooms.{Rooms}
 use Rattle.saved.specs.Saved.{Waiting, Apart, SavedIn, waitingOf}
 use Rattle.saved.specs.Saved.{Elsewhere as Untouched}
 use Rattle.saved.proofs.Kept.{node-left, save-chained, save-path, save-mapped, saved-room}
+use Rattle.arcs.proofs.Paths.{LegOf, leg-found}
 use Rattle.driver.specs.Run.{refused, given, andThen, Net, Run, memberOf}
 use Rattle.driver.specs.Growth.{takes, seekLeg}
 use Rattle.runs.specs.declared.Counts.{Counts}
@@ -34,9 +35,8 @@ use Rattle.state.specs.declared.Plan.{Plan}
 use Rattle.state.specs.declared.State.{State}
 use Rattle.state.specs.declared.Turned.the-variants.{On}
 use Rattle.state.specs.Held.{PlanIn, pathBefore, Beneath, Clear, ClearOf, RunSound, AllSound, SameRuns, WaitIn, RunsIn, DriveIn}
-use Rattle.turns.proofs.Paths.{LegOf, leg-found}
-use Rattle.state.proofs.Keeping.{plan-legs, plan-room, net-same, chained-same, wait-same, sound-more}
-use Rattle.growth.specs.Grower.{Elsewhere, AllFirst, NotOver, OriginsAs, savedOrigin, Sown}
+use Rattle.state.proofs.Keeping.{plan-legs, plan-room, net-same, chained-same, wait-same, idle-waits, sound-more}
+use Rattle.origins.specs.Origins.{Elsewhere, AllFirst, NotOver, OriginsAs, savedOrigin, Sown}
 
 -- ---- the leg
 
@@ -134,9 +134,6 @@ module _ {w : Layout} {r : Rooms} {fs : List Float} {us cells : List ℕ} {c : C
 -- ---- all that is held, while events are inserted and no run is at the front
 
 module _ {b : List ℕ} {p : Plan} {fs : List Float} {us : List ℕ} {reals : List Float} {cells joins path : List ℕ} {g : State} {net : Net} {runs : List Run} {many : ℕ} (plan : PlanIn b p many) (d : DriveIn b p fs us reals cells joins path g net runs) (idle : g .front .moves ≡ false) where
-  pub waits : WaitIn b (p .r) reals cells (g .top) (g .used) runs
-  waits = subst (λ (t : Bool). RunsIn t b (p .r) reals cells joins g runs) idle (d .waiting)
-
   module _ {fs′ : List Float} {us′ cells′ : List ℕ} {c′ : Counts} {net′ : Net} (v : NetIn (p .w) cells fs′ us′ cells′ c′ net′) (more : g .counts .nodes ≤ c′ .nodes) (long : length cells′ ≡ length cells) where
     chained-grown : Chained b cells′
     chained-grown = chained-same long (λ q h f. before-kept v q (omega (arith, plan .nodes-at))) (d .chained)
@@ -145,7 +142,7 @@ module _ {b : List ℕ} {p : Plan} {fs : List Float} {us : List ℕ} {reals : Li
     unit-same i k h f e = subst (λ (q : ℕ). getD cells′ (q + i * 8 + k) 0 ≡ getD cells (q + i * 8 + k) 0) (sym (plan .same-nodes)) (unit-kept v i k (omega (arith, plan .same-places)) f (omega arith))
 
     waits-grown : WaitIn b (p .r) reals cells′ (g .top) (g .used) runs
-    waits-grown = wait-same (record { fields = λ j k h f e. before-kept v (j * 8 + k) (omega (arith, plan .nodes-at, plan .all-legs)); entries = unit-same; reals = λ q h. refl }) waits
+    waits-grown = wait-same (record { fields = λ j k h f e. before-kept v (j * 8 + k) (omega (arith, plan .nodes-at, plan .all-legs)); entries = unit-same; reals = λ q h. refl }) (idle-waits d idle)
 
     pub drive-grown : DriveIn b p fs′ us′ reals cells′ joins path (record { counts = c′; top = g .top; used = g .used; front = g .front }) net′ runs
     drive-grown = record {
@@ -179,7 +176,7 @@ module _ (b : List ℕ) (p : Plan) (fs : List Float) (us : List ℕ) (reals : Li
     held = v .origins .holds
 
     wait : WaitIn b (p .r) reals cells (g .top) (g .used) runs
-    wait = waits plan held (v .origins .idle)
+    wait = idle-waits held (v .origins .idle)
 
     -- what saving asks
     pub save-asks : (p .r .«nodes_at» + p .r .places * 8 ≤ length cells) × (((p .r .legs + 1) * 8 ≤ p .r .«nodes_at») × ((p .r .«pairs_at» + p .r .legs * 2 + 2 ≤ length reals) × ((leg .number ≤ p .r .legs) × ((0 < leg .number) × ((p .r .legs ≤ 65535) × ((0 ≤ 65535) × ((g .used + 0 ≤ p .r .places) × ((p .r .places ≤ 65535) × (0 * 2 ≤ length joins)))))))))

@@ -1,11 +1,11 @@
--- `growth::origin` meets its contract: proofs/Planting.antt.
+-- `origins::origin` meets its contract: proofs/Planting.antt.
 use borrow.Author.Needs.{needs}
 use native.Mathlib.Omega.{arith}
 use Rattle.book.proofs.Given.{origin-float, origin-link, origin-named}
 use Rattle.book.proofs.Places.{sized-origins}
-use Rattle.growth.proofs.Planting.{some-sown, origin-on, origin-not, origin-never}
-use Rattle.growth.proofs.origin.Statement.{statement}
-use Rattle.growth.proofs.origin.Tie as tie
+use Rattle.origins.proofs.Planting.{some-sown, origin-on, origin-not, origin-never}
+use Rattle.origins.proofs.origin.Statement.{statement}
+use Rattle.origins.proofs.origin.Tie as tie
 
 origin-at-requires : tie.Need-origin-at-requires
 origin-at-requires c κs = let r = c .before .before .before .before .before .before .before .pre .0 .readable in (r .sized, (omega (arith, sized-origins (r .sized), c .before .before .before .before .before .before .before .pre .1 .0), origin-float _ (r .floats) _ (c .before .before .before .before .before .before .before .pre .1 .0)))

@@ -26,9 +26,9 @@ use Rattle.state.specs.declared.State.{State}
 use Rattle.state.specs.declared.Turned.{Turned}
 use Rattle.state.specs.declared.Turned.the-variants.{On, Refused}
 use Rattle.state.specs.Held.{PlanIn}
-use Rattle.growth.specs.Grower.{originAnswer, Elsewhere, AllFirst, NotOver, OriginsIn, SomeOrigin, SomeOrigins, PlantedAs, OriginsAs, savedOrigin, Sown, SomeSown}
-use Rattle.growth.proofs.Sowing.{fewer-as, origin-joins, origin-not-left, origin-given, origin-refused}
-use Rattle.growth.proofs.Saving.{drive-grown}
+use Rattle.origins.specs.Origins.{originAnswer, Elsewhere, AllFirst, NotOver, OriginsIn, SomeOrigin, SomeOrigins, PlantedAs, OriginsAs, savedOrigin, Sown, SomeSown}
+use Rattle.origins.proofs.Sowing.{fewer-as, origin-joins, origin-not-left, origin-given, origin-refused}
+use Rattle.origins.proofs.Saving.{drive-grown}
 
 -- ---- links of origins to come
 

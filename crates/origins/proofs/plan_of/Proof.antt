@@ -1,11 +1,11 @@
--- `growth::plan_of` meets its contract.
+-- `origins::plan_of` meets its contract.
 use borrow.Author.Needs.{needs}
 use mathlib.Core.Path.{refl}
 use native.Mathlib.Omega.{arith}
 use Rattle.book.proofs.Places.{sized-legs}
-use Rattle.growth.proofs.Planning.{legs-small, join-number, departure-number, length-number, plan-holds}
-use Rattle.growth.proofs.plan_of.Statement.{statement}
-use Rattle.growth.proofs.plan_of.Tie as tie
+use Rattle.origins.proofs.Planning.{legs-small, join-number, departure-number, length-number, plan-holds}
+use Rattle.origins.proofs.plan_of.Statement.{statement}
+use Rattle.origins.proofs.plan_of.Tie as tie
 
 add-nodes-at : tie.Need-add-nodes-at
 add-nodes-at c = omega (arith, legs-small _ _ (c .before .before .before .pre .0) _ (c .before .head-patterns .ensures))

@@ -1,4 +1,4 @@
--- `growth::origin_events` meets its contract: proofs/Sowing.antt.
+-- `origins::origin_events` meets its contract: proofs/Sowing.antt.
 use borrow.Author.Needs.{needs}
 use mathlib.Core.Path.{subst}
 use mathlib.Core.List.{[], _∷_}
@@ -9,9 +9,9 @@ use denote.Enum.Declared.{tagOf}
 use Rattle.runs.specs.declared.Outcome.{Outcome}
 use Rattle.runs.proofs.Outcome.{the-type}
 use Rattle.runs.proofs.Leg.{not-on}
-use Rattle.growth.proofs.Sowing.{real-event, first-there, first-grown, fewer-as, fewer-more, origin-stops, origin-clears}
-use Rattle.growth.proofs.origin_events.Statement.{statement}
-use Rattle.growth.proofs.origin_events.Tie as tie
+use Rattle.origins.proofs.Sowing.{real-event, first-there, first-grown, fewer-as, fewer-more, origin-stops, origin-clears}
+use Rattle.origins.proofs.origin_events.Statement.{statement}
+use Rattle.origins.proofs.origin_events.Tie as tie
 
 insert-event-requires : tie.Need-insert-event-requires
 insert-event-requires c κs = (c .before .before .before .before .before .before .before .before .before .pre .0, (first-there _ _ (c .before .before .before .before .origin-run .ensures) (c .before .before .before .before .before .before .before .before .before .pre .0), real-event _ _ _ _ _ _ (c .before .before .before .origin-event .ensures) tt (c .before .before .before .before .before .before .before .before .before .pre .1)))

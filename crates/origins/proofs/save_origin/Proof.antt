@@ -1,9 +1,9 @@
--- `growth::save_origin` meets its contract: proofs/Saving.antt.
+-- `origins::save_origin` meets its contract: proofs/Saving.antt.
 use borrow.Author.Needs.{needs}
 use native.Mathlib.Omega.{arith}
-use Rattle.growth.proofs.Saving.{origin-no-leg, save-asks, origin-saved}
-use Rattle.growth.proofs.save_origin.Statement.{statement}
-use Rattle.growth.proofs.save_origin.Tie as tie
+use Rattle.origins.proofs.Saving.{origin-no-leg, save-asks, origin-saved}
+use Rattle.origins.proofs.save_origin.Statement.{statement}
+use Rattle.origins.proofs.save_origin.Tie as tie
 
 take-leg-requires : tie.Need-take-leg-requires
 take-leg-requires c κs = (c .before .before .before .before .before .before .before .before .pre .0 .readable .sized, (c .before .before .before .before .before .before .before .before .pre .1 .sown .origins .holds .chained, omega arith))

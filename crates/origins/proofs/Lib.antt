@@ -1,0 +1,4 @@
+pub mod Planning
+pub mod Sowing
+pub mod Saving
+pub mod Planting
