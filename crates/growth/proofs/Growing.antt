@@ -3,7 +3,7 @@ use mathlib.Core.Path.{_≡_, refl, sym, ap, _∙_, subst}
 use mathlib.Core.Bool.{Bool}
 use mathlib.Core.List.{List, []}
 use Prim.{tt}
-use Prim.Native.Nat.{ℕ, zero, suc, _+_, _-_, _*_, _≤_, _<_}
+use Prim.Native.Nat.{ℕ, zero, suc, _+_, _*_, _≤_, _<_}
 use native.Mathlib.Omega.{arith}
 use borrow.Author.Tests.{lt-ltb, le-ltb}
 use lib.Dec.{ltb}
@@ -22,7 +22,7 @@ use Rattle.path.specs.Path.{pointOffset}
 use Rattle.path.specs.Kept.{PathIn}
 use Rattle.saved.proofs.Kept.{saved-none}
 use Rattle.driver.specs.Run.{Answer, refused, andThen, Net, Run}
-use Rattle.driver.specs.Growth.{Growth, departure, fakeNode, firstNodes, originsOf, drive, startAs, grow}
+use Rattle.driver.specs.Growth.{Growth, fakeNode, firstNodes, originsOf, drive, startAs, grow}
 use Rattle.driver.specs.Growth.{Grown as Network}
 use Rattle.runs.specs.Held.{NetIn, endsAt}
 use Rattle.state.specs.declared.Plan.{Plan}

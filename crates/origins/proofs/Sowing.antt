@@ -5,7 +5,6 @@ use mathlib.Core.List.{List, [], _∷_}
 use Prim.{Unit, tt}
 use Prim.Native.Nat.{ℕ, _≤_, _<_}
 use native.Mathlib.Omega.{arith}
-use lib.ListN.{length}
 use lib.Ieee.{Float, binary64, add, ofBits}
 use Rattle.book.specs.Format.{lengthBits, floatOf}
 use Rattle.network.specs.declared.EstType.{EstType}

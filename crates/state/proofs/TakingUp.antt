@@ -16,7 +16,7 @@ use Rattle.saved.proofs.Kept.{saved-rest}
 use Rattle.driver.specs.Run.{Net, Run}
 use Rattle.state.specs.declared.Plan.{Plan}
 use Rattle.state.specs.declared.State.{State}
-use Rattle.state.specs.Held.{PlanIn, RunSound, AllSound, SameRun, SameRuns, WaitIn, RunsIn, DriveIn, SomeDrive}
+use Rattle.state.specs.Held.{AllSound, SameRuns, WaitIn, RunsIn, DriveIn, SomeDrive}
 use Rattle.state.proofs.Keeping.{idle-waits}
 
 -- the state with a popped run at the front
