@@ -112,6 +112,15 @@ impl Room {
         (number, [nodes, added, splits, joined, finished])
     }
 
+    /// Makes all slices zero.
+    pub fn clear(&mut self) {
+        self.floats.fill(0.0);
+        self.numbers.fill(0);
+        self.work.reals.fill(0.0);
+        self.work.cells.fill(0);
+        self.work.marks.fill(0);
+    }
+
     /// The first nodes as an item for `keldurap_update_times`, with a departure of 0.
     pub fn item(&self, nodes: usize) -> Vec<u8> {
         let mut item = vec![0; 8];
