@@ -73,10 +73,12 @@ pub fn passes(items: &[Vec<u8>]) -> Times {
     let lent: Vec<_> = items.iter().map(|item| replay::tables::Lent::new(item)).collect();
     let mut work = replay::books::Work::default();
     work.lend(lent.iter().map(|lent| lent.asked()).max().unwrap());
+    for (lent, item) in lent.iter().zip(items) {
+        assert_eq!(lent.clone().time(&mut work), (0, uncounted::time_table(item).1 as u32));
+    }
     let mut one = |lent: &replay::tables::Lent| {
         let mut lent = lent.clone();
-        let time = took(|| lent.time(&mut work));
-        time
+        took(|| lent.time(&mut work))
     };
     best(|| lent.iter().map(&mut one).sum(), || items.iter().map(|item| uncounted::time_table(item).0).sum())
 }
