@@ -14,6 +14,7 @@ ghost use lib.Dec.{eqb};
 ghost use lib.ListN.{length};
 ghost use Rattle.space.specs.Space.{placesOf, zeroFloats};
 ghost use Rattle.book.specs.Format.{links, origins, destinations, legs};
+ghost use Rattle.legs.specs.Legs.{Started};
 ghost use Rattle.options.specs.Options.{Marked, keptOrigins};
 ghost use Rattle.reader.specs.Reader.{Ready};
 ghost use Rattle.driver.specs.Run.{Net, Run};
@@ -202,6 +203,7 @@ fn run_all(
     requires { ⌜ 2 * links (now book) + destinations (now book) + origins (now book) ≤ length (now marks) ⌝ }
     requires { ⌜ kept ≡ length (keptOrigins (now book)) ⌝ }
     requires { ⌜ SomeOrigins (now book) p (now floats) (now numbers) (now reals) (now cells) (now joins) (keptOrigins (now book)) startState ⌝ }
+    requires { ⌜ Started (now book) (now marks) ⌝ }
     requires { ⌜ 2048 ≤ length (now joins) ⌝ }
     requires { ⌜ 2048 ≤ length (now scratch) ⌝ }
     requires { ⌜ 4096 ≤ length (now stack) ⌝ }

@@ -4,3 +4,4 @@ pub mod Counts
 pub mod Linking
 pub mod Walking
 pub mod Takes
+pub mod Starts

@@ -1,5 +1,5 @@
 -- What is taken of the leg search: a found leg is one of the book's, and its cells say where its samples stand.
-use mathlib.Core.Path.{_≡_, refl, sym, ap, _∙_}
+use mathlib.Core.Path.{_≡_, sym, ap, _∙_, subst}
 use mathlib.Core.Bool.{Bool, true, false, _&&_, cond}
 use mathlib.Core.List.{List}
 use Prim.Native.Nat.{ℕ, zero, suc, _+_, _-_, _*_, _≤_, _<_}
@@ -14,7 +14,7 @@ use Rattle.legs.specs.declared.LegSearch.the-variants.{Found, Missing}
 use Rattle.legs.specs.declared.TakenLeg.{TakenLeg}
 use Rattle.legs.specs.declared.Taken.{Taken}
 use Rattle.legs.specs.declared.Taken.the-variants.{Leg, Refused}
-use Rattle.legs.specs.Legs.{searchOf, legSearch, takenBy, takenLeg}
+use Rattle.legs.specs.Legs.{searchOf, legSearch, takenBy, takenLeg, InCells}
 
 below-most : (b : List ℕ) (n p l : ℕ) → legBelow b n p l ≤ n
 unfolding legBelow
@@ -25,20 +25,21 @@ below-most b (suc n) p l = go (eqb (legParent b n) p && eqb (legLink b n) l) (be
     go true h = le-refl (suc n)
     go false h = omega arith
 
-pub found-in : {f : LegSearch} (b : List ℕ) (p l j : ℕ) → f ≡ legSearch b p l → f ≡ Found j → (1 ≤ j) × (j ≤ legs b)
+-- a leg that the search finds is one of the book's, so its unit is among the cells
+pub search-in : {f : LegSearch} (b : List ℕ) (p l n : ℕ) → f ≡ legSearch b p l → (legs b + 1) * 8 ≤ n → InCells n f
 unfolding legSearch
-found-in {f} b p l j e d = go (legBelow b (legs b) p l) (below-most b (legs b) p l) (sym e ∙ d)
+search-in {f} b p l n e h = subst (InCells n) (sym e) (go (legBelow b (legs b) p l) (below-most b (legs b) p l))
   where
-    go : (n : ℕ) → n ≤ legs b → searchOf n ≡ Found j → (1 ≤ j) × (j ≤ legs b)
-    go zero h g = let z : _≡_ {A = ℕ} 0 1 = cc in absurd (omega arith)
-    go (suc n) h g = let z : suc n ≡ j = cc in (omega arith, omega arith)
+    go : (k : ℕ) → k ≤ legs b → InCells n (searchOf k)
+    go zero m = tt
+    go (suc k) m = (omega arith, omega arith)
 
-taken-is : (b : List ℕ) (p l : ℕ) → takenLeg b p l ≡ takenBy b (legSearch b p l)
-unfolding takenLeg
-taken-is b p l = refl
+-- what a search found, once its case is known
+pub found-told : {n j : ℕ} (f : LegSearch) → InCells n f → f ≡ Found j → (0 < j) × (j * 8 + 8 ≤ n)
+found-told {n} f h e = subst (InCells n) e h
 
-pub taken-missing : {f : LegSearch} (b : List ℕ) (p l : ℕ) → f ≡ legSearch b p l → f ≡ Missing → Refused 10 ≡ takenLeg b p l
-taken-missing {f} b p l e d = sym (taken-is b p l ∙ ap (takenBy b) (sym e ∙ d))
+pub taken-missing : (f : LegSearch) (b : List ℕ) → f ≡ Missing → Refused 10 ≡ takenBy b f
+taken-missing f b e = ap (takenBy b) (sym e)
 
 -- the cells of a leg say where its samples stand
 pub leg-of : {t : TakenLeg} (b cells : List ℕ) (j : ℕ) → Chained b cells → j ≤ legs b → t ≡ record { number = j; first = getD cells ((j - 1) * 8 + 2) 0; end = getD cells (j * 8 + 2) 0 }
@@ -48,6 +49,11 @@ leg-of {t} b cells j c h q =
     let y : getD cells (j * 8 + 2) 0 ≡ firstSample b j = c .ends j h in
     q ∙ (λ i. record { number = j; first = x i; end = y i })
 
-pub taken-found : {f : LegSearch} {t : TakenLeg} (b cells : List ℕ) (p l j : ℕ) → Chained b cells → f ≡ legSearch b p l → f ≡ Found j
-    → t ≡ record { number = j; first = getD cells ((j - 1) * 8 + 2) 0; end = getD cells (j * 8 + 2) 0 } → Leg t ≡ takenLeg b p l
-taken-found {f} {t} b cells p l j c e d q = ap Leg (leg-of b cells j c (found-in b p l j e d .1) q) ∙ sym (taken-is b p l ∙ ap (takenBy b) (sym e ∙ d))
+pub taken-found : {t : TakenLeg} (f : LegSearch) (b cells : List ℕ) (j : ℕ) → Chained b cells → InCells ((legs b + 1) * 8) f → f ≡ Found j
+    → t ≡ record { number = j; first = getD cells ((j - 1) * 8 + 2) 0; end = getD cells (j * 8 + 2) 0 } → Leg t ≡ takenBy b f
+taken-found {t} f b cells j c h d q = ap Leg (leg-of b cells j c (omega (arith, found-told f h d .1)) q) ∙ ap (takenBy b) (sym d)
+
+-- what is taken of the search for a parent and a link
+pub taken-sought : {t : Taken} (f : LegSearch) (b : List ℕ) (p l : ℕ) → f ≡ legSearch b p l → (InCells ((legs b + 1) * 8) f → t ≡ takenBy b f) → t ≡ takenLeg b p l
+unfolding takenLeg
+taken-sought f b p l e h = h (search-in b p l ((legs b + 1) * 8) e (le-refl ((legs b + 1) * 8))) ∙ ap (takenBy b) e

@@ -1,10 +1,12 @@
 -- The leg search: what it answers, document 01's number for each answer, and what the driver takes of it. And what is asked of one leg's samples, by where they stand.
+use mathlib.Core.Path.{_≡_}
 use mathlib.Core.Bool.{Bool, not, _||_}
 use mathlib.Core.List.{List}
-use Prim.Native.Nat.{ℕ, zero, suc, _+_, _-_}
+use Prim.Native.Nat.{ℕ, zero, suc, _+_, _-_, _*_, _≤_, _<_}
 use lib.Dec.{eqb}
+use lib.ListN.{getD}
 use Rattle.fields.specs.Below.{someBelow}
-use Rattle.book.specs.Format.{legs, departureBits, sampleTime, firstSample}
+use Rattle.book.specs.Format.{links, legs, departureBits, sampleTime, firstSample}
 use Rattle.book.specs.Rows.{falls, sameSample}
 use Rattle.book.specs.Chains.{legBelow}
 use Rattle.legs.specs.declared.LegSearch.{LegSearch}
@@ -34,6 +36,26 @@ takenBy b Missing = Refused 10
 
 unfoldable pub takenLeg : List ℕ → ℕ → ℕ → Taken
 takenLeg b parent link = takenBy b (legSearch b parent link)
+
+-- The starting legs by their links: behind the links' own marks each link has one, the number of the leg that starts over it, or 0.
+pub record Started (b marks : List ℕ) : Type 0 where
+  pub starts : (l : ℕ) → l < links b → getD marks (links b + l) 0 ≡ legBelow b (legs b) 0 l
+
+-- ---- words of private functions
+
+-- the first n legs: those that start, by their links
+pub record Named (b : List ℕ) (n : ℕ) (starts : List ℕ) : Type 0 where
+  pub at : (l : ℕ) → l < links b → getD starts l 0 ≡ legBelow b n 0 l
+
+-- one list is another but from an index up to another
+pub record SameBut (from to : ℕ) (m m′ : List ℕ) : Type 0 where
+  pub below : (i : ℕ) → i < from → getD m′ i 0 ≡ getD m i 0
+  pub behind : (i : ℕ) → to ≤ i → getD m′ i 0 ≡ getD m i 0
+
+-- a leg that was found has its unit among so many cells
+abbrev pub InCells : ℕ → LegSearch → Type 0
+InCells n (Found j) = (0 < j) × (j * 8 + 8 ≤ n)
+InCells n Missing = Unit
 
 -- ---- row 7, for the leg whose samples begin at `first`, count as many as `count`, and whose parent's end at `end`
 

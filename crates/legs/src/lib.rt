@@ -1,15 +1,18 @@
 // A book's legs: their chains in the work space, what row 7 says of their samples, and the search for a leg. Contracts: book's specs/Chains.antt, specs/Legs.antt.
+use book::Leg;
 use book::Sections;
 ghost use mathlib.Core.Path.{_≡_};
-ghost use mathlib.Core.Bool.{true, false, not, _||_};
-ghost use Prim.Native.Nat.{_+_, _*_, _-_, _≤_, _<_};
+ghost use mathlib.Core.Bool.{true, false, not, _||_, _&&_, cond};
+ghost use mathlib.Core.List.{List};
+ghost use Prim.Native.Nat.{ℕ, _+_, _*_, _-_, _≤_, _<_};
+ghost use lib.Dec.{eqb};
 ghost use lib.ListN.{length, getD, set};
 ghost use Rattle.fields.specs.Below.{someBelow};
 ghost use Rattle.space.specs.Space.{zeros};
-ghost use Rattle.book.specs.Format.{Sized, legs, samples, legParent, firstSample};
+ghost use Rattle.book.specs.Format.{Sized, links, legs, samples, legParent, firstSample};
 ghost use Rattle.book.specs.Rows.{falls, sameSample, legFalls, legBegins};
 ghost use Rattle.book.specs.Chains.{Readable, Chained, linked};
-ghost use Rattle.legs.specs.Legs.{legSearch, takenLeg, beginsAt, fallsFrom};
+ghost use Rattle.legs.specs.Legs.{legSearch, takenBy, takenLeg, Started, beginsAt, fallsFrom, Named, SameBut, InCells};
 
 // A leg that was sought: its number, or that there is none.
 pub enum LegSearch {
@@ -182,7 +185,19 @@ pub fn leg_samples(cells: &[u32], number: u32) -> TakenLeg
     TakenLeg { number, first, end }
 }
 
-// The leg with this parent and link, to be taken: "The leg is found or the book is refused with 10".
+// A leg that was sought, to be taken: "The leg is found or the book is refused with 10".
+fn take_found(cells: &[u32], found: LegSearch) -> Taken
+    requires { ⌜ InCells (length (now cells)) found ⌝ }
+    ensures { λ r. ⌜ ((b : List ℕ) → Chained b (now (cells .entry)) → InCells ((legs b + 1) * 8) found → r ≡ takenBy b found) ⌝ }
+{
+    let LegSearch::Found(number) = found else {
+        return Taken::Refused(10);
+    };
+    let leg = leg_samples(cells, number);
+    Taken::Leg(leg)
+}
+
+// The leg with this parent and link, to be taken.
 pub fn take_leg(book: &[u8], s: Sections, cells: &[u32], parent: u32, link_idx: u32) -> Taken
     requires { ⌜ Sized (now book) s ⌝ }
     requires { ⌜ Chained (now book) (now cells) ⌝ }
@@ -190,9 +205,74 @@ pub fn take_leg(book: &[u8], s: Sections, cells: &[u32], parent: u32, link_idx: 
     ensures { λ r. ⌜ r ≡ takenLeg (now (book .entry)) parent «link_idx» ⌝ }
 {
     let found = find_leg(book, s, cells, parent, link_idx);
-    let LegSearch::Found(number) = found else {
-        return Taken::Refused(10);
-    };
-    let leg = leg_samples(cells, number);
-    Taken::Leg(leg)
+    take_found(cells, found)
+}
+
+// ---- the starting legs by their links
+
+// Names a leg at its link, if it is a starting leg.
+fn name_start(starts: &mut [u32], leg: Leg, number: u32)
+    requires { ⌜ leg .«link_idx» < length (now starts) ⌝ }
+    ensures { λ _. ⌜ now (starts .exit) ≡ cond (eqb (leg .parent) 0) (set (now (starts .entry)) (leg .«link_idx») number) (now (starts .entry)) ⌝ }
+{
+    if leg.parent == 0 {
+        starts[leg.link_idx as usize] = number;
+    }
+}
+
+// Names each starting leg at its link, in a slice that is zero.
+fn name_starts(book: &[u8], s: Sections, starts: &mut [u32])
+    requires { ⌜ Readable (now book) s ⌝ }
+    requires { ⌜ links (now book) ≤ length (now starts) ⌝ }
+    requires { ⌜ now starts ≡ zeros (length (now starts)) ⌝ }
+    ensures { λ _. ⌜ Named (now (book .entry)) (legs (now (book .entry))) (now (starts .exit)) ⌝ }
+{
+    let mut i = 0;
+    while i < s.legs {
+        let leg = book::leg_at(book, s, i);
+        name_start(starts, leg, i as u32 + 1);
+        i += 1;
+    }
+}
+
+// Names each starting leg at its link, in the marks behind the links' own: so the leg of an origin is found without a walk.
+pub fn mark_starts(book: &[u8], s: Sections, marks: &mut [u32])
+    requires { ⌜ Readable (now book) s ⌝ }
+    requires { ⌜ 2 * links (now book) ≤ length (now marks) ⌝ }
+    ensures starts { λ _. ⌜ Started (now (book .entry)) (now (marks .exit)) ⌝ }
+    ensures others { λ _. ⌜ SameBut (links (now (book .entry))) (2 * links (now (book .entry))) (now (marks .entry)) (now (marks .exit)) ⌝ }
+{
+    let from = s.links;
+    let to = 2 * s.links;
+    let starts = &mut marks[from..to];
+    space::clear_numbers(starts);
+    name_starts(book, s, starts);
+}
+
+// The leg that starts over a link, as the marks name it.
+fn find_start(book: &[u8], s: Sections, marks: &[u32], link_idx: u32) -> LegSearch
+    requires { ⌜ Sized (now book) s ⌝ }
+    requires { ⌜ Started (now book) (now marks) ⌝ }
+    requires { ⌜ 2 * links (now book) ≤ length (now marks) ⌝ }
+    requires { ⌜ «link_idx» < links (now book) ⌝ }
+    ensures { λ r. ⌜ r ≡ legSearch (now (book .entry)) 0 «link_idx» ⌝ }
+{
+    let number = marks[s.links + link_idx as usize];
+    if number == 0 {
+        return LegSearch::Missing;
+    }
+    LegSearch::Found(number)
+}
+
+// The leg that starts over a link, to be taken.
+pub fn take_start(book: &[u8], s: Sections, cells: &[u32], marks: &[u32], link_idx: u32) -> Taken
+    requires { ⌜ Sized (now book) s ⌝ }
+    requires { ⌜ Chained (now book) (now cells) ⌝ }
+    requires { ⌜ Started (now book) (now marks) ⌝ }
+    requires { ⌜ 2 * links (now book) ≤ length (now marks) ⌝ }
+    requires { ⌜ «link_idx» < links (now book) ⌝ }
+    ensures { λ r. ⌜ r ≡ takenLeg (now (book .entry)) 0 «link_idx» ⌝ }
+{
+    let found = find_start(book, s, marks, link_idx);
+    take_found(cells, found)
 }

@@ -22,6 +22,7 @@ ghost use lib.ListN.{length};
 ghost use lib.Ieee.{Float, binary64, ofBits};
 ghost use Rattle.book.specs.Format.{links, origins, destinations, legs, originLink};
 ghost use Rattle.book.specs.Chains.{Readable};
+ghost use Rattle.legs.specs.Legs.{Started};
 ghost use Rattle.options.specs.Options.{Marked, keptOrigins};
 ghost use Rattle.driver.specs.Run.{Net, Run};
 ghost use Rattle.driver.specs.Growth.{originAt, originsOf};
@@ -146,6 +147,7 @@ fn save_origin(
     book: &[u8],
     reals: &mut [f64],
     cells: &mut [u32],
+    marks: &[u32],
     joins: &[u32],
     p: Plan,
     g: State,
@@ -155,12 +157,15 @@ fn save_origin(
 ) -> Turned
     requires { ⌜ PlanIn (now book) p (length (now reals)) ⌝ }
     requires { ⌜ SomeSown (now book) p (now reals) (now cells) (now joins) g counts place «link_idx» ⌝ }
+    requires { ⌜ Started (now book) (now marks) ⌝ }
+    requires { ⌜ 2 * links (now book) ≤ length (now marks) ⌝ }
+    requires { ⌜ «link_idx» < links (now book) ⌝ }
     ensures { λ r. ⌜ ((fs : List Float) (us rows : List ℕ) (net : Net) (run : Run) (runs : List Run) → Sown (now (book .entry)) p fs us (now (reals .entry)) (now (cells .entry)) (now (joins .entry)) rows g counts place «link_idx» net run runs → OriginsAs (savedOrigin (now (book .entry)) «link_idx» net run runs) (now (book .entry)) p fs us (now (reals .exit)) (now (cells .exit)) (now (joins .entry)) rows r) ⌝ }
 {
     let s = p.s;
     let r = p.r;
     let front = g.front;
-    let taken = legs::take_leg(book, s, cells, 0, link_idx);
+    let taken = legs::take_start(book, s, cells, marks, link_idx);
     let Taken::Leg(leg) = taken else {
         return Turned::Refused(10);
     };
@@ -191,6 +196,7 @@ fn origin(
     numbers: &mut [u32],
     reals: &mut [f64],
     cells: &mut [u32],
+    marks: &[u32],
     joins: &[u32],
     p: Plan,
     g: State,
@@ -199,6 +205,8 @@ fn origin(
     requires { ⌜ PlanIn (now book) p (length (now reals)) ⌝ }
     requires { ⌜ row < origins (now book) ⌝ }
     requires { ⌜ SomeOrigin (now book) p (now floats) (now numbers) (now reals) (now cells) (now joins) row g ⌝ }
+    requires { ⌜ Started (now book) (now marks) ⌝ }
+    requires { ⌜ 2 * links (now book) ≤ length (now marks) ⌝ }
     ensures { λ r. ⌜ ((rows : List ℕ) (net : Net) (runs : List Run) → OriginsIn (now (book .entry)) p (now (floats .entry)) (now (numbers .entry)) (now (reals .entry)) (now (cells .entry)) (now (joins .entry)) (row ∷ rows) g net runs → Elsewhere (now (book .entry)) (originLink (now (book .entry)) row) rows → OriginsAs (originAt (now (book .entry)) (p .w .places) (originLink (now (book .entry)) row) (record { net = net; saved = runs })) (now (book .entry)) p (now (floats .exit)) (now (numbers .exit)) (now (reals .exit)) (now (cells .exit)) (now (joins .entry)) rows r) ⌝ }
 {
     let s = p.s;
@@ -208,7 +216,18 @@ fn origin(
     match became {
         Outcome::On(more, mover) => {
             let place = mover.place;
-            save_origin(book, reals, cells, joins, p, g, more, place, at.link_idx)
+            save_origin(
+                book,
+                reals,
+                cells,
+                marks,
+                joins,
+                p,
+                g,
+                more,
+                place,
+                at.link_idx,
+            )
         }
         Outcome::Ended(_) => Turned::Refused(0),
         Outcome::Refused(k) => Turned::Refused(k),
@@ -233,6 +252,7 @@ pub fn origins(
     requires { ⌜ 2 * links (now book) + destinations (now book) + origins (now book) ≤ length (now marks) ⌝ }
     requires { ⌜ kept ≡ length (keptOrigins (now book)) ⌝ }
     requires { ⌜ SomeOrigins (now book) p (now floats) (now numbers) (now reals) (now cells) (now joins) (keptOrigins (now book)) g ⌝ }
+    requires { ⌜ Started (now book) (now marks) ⌝ }
     ensures { λ r. ⌜ ((net : Net) (runs : List Run) → OriginsIn (now (book .entry)) p (now (floats .entry)) (now (numbers .entry)) (now (reals .entry)) (now (cells .entry)) (now (joins .entry)) (keptOrigins (now (book .entry))) g net runs → OriginsAs (originsOf (now (book .entry)) (p .w .places) (keptOrigins (now (book .entry))) (record { net = net; saved = runs })) (now (book .entry)) p (now (floats .exit)) (now (numbers .exit)) (now (reals .exit)) (now (cells .exit)) (now (joins .entry)) [] r) ⌝ }
 {
     let s = p.s;
@@ -241,7 +261,18 @@ pub fn origins(
     let mut k = 0;
     while k < kept {
         let row = marks[rows_at + k] as usize;
-        let turned = origin(book, floats, numbers, reals, cells, joins, p, state, row);
+        let turned = origin(
+            book,
+            floats,
+            numbers,
+            reals,
+            cells,
+            marks,
+            joins,
+            p,
+            state,
+            row,
+        );
         let Turned::On(next) = turned else {
             return turned;
         };

@@ -2,19 +2,20 @@
 use mathlib.Core.Path.{_≡_, refl, sym, ap, _∙_, subst}
 use mathlib.Core.Bool.{Bool, true, false, not, _||_}
 use mathlib.Core.List.{List, [], _∷_}
-use Prim.Native.Nat.{ℕ, zero, suc, _+_, _*_, _≤_, _<_}
+use Prim.Native.Nat.{ℕ, zero, suc, _+_, _*_, _%_, _≤_, _<_}
 use native.Mathlib.Nat.{le-of-eq, le-refl}
 use native.Mathlib.Omega.{arith}
-use lib.Dec.{T, ltb}
+use lib.Dec.{T, ltb, eqb}
 use lib.ListN.{length}
 use borrow.Author.Tests.{le-ltb}
 use Rattle.fields.specs.Below.{someBelow}
 use Rattle.fields.proofs.Below.{or-left, none-left, none-right}
 use Rattle.book.specs.declared.Sections.{Sections}
-use Rattle.book.specs.Format.{Sized, endOf, origins, legs}
+use Rattle.book.specs.Format.{Sized, endOf, links, origins, destinations, legs}
 use Rattle.book.specs.Rows.{row1, row2, row3, row4, row5, row6, row7, badOriginPlace, originRepeats, badLeg, legRepeats, legFalls, legBegins, lowest}
 use Rattle.book.specs.Chains.{Readable, linked}
 use Rattle.space.specs.Space.{zeros}
+use Rattle.legs.specs.Legs.{Started, SameBut}
 use Rattle.legs.proofs.Chains.{chained, linked-rest}
 use Rattle.legs.proofs.Linking.{room-of}
 use Rattle.options.specs.declared.LinkOptions.the-variants.{Kept, NoPath}
@@ -253,8 +254,19 @@ single-none b e =
     (none-left (someBelow (legs b) (badLeg b) || someBelow (legs b) (legRepeats b)) (someBelow (legs b) (legFalls b))
     (none-left (someBelow (legs b) (badLeg b) || someBelow (legs b) (legRepeats b) || someBelow (legs b) (legFalls b)) (someBelow (legs b) (λ i. not (legBegins b i))) (sym (row7-is b) ∙ e)))
 
-pub ready-of : {b : List ℕ} {s : Sections} {n : ℕ} {cells marks : List ℕ} → Passed b s → row6 b ≡ false → row7 b ≡ false → row8 b ≡ false → ChainedOnly b cells → Marked b marks → n ≡ length (keptOrigins b) → Ready b s n cells marks
-ready-of {b} p e f g c m k = record { readable = readable-of p (single-none b f); row6 = e; row7 = f; row8 = g; chained = c .chained; rest = c .rest; marked = m; kept = k }
+-- the options' marks, once the starting legs are named between them
+still-marked : {b m m′ : List ℕ} → SameBut (links b) (2 * links b) m m′ → Marked b m → Marked b m′
+still-marked {b} {m} {m′} o d = record {
+  set = λ l h. ap (λ (x : ℕ). eqb (x % 2) 1) (o .below l h) ∙ d .set l h;
+  kept = λ k h. o .behind (2 * links b + destinations b + k) (omega arith) ∙ d .kept k h;
+}
+
+pub ready-of : {b : List ℕ} {s : Sections} {n : ℕ} {cells m marks : List ℕ} → Passed b s → row6 b ≡ false → row7 b ≡ false → row8 b ≡ false → ChainedOnly b cells → Marked b m
+    → Started b marks × SameBut (links b) (2 * links b) m marks → n ≡ length (keptOrigins b) → Ready b s n cells marks
+ready-of {b} p e f g c m t k = record { readable = readable-of p (single-none b f); row6 = e; row7 = f; row8 = g; chained = c .chained; rest = c .rest; marked = still-marked (t .1) m; starts = t .0; kept = k }
+
+pub readable-then : {b : List ℕ} {s : Sections} → Passed b s → row7 b ≡ false → Readable b s
+readable-then {b} p f = readable-of p (single-none b f)
 
 -- ---- the first stage's answer, once its case is known
 

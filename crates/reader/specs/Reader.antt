@@ -8,6 +8,7 @@ use Rattle.book.specs.declared.Sections.{Sections}
 use Rattle.book.specs.Format.{legs}
 use Rattle.book.specs.Rows.{row1, row2, row3, row4, row5, row6, row7, lowest}
 use Rattle.book.specs.Chains.{Readable, Chained}
+use Rattle.legs.specs.Legs.{Started}
 use Rattle.options.specs.Options.{row8, keptOrigins, Marked}
 use Rattle.reader.specs.declared.Reading.{Reading}
 use Rattle.reader.specs.declared.Reading.the-variants.{Accepted, Refused}
@@ -21,7 +22,7 @@ abbrev pub readingNumber : Reading → ℕ
 readingNumber (Accepted s n) = 0
 readingNumber (Refused n) = n
 
--- a book that was read: where its sections stand, its legs chained in the cells and zero behind them, the links that lead to a destination and the kept origins in the marks
+-- a book that was read: where its sections stand, its legs chained in the cells and zero behind them, the links that lead to a destination, the starting legs by their links and the kept origins in the marks
 pub record Ready (b : List ℕ) (s : Sections) (n : ℕ) (cells marks : List ℕ) : Type 0 where
   pub readable : Readable b s
   pub row6 : row6 b ≡ false
@@ -30,6 +31,7 @@ pub record Ready (b : List ℕ) (s : Sections) (n : ℕ) (cells marks : List ℕ
   pub chained : Chained b cells
   pub rest : (q : ℕ) → (legs b + 1) * 8 ≤ q → getD cells q 0 ≡ 0
   pub marked : Marked b marks
+  pub starts : Started b marks
   pub kept : n ≡ length (keptOrigins b)
 
 -- what an answer says of the cells and marks; no refusal has the number 0

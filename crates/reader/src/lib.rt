@@ -100,7 +100,7 @@ fn test_repeats(book: &[u8], s: Sections, late: bool, cells: &mut [u32], marks: 
     0
 }
 
-// Rows 6 to 8.
+// Rows 6 to 8. The repeats are marked in the links' own marks; the starting legs are named behind them, where the options' stack has been.
 fn read_rest(book: &[u8], s: Sections, late: bool, cells: &mut [u32], marks: &mut [u32]) -> Reading
     requires { ⌜ Passed (now book) s ⌝ }
     requires { ⌜ late ≡ someBelow (legs (now book)) (badLeg (now book)) ⌝ }
@@ -111,14 +111,19 @@ fn read_rest(book: &[u8], s: Sections, late: bool, cells: &mut [u32], marks: &mu
     ensures number { λ r. ⌜ readingNumber r ≡ lowest 6 (row6 (now (book .entry)) ∷ row7 (now (book .entry)) ∷ row8 (now (book .entry)) ∷ []) ⌝ }
     ensures ready { λ r. ⌜ ReadInto (now (book .entry)) (now (cells .exit)) (now (marks .exit)) r ⌝ }
 {
-    let n = test_repeats(book, s, late, cells, marks);
+    let links = s.links;
+    let own = &mut marks[..links];
+    let n = test_repeats(book, s, late, cells, own);
     if 0 < n {
         return Reading::Refused(n);
     }
     let o = options::get_link_idx_options(book, s, marks);
     match o {
         LinkOptions::NoPath => Reading::Refused(8),
-        LinkOptions::Kept(k) => Reading::Accepted(s, k),
+        LinkOptions::Kept(k) => {
+            legs::mark_starts(book, s, marks);
+            Reading::Accepted(s, k)
+        }
     }
 }
 

@@ -41,7 +41,7 @@ origin-requires c κs =
     let v = c .before .before .before .before .before .before .loop .inv in
     let e = row-at _ _ _ (c .before .before .before .before .before .before .before .before .before .before .before .before .before .before .before .before .before .pre .0) _ _ (c .before .before .before .before .before .before .before .before .before .before .before .before .before .before .before .before .before .pre .1 .0) h in (
       planting-plan _ _ _ _ _ _ _ _ _ _ _ _ _ _ v (c .before .before .before .before .before .before .before .before .before .before .before .before .before .before .before .before .before .pre .0),
-      (row-named _ _ _ _ _ _ _ _ _ _ _ _ _ _ v _ e h, planting-some _ _ _ _ _ _ _ _ _ _ _ _ _ _ v _ e h (c .before .before .before .before .before .before .before .before .before .before .before .before .before .before .before .before .before .pre .1 .1 .1 .1)),
+      (row-named _ _ _ _ _ _ _ _ _ _ _ _ _ _ v _ e h, (planting-some _ _ _ _ _ _ _ _ _ _ _ _ _ _ v _ e h (c .before .before .before .before .before .before .before .before .before .before .before .before .before .before .before .before .before .pre .1 .1 .1 .1 .0), (c .before .before .before .before .before .before .before .before .before .before .before .before .before .before .before .before .before .pre .1 .1 .1 .1 .1, omega (arith, c .before .before .before .before .before .before .before .before .before .before .before .before .before .before .before .before .before .pre .1 .1 .0)))),
     )
 
 same-length : tie.Need-same-length Inv-loop μ-loop
