@@ -7,11 +7,12 @@ use state::Plan;
 use state::State;
 use state::Turned;
 ghost use mathlib.Core.Path.{_≡_};
-ghost use mathlib.Core.Bool.{false, not, _&&_};
+ghost use mathlib.Core.Bool.{true, false, not, _&&_};
 ghost use mathlib.Core.List.{List, []};
 ghost use Prim.Native.Nat.{ℕ, _+_, _*_, _≤_};
 ghost use lib.Dec.{eqb};
 ghost use lib.ListN.{length};
+ghost use lib.Ieee.{Float};
 ghost use Rattle.space.specs.Space.{placesOf, zeroFloats};
 ghost use Rattle.book.specs.Format.{links, origins, destinations, legs};
 ghost use Rattle.legs.specs.Legs.{Started};
@@ -19,7 +20,7 @@ ghost use Rattle.options.specs.Options.{Marked, keptOrigins};
 ghost use Rattle.reader.specs.Reader.{Ready};
 ghost use Rattle.driver.specs.Run.{Net, Run};
 ghost use Rattle.driver.specs.Growth.{drive, grow};
-ghost use Rattle.state.specs.Held.{PlanIn, DriveIn, Driving, TurnedAs};
+ghost use Rattle.state.specs.Held.{PlanIn, DriveIn, Driving, SomeDrive, TurnedAs};
 ghost use Rattle.origins.specs.Origins.{startState, OriginsIn, SomeOrigins};
 ghost use Rattle.growth.specs.Grower.{nextTurn, DriveAs, Closing, SomeClosing, closing, grownFrom, GrownAs};
 
@@ -46,7 +47,22 @@ fn is_done(g: State) -> bool
     !front.moves & (g.top == 0)
 }
 
-// The run at the front takes its leg; where there is none, the run that was saved last is taken up first.
+// The state with a run at the front: where there is none, the run that was saved last is taken up.
+fn to_front(reals: &[f64], cells: &[u32], joins: &mut [u32], p: Plan, g: State) -> State
+    requires { ⌜ SomeDrive p (now reals) (now cells) (now joins) g ⌝ }
+    requires { ⌜ 2048 ≤ length (now joins) ⌝ }
+    requires { ⌜ (not (g .front .moves) && eqb (g .top) 0) ≡ false ⌝ }
+    ensures moves { λ r. ⌜ r .front .moves ≡ true ⌝ }
+    ensures held { λ r. ⌜ ((b : List ℕ) (fs : List Float) (us path : List ℕ) (net : Net) (runs : List Run) → DriveIn b p fs us (now (reals .entry)) (now (cells .entry)) (now (joins .entry)) path g net runs → DriveIn b p fs us (now (reals .entry)) (now (cells .entry)) (now (joins .exit)) path r net runs) ⌝ }
+{
+    let front = g.front;
+    if front.moves {
+        return g;
+    }
+    state::take_up(reals, cells, joins, p, g)
+}
+
+// The run at the front takes its leg.
 fn next_turn(
     book: &[u8],
     floats: &mut [f64],
@@ -70,23 +86,7 @@ fn next_turn(
     requires { ⌜ (not (g .front .moves) && eqb (g .top) 0) ≡ false ⌝ }
     ensures { λ r. ⌜ ((path : List ℕ) (net : Net) (runs : List Run) → DriveIn (now (book .entry)) p (now (floats .entry)) (now (numbers .entry)) (now (reals .entry)) (now (cells .entry)) (now (joins .entry)) path g net runs → TurnedAs (nextTurn (now (book .entry)) (p .w .places) net runs) (now (book .entry)) p (now (floats .exit)) (now (numbers .exit)) (now (reals .exit)) (now (cells .exit)) (now (joins .exit)) r) ⌝ }
 {
-    let front = g.front;
-    if front.moves {
-        return turns::turn(
-            book,
-            floats,
-            numbers,
-            reals,
-            cells,
-            marks,
-            joins,
-            scratch,
-            stack,
-            p,
-            g,
-        );
-    }
-    let h = state::take_up(reals, cells, joins, p, g);
+    let h = to_front(reals, cells, joins, p, g);
     turns::turn(
         book,
         floats,
