@@ -1,4 +1,5 @@
 pub mod Planning
+pub mod Starting
 pub mod Sowing
 pub mod Saving
 pub mod Planting

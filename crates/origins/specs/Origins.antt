@@ -1,13 +1,16 @@
 -- What planting the origins answers. The origins are `originAt` and `originsOf` of driver's specs/Growth.antt.
 use mathlib.Core.Path.{_≡_}
 use mathlib.Core.Logic.{_≢_}
-use mathlib.Core.Bool.{false}
+use mathlib.Core.Bool.{Bool, false}
 use mathlib.Core.List.{List, [], _∷_}
 use Prim.Native.Nat.{ℕ, _-_, _<_}
 use lib.Ieee.{Float, binary64, add, ofBits}
 use Rattle.book.specs.Format.{legParent, legLink, originLink, lengthBits, floatOf}
 use Rattle.network.specs.declared.EstType.the-variants.{Arrive, Clear}
+use Rattle.network.specs.declared.EstTime.{EstTime}
+use Rattle.network.specs.declared.TimedEvent.{TimedEvent}
 use Rattle.insertion.specs.declared.Place.{Place}
+use Rattle.insertion.specs.Insertion.{Table, inserted, insertedTable}
 use Rattle.driver.specs.Run.{Answer, refused, given, andThen, Net, Run, After, Outcome, insertEvent, goesOn}
 use Rattle.driver.specs.Growth.{joinGap, originEvent, originRun, seekLeg, Growth}
 use Rattle.runs.specs.declared.Counts.{Counts}
@@ -32,6 +35,22 @@ unfolding originEvent originRun
 originAnswer b places link net =
     goesOn (andThen (insertEvent places (joinGap b) net (originRun b) (originEvent b link Arrive (ofBits binary64 0)))
     (λ (a : After). insertEvent places (joinGap b) (a .net) (a .run) (originEvent b link Clear (add binary64 (ofBits binary64 0) (floatOf (lengthBits b))))))
+
+-- a place on a node, with a held time and offset
+abbrev pub placeOn : Float → Float → ℕ → Place
+placeOn time offset i = record { «time_to_next» = time; «dist_to_next» = offset; «idx_prev» = i }
+
+-- An event over this link is inserted from node `last` as from the start.
+pub record LeadsFrom (t : Table) (n last link : ℕ) : Type 0 where
+  pub within : last < n
+  pub answer : (places : ℕ) (ended : ℕ → Bool) (join time offset : Float) (e : TimedEvent) → e .«link_event» .«link_idx» ≡ link → inserted t n places ended join (placeOn time offset last) e ≡ inserted t n places ended join (placeOn time offset 1) e
+  pub table : (join time offset : Float) (e : TimedEvent) → e .«link_event» .«link_idx» ≡ link → insertedTable t n join (placeOn time offset last) e ≡ insertedTable t n join (placeOn time offset 1) e
+
+-- nodes 0 and 1, and none behind the start
+pub record OnlyStart (node : ℕ → EstTime) (n : ℕ) : Type 0 where
+  pub two : n ≡ 2
+  pub no-next : node 1 .«idx_next» ≡ 0
+  pub no-alt : node 1 .«idx_next_alt» ≡ 0
 
 -- No run at the front; each run that waits takes a leg of parent 0, over another link than these origins'.
 abbrev pub Elsewhere : List ℕ → ℕ → List ℕ → Type 0
