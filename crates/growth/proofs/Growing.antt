@@ -14,10 +14,11 @@ use Rattle.book.specs.declared.Sections.{Sections}
 use Rattle.book.specs.Format.{links, legs}
 use Rattle.options.specs.Options.{keptOrigins}
 use Rattle.reader.specs.Reader.{Ready}
-use Rattle.network.specs.Table.{Room}
+use Rattle.network.specs.declared.EstTime.{EstTime}
+use Rattle.network.specs.Table.{Room, nodeAt}
 use Rattle.insertion.specs.Insertion.{Table, put, at}
 use Rattle.event_map.proofs.Kept.{mapped-start}
-use Rattle.ends.proofs.Kept.{ends-none, flag-none, first-room, first-woven, zero-fake, one-fake}
+use Rattle.ends.proofs.Kept.{ends-none, flag-none, first-room, first-woven, node-one, zero-fake, one-fake}
 use Rattle.path.specs.Path.{pointOffset}
 use Rattle.path.specs.Kept.{PathIn}
 use Rattle.saved.proofs.Kept.{saved-none}
@@ -30,7 +31,7 @@ use Rattle.state.specs.declared.State.{State}
 use Rattle.state.specs.declared.Turned.{Turned}
 use Rattle.state.specs.declared.Turned.the-variants.{On, Refused}
 use Rattle.state.specs.Held.{PlanIn, DriveIn, Driving}
-use Rattle.origins.specs.Origins.{startState, OriginsIn, SomeOrigins, PlantedAs, OriginsAs}
+use Rattle.origins.specs.Origins.{startState, OriginsIn, SomeOrigins, OnlyStart, PlantedAs, OriginsAs}
 use Rattle.growth.specs.declared.Grown.{Grown}
 use Rattle.growth.specs.Grower.{DrivenAs, DriveAs, closing, grownFrom, Closing, SomeClosing, GrownAs}
 
@@ -50,6 +51,10 @@ driven-is b places g = refl
 -- reals of the same length fit the plan
 pub all-plan : {b : List ℕ} {p : Plan} {n m : ℕ} → PlanIn b p n → m ≡ n → PlanIn b p m
 all-plan {b} {p} plan e = subst (PlanIn b p) (sym e) plan
+
+pub all-start : (fs : List Float) (us : List ℕ) (g : State) → g ≡ startState → OnlyStart (nodeAt fs us) 2 → OnlyStart (nodeAt fs us) (g .counts .nodes)
+unfolding startState
+all-start fs us g first s = subst (λ (x : State). OnlyStart (nodeAt fs us) (x .counts .nodes)) (sym first) s
 
 module _ (b : List ℕ) (p : Plan) (fs : List Float) (us : List ℕ) (reals : List Float) (cells joins : List ℕ) (g : State) (first : g ≡ startState) where
   pub all-some : SomeOrigins b p fs us reals cells joins (keptOrigins b) startState → SomeOrigins b p fs us reals cells joins (keptOrigins b) g
@@ -149,6 +154,17 @@ path-start b reals cells z h = record { offsets = first; links = λ k l. absurd 
 -- nodes 0 and 1 are there, no run is
 abbrev firstTable : Table → Float → Table
 firstTable t time = put (put t 0 (fakeNode 1 0 0 (ofBits binary64 0))) 1 (fakeNode 0 0 0 time)
+
+-- nothing is behind node 1
+pub book-start : (fs : List Float) (us : List ℕ) (places : ℕ) → places ≡ placesOf (length fs) (length us) → 2 ≤ places → (time : Float) (fs′ : List Float) (us′ : List ℕ) → fs′ ≡ firstTable (record { floats = fs; numbers = us }) time .floats
+    → us′ ≡ firstTable (record { floats = fs; numbers = us }) time .numbers → OnlyStart (nodeAt fs′ us′) 2
+unfolding fakeNode at
+book-start fs us places e h time fs′ us′ df du =
+    let f = places-fit e in
+    let one : nodeAt fs′ us′ 1 ≡ fakeNode 0 0 0 time =
+    ap (λ (x : List Float). nodeAt x us′ 1) df ∙ ap (λ (x : List ℕ). nodeAt (firstTable (record { floats = fs; numbers = us }) time .floats) x 1) du
+    ∙ node-one (record { floats = fs; numbers = us }) time places (record { floats = f .floats-fit; numbers = f .numbers-fit; most = f .most }) (omega arith) in
+    record { two = refl; no-next = ap (λ (x : EstTime). x .«idx_next») one; no-alt = ap (λ (x : EstTime). x .«idx_next_alt») one }
 
 module _ {b : List ℕ} {s : Sections} {kept : ℕ} {cells marks : List ℕ} (ready : Ready b s kept cells marks) (p : Plan) (reals : List Float) (plan : PlanIn b p (length reals)) (zero-reals : reals ≡ zeroFloats (length reals))
     (fs : List Float) (us : List ℕ) (room : Room fs us (p .w .places)) (some : 1 < p .w .places) (behind : p .w .«links_at» ≡ (legs b + 1) * 8 + p .w .places * 8) (long : (legs b + 1 + p .w .places + links b) * 8 ≤ length cells) where

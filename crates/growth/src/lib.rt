@@ -14,6 +14,7 @@ ghost use lib.Dec.{eqb};
 ghost use lib.ListN.{length};
 ghost use lib.Ieee.{Float};
 ghost use Rattle.space.specs.Space.{placesOf, zeroFloats};
+ghost use Rattle.network.specs.Table.{nodeAt};
 ghost use Rattle.book.specs.Format.{links, origins, destinations, legs};
 ghost use Rattle.legs.specs.Legs.{Started};
 ghost use Rattle.options.specs.Options.{Marked, keptOrigins};
@@ -21,7 +22,7 @@ ghost use Rattle.reader.specs.Reader.{Ready};
 ghost use Rattle.driver.specs.Run.{Net, Run};
 ghost use Rattle.driver.specs.Growth.{drive, grow};
 ghost use Rattle.state.specs.Held.{PlanIn, DriveIn, Driving, SomeDrive, TurnedAs};
-ghost use Rattle.origins.specs.Origins.{startState, OriginsIn, SomeOrigins};
+ghost use Rattle.origins.specs.Origins.{startState, OriginsIn, SomeOrigins, OnlyStart};
 ghost use Rattle.growth.specs.Grower.{nextTurn, DriveAs, Closing, SomeClosing, closing, grownFrom, GrownAs};
 
 // The report's counts.
@@ -203,6 +204,7 @@ fn run_all(
     requires { ⌜ 2 * links (now book) + destinations (now book) + origins (now book) ≤ length (now marks) ⌝ }
     requires { ⌜ kept ≡ length (keptOrigins (now book)) ⌝ }
     requires { ⌜ SomeOrigins (now book) p (now floats) (now numbers) (now reals) (now cells) (now joins) (keptOrigins (now book)) startState ⌝ }
+    requires { ⌜ OnlyStart (nodeAt (now floats) (now numbers)) 2 ⌝ }
     requires { ⌜ Started (now book) (now marks) ⌝ }
     requires { ⌜ 2048 ≤ length (now joins) ⌝ }
     requires { ⌜ 2048 ≤ length (now scratch) ⌝ }

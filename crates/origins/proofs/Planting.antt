@@ -1,5 +1,6 @@
 -- One origin after the other: each one's events, then its leg. Origins that are kept lie on different links, so their runs take different legs.
 use mathlib.Core.Path.{_≡_, refl, sym, ap, _∙_, subst}
+use mathlib.Core.Logic.{_≢_}
 use mathlib.Core.List.{List, [], _∷_}
 use Prim.{tt}
 use Prim.Native.Nat.{ℕ, zero, suc, _+_, _-_, _*_, _≤_, _<_}
@@ -26,8 +27,13 @@ use Rattle.state.specs.declared.State.{State}
 use Rattle.state.specs.declared.Turned.{Turned}
 use Rattle.state.specs.declared.Turned.the-variants.{On, Refused}
 use Rattle.state.specs.Held.{PlanIn}
-use Rattle.origins.specs.Origins.{originAnswer, Elsewhere, AllFirst, NotOver, OriginsIn, SomeOrigin, SomeOrigins, PlantedAs, OriginsAs, savedOrigin, Sown, SomeSown}
+use Rattle.network.specs.Table.{Woven, nodeAt}
+use Rattle.insertion.specs.Insertion.{Table, at}
+use Rattle.insertion.proofs.Puts.{RoomIn}
+use Rattle.origins.specs.Origins.{originAnswer, LeadsFrom, OnlyStart, Elsewhere, AllFirst, NotOver, OriginsIn, SomeOrigin, SomeOrigins, PlantedAs, OriginsAs, savedOrigin, Sown, SomeSown}
 use Rattle.origins.proofs.Sowing.{fewer-as, origin-joins, origin-not-left, origin-given, origin-refused}
+use Rattle.origins.proofs.Starting.{AtLast, at-start, comes-first, leads-from}
+use Rattle.origins.proofs.Following.{last-planted}
 use Rattle.origins.proofs.Saving.{drive-grown}
 
 -- ---- links of origins to come
@@ -45,6 +51,9 @@ not-over b row rows link [] e f = tt
 not-over b row rows link (r ∷ rs) e f = (λ (q : legLink b (r .leg - 1) ≡ link). f .1 .0 .0 (q ∙ e), not-over b row rows link rs e (f .1 .1))
 
 -- ---- an origin's events are inserted
+
+pub leads-as : (t : Table) (n last link link′ : ℕ) → link ≡ link′ → LeadsFrom t n last link′ → LeadsFrom t n last link
+leads-as t n last link link′ e l = subst (LeadsFrom t n last) (sym e) l
 
 module _ (b : List ℕ) (p : Plan) (fs : List Float) (us : List ℕ) (reals : List Float) (cells joins : List ℕ) (g : State) (row link : ℕ) (named : link ≡ originLink b row) (plan : PlanIn b p (length reals))
     (fs′ : List Float) (us′ cells′ : List ℕ) (long : length cells′ ≡ length cells) (r : Outcome) (more : NotFewer (g .counts) r)
@@ -98,22 +107,46 @@ module _ (b : List ℕ) (p : Plan) (fs : List Float) (us : List ℕ) (reals : Li
 -- ---- the loop over the kept origins
 
 -- what the origins so far have made, those from k on being still to come
-pub record SoFar (b : List ℕ) (p : Plan) (fs : List Float) (us : List ℕ) (reals : List Float) (cells joins : List ℕ) (g : State) (k : ℕ) (answer : Answer Growth) : Type 0 where
+pub record SoFar (b : List ℕ) (p : Plan) (fs : List Float) (us : List ℕ) (reals : List Float) (cells joins : List ℕ) (g : State) (last k : ℕ) (answer : Answer Growth) : Type 0 where
   pub net : Net
   pub runs : List Run
   pub origins : OriginsIn b p fs us reals cells joins (drop k (keptOrigins b)) g net runs
   pub same : answer ≡ originsOf b (p .w .places) (drop k (keptOrigins b)) (record { net = net; saved = runs })
+  pub starts : AtLast b (drop k (keptOrigins b)) (net .table) (net .nodes) last
 
-pub record Planting (b : List ℕ) (p : Plan) (joins : List ℕ) (fs₀ : List Float) (us₀ : List ℕ) (reals₀ : List Float) (cells₀ : List ℕ) (g₀ : State) (fs : List Float) (us : List ℕ) (reals : List Float) (cells : List ℕ) (g : State) (k : ℕ) : Type 0 where
+pub record Planting (b : List ℕ) (p : Plan) (joins : List ℕ) (fs₀ : List Float) (us₀ : List ℕ) (reals₀ : List Float) (cells₀ : List ℕ) (g₀ : State) (fs : List Float) (us : List ℕ) (reals : List Float) (cells : List ℕ) (g : State) (last k : ℕ) : Type 0 where
   pub within : k ≤ length (keptOrigins b)
   pub floats : length fs ≡ length fs₀
   pub numbers : length us ≡ length us₀
   pub reals-long : length reals ≡ length reals₀
   pub cells-long : length cells ≡ length cells₀
-  pub so-far : (net : Net) (runs : List Run) → OriginsIn b p fs₀ us₀ reals₀ cells₀ joins (keptOrigins b) g₀ net runs → SoFar b p fs us reals cells joins g k (originsOf b (p .w .places) (keptOrigins b) (record { net = net; saved = runs }))
+  pub so-far : (net : Net) (runs : List Run) → OriginsIn b p fs₀ us₀ reals₀ cells₀ joins (keptOrigins b) g₀ net runs → SoFar b p fs us reals cells joins g last k (originsOf b (p .w .places) (keptOrigins b) (record { net = net; saved = runs }))
 
-pub planting-start : (b : List ℕ) (p : Plan) (joins : List ℕ) (fs : List Float) (us : List ℕ) (reals : List Float) (cells : List ℕ) (g : State) → Planting b p joins fs us reals cells g fs us reals cells g 0
-planting-start b p joins fs us reals cells g = record { within = omega arith; floats = refl; numbers = refl; reals-long = refl; cells-long = refl; so-far = λ net runs o. record { net = net; runs = runs; origins = o; same = refl } }
+-- the network's table and nodes, as the slices hold them
+module _ {b : List ℕ} {p : Plan} {fs : List Float} {us : List ℕ} {reals : List Float} {cells joins rows : List ℕ} {g : State} {net : Net} {runs : List Run} (o : OriginsIn b p fs us reals cells joins rows g net runs) where
+  net-start : OnlyStart (nodeAt fs us) (g .counts .nodes) → OnlyStart (at (net .table)) (net .nodes)
+  unfolding at
+  net-start s = subst (OnlyStart (at (net .table))) (sym (o .holds .grown .nodes)) (subst (λ (t : Table). OnlyStart (at t) (g .counts .nodes)) (sym (o .holds .grown .table)) s)
+
+  net-room : RoomIn (net .table) (p .w .places)
+  net-room = subst (λ (t : Table). RoomIn t (p .w .places)) (sym (o .holds .grown .table)) (o .holds .grown .room)
+
+  net-woven : Woven (at (net .table)) (net .nodes)
+  unfolding at
+  net-woven = subst (Woven (at (net .table))) (sym (o .holds .grown .nodes)) (subst (λ (t : Table). Woven (at t) (g .counts .nodes)) (sym (o .holds .grown .table)) (o .holds .grown .woven))
+
+  net-leads : (last link : ℕ) → LeadsFrom (net .table) (net .nodes) last link → LeadsFrom (record { floats = fs; numbers = us }) (g .counts .nodes) last link
+  net-leads last link l = subst (λ (t : Table). LeadsFrom t (g .counts .nodes) last link) (o .holds .grown .table) (subst (λ (n : ℕ). LeadsFrom (net .table) n last link) (o .holds .grown .nodes) l)
+
+pub planting-start : (b : List ℕ) (p : Plan) (joins : List ℕ) (fs : List Float) (us : List ℕ) (reals : List Float) (cells : List ℕ) (g : State) → OnlyStart (nodeAt fs us) (g .counts .nodes) → Planting b p joins fs us reals cells g fs us reals cells g 1 0
+planting-start b p joins fs us reals cells g s = record {
+  within = omega arith;
+  floats = refl;
+  numbers = refl;
+  reals-long = refl;
+  cells-long = refl;
+  so-far = λ net runs o. record { net = net; runs = runs; origins = o; same = refl; starts = at-start b (keptOrigins b) (net .table) (net .nodes) (net-start o s) };
+}
 
 pub row-left : (b : List ℕ) (kept k : ℕ) → kept ≡ length (keptOrigins b) → k < kept → k < length (keptOrigins b)
 row-left b kept k e h = omega (arith, e)
@@ -158,11 +191,14 @@ origin-last : (b : List ℕ) (places : ℕ) (g : Growth) → originsOf b places 
 unfolding originsOf
 origin-last b places g = refl
 
-module _ (b : List ℕ) (p : Plan) (joins : List ℕ) (fs₀ : List Float) (us₀ : List ℕ) (reals₀ : List Float) (cells₀ : List ℕ) (g₀ : State) (fs : List Float) (us : List ℕ) (reals : List Float) (cells : List ℕ) (g : State) (k : ℕ)
-    (v : Planting b p joins fs₀ us₀ reals₀ cells₀ g₀ fs us reals cells g k) where
+module _ (b : List ℕ) (p : Plan) (joins : List ℕ) (fs₀ : List Float) (us₀ : List ℕ) (reals₀ : List Float) (cells₀ : List ℕ) (g₀ : State) (fs : List Float) (us : List ℕ) (reals : List Float) (cells : List ℕ) (g : State) (last k : ℕ)
+    (v : Planting b p joins fs₀ us₀ reals₀ cells₀ g₀ fs us reals cells g last k) where
   -- the plan fits still
   pub planting-plan : PlanIn b p (length reals₀) → PlanIn b p (length reals)
   planting-plan plan = subst (PlanIn b p) (sym (v .reals-long)) plan
+
+  pub planting-small : SomeOrigins b p fs₀ us₀ reals₀ cells₀ joins (keptOrigins b) g₀ → g .counts .nodes ≤ 65535
+  planting-small s = let x = v .so-far (s .net) (s .runs) (s .origins) in omega (arith, x .origins .holds .grown .within, x .origins .holds .grown .room .most)
 
   module _ (row : ℕ) (is : row ≡ getD (keptOrigins b) k 0) (h : k < length (keptOrigins b)) where
     rows-are : drop k (keptOrigins b) ≡ row ∷ drop (k + 1) (keptOrigins b)
@@ -178,16 +214,24 @@ module _ (b : List ℕ) (p : Plan) (joins : List ℕ) (fs₀ : List Float) (us�
         let x = v .so-far (s .net) (s .runs) (s .origins) in
         record { rows = drop (k + 1) (keptOrigins b); net = x .net; runs = x .runs; origins = subst (λ (rows : List ℕ). OriginsIn b p fs us reals cells joins rows g (x .net) (x .runs)) rows-are (x .origins) }
 
+    starts-there : {answer : Answer Growth} → (x : SoFar b p fs us reals cells joins g last k answer) → AtLast b (row ∷ drop (k + 1) (keptOrigins b)) (x .net .table) (x .net .nodes) last
+    starts-there x = subst (λ (rows : List ℕ). AtLast b rows (x .net .table) (x .net .nodes) last) rows-are (x .starts)
+
+    pub planting-leads : SomeOrigins b p fs₀ us₀ reals₀ cells₀ joins (keptOrigins b) g₀ → LeadsFrom (record { floats = fs; numbers = us }) (g .counts .nodes) last (originLink b row)
+    planting-leads s =
+        let x = v .so-far (s .net) (s .runs) (s .origins) in
+        net-leads (x .origins) last (originLink b row) (leads-from b (row ∷ drop (k + 1) (keptOrigins b)) (x .net .table) (x .net .nodes) last (originLink b row) (starts-there x) (comes-first b row (drop (k + 1) (keptOrigins b)) (originLink b row) refl))
+
     apart : Elsewhere b (originLink b row) (drop (k + 1) (keptOrigins b))
     apart = other-links b row (drop (k + 1) (keptOrigins b)) (subst (AllOther b) rows-are (behind-other b k (keptOrigins b) (kept-apart b)) .0)
 
     -- what the code is told of the next origin
     module _ (fs′ : List Float) (us′ : List ℕ) (reals′ : List Float) (cells′ : List ℕ) (t : Turned)
         (told : (rows : List ℕ) (net : Net) (runs : List Run) → OriginsIn b p fs us reals cells joins (row ∷ rows) g net runs → Elsewhere b (originLink b row) rows → OriginsAs (originAt b (p .w .places) (originLink b row) (record { net = net; saved = runs })) b p fs′ us′ reals′ cells′ joins rows t) where
-      next : {answer : Answer Growth} → (x : SoFar b p fs us reals cells joins g k answer) → OriginsAs (originAt b (p .w .places) (originLink b row) (record { net = x .net; saved = x .runs })) b p fs′ us′ reals′ cells′ joins (drop (k + 1) (keptOrigins b)) t
+      next : {answer : Answer Growth} → (x : SoFar b p fs us reals cells joins g last k answer) → OriginsAs (originAt b (p .w .places) (originLink b row) (record { net = x .net; saved = x .runs })) b p fs′ us′ reals′ cells′ joins (drop (k + 1) (keptOrigins b)) t
       next x = told (drop (k + 1) (keptOrigins b)) (x .net) (x .runs) (subst (λ (rows : List ℕ). OriginsIn b p fs us reals cells joins rows g (x .net) (x .runs)) rows-are (x .origins)) apart
 
-      unfolds : {answer : Answer Growth} → (x : SoFar b p fs us reals cells joins g k answer) → answer ≡ andThen (originAt b (p .w .places) (originLink b row) (record { net = x .net; saved = x .runs })) (originsOf b (p .w .places) (drop (k + 1) (keptOrigins b)))
+      unfolds : {answer : Answer Growth} → (x : SoFar b p fs us reals cells joins g last k answer) → answer ≡ andThen (originAt b (p .w .places) (originLink b row) (record { net = x .net; saved = x .runs })) (originsOf b (p .w .places) (drop (k + 1) (keptOrigins b)))
       unfolds x =
           x .same ∙ ap (λ (rows : List ℕ). originsOf b (p .w .places) rows (record { net = x .net; saved = x .runs })) rows-are ∙ origin-first b (p .w .places) row (drop (k + 1) (keptOrigins b)) (record { net = x .net; saved = x .runs })
 
@@ -198,8 +242,8 @@ module _ (b : List ℕ) (p : Plan) (joins : List ℕ) (fs₀ : List Float) (us�
           let q = subst (OriginsAs (originAt b (p .w .places) (originLink b row) (record { net = x .net; saved = x .runs })) b p fs′ us′ reals′ cells′ joins (drop (k + 1) (keptOrigins b))) e (next x) in
           subst (OriginsAs (originsOf b (p .w .places) (keptOrigins b) (record { net = net; saved = runs })) b p fs′ us′ reals′ cells′ joins []) (sym e) (unfolds x ∙ ap (λ (a : Answer Growth). andThen a (originsOf b (p .w .places) (drop (k + 1) (keptOrigins b)))) q)
 
-      pub planting-on : (g′ : State) → t ≡ On g′ → length fs′ ≡ length fs → length us′ ≡ length us → length reals′ ≡ length reals → length cells′ ≡ length cells → Planting b p joins fs₀ us₀ reals₀ cells₀ g₀ fs′ us′ reals′ cells′ g′ (k + 1)
-      planting-on g′ e lf lu lr lc = record {
+      pub planting-on : (g′ : State) → t ≡ On g′ → (last′ : ℕ) → (g .counts .nodes ≡ 2 → last′ ≡ 1) → (g .counts .nodes ≢ 2 → last′ ≡ g .counts .nodes) → length fs′ ≡ length fs → length us′ ≡ length us → length reals′ ≡ length reals → length cells′ ≡ length cells → Planting b p joins fs₀ us₀ reals₀ cells₀ g₀ fs′ us′ reals′ cells′ g′ last′ (k + 1)
+      planting-on g′ e last′ one more lf lu lr lc = record {
         within = omega arith;
         floats = lf ∙ v .floats;
         numbers = lu ∙ v .numbers;
@@ -208,7 +252,16 @@ module _ (b : List ℕ) (p : Plan) (joins : List ℕ) (fs₀ : List Float) (us�
         so-far = λ net runs o.
             let x = v .so-far net runs o in
             let q : PlantedAs (originAt b (p .w .places) (originLink b row) (record { net = x .net; saved = x .runs })) b p fs′ us′ reals′ cells′ joins (drop (k + 1) (keptOrigins b)) g′ = subst (OriginsAs (originAt b (p .w .places) (originLink b row) (record { net = x .net; saved = x .runs })) b p fs′ us′ reals′ cells′ joins (drop (k + 1) (keptOrigins b))) e (next x) in
-            record { net = q .growth .net; runs = q .growth .saved; origins = q .origins; same = unfolds x ∙ ap (λ (a : Answer Growth). andThen a (originsOf b (p .w .places) (drop (k + 1) (keptOrigins b)))) (q .is) };
+            let n : x .net .nodes ≡ g .counts .nodes = x .origins .holds .grown .nodes in
+            record {
+              net = q .growth .net;
+              runs = q .growth .saved;
+              origins = q .origins;
+              same = unfolds x ∙ ap (λ (a : Answer Growth). andThen a (originsOf b (p .w .places) (drop (k + 1) (keptOrigins b)))) (q .is);
+              starts =
+                  last-planted b (p .w .places) row (drop (k + 1) (keptOrigins b)) (x .net) (x .runs) last (q .growth) (starts-there x) (net-room (x .origins)) (net-woven (x .origins)) apart (q .is) last′
+                  (λ (h : x .net .nodes ≡ 2). one (sym n ∙ h)) (λ (h : x .net .nodes ≢ 2). more (λ (o : g .counts .nodes ≡ 2). h (n ∙ o)) ∙ sym n);
+            };
       }
 
   -- none is left

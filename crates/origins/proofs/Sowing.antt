@@ -1,6 +1,6 @@
 -- An origin's Arrive and Clear, inserted at the start one after the other.
 use mathlib.Core.Path.{_≡_, refl, sym, ap, _∙_, subst}
-use mathlib.Core.Bool.{false}
+use mathlib.Core.Bool.{Bool, true, false}
 use mathlib.Core.List.{List, [], _∷_}
 use Prim.{Unit, tt}
 use Prim.Native.Nat.{ℕ, _≤_, _<_}
@@ -10,6 +10,7 @@ use Rattle.book.specs.Format.{lengthBits, floatOf}
 use Rattle.network.specs.declared.EstType.{EstType}
 use Rattle.network.specs.declared.EstType.the-variants.{Arrive, Clear}
 use Rattle.network.specs.declared.TimedEvent.{TimedEvent}
+use Rattle.insertion.specs.declared.Place.{Place}
 use Rattle.insertion.specs.declared.Inserted.{Inserted}
 use Rattle.insertion.specs.declared.Inserted.the-variants.{Added, Moved}
 use Rattle.insertion.specs.declared.Inserted.the-variants.{Refused as NotIn}
@@ -18,7 +19,7 @@ use Rattle.strands.specs.declared.EstJoinPath.{EstJoinPath}
 use Rattle.strands.specs.Entries.{entriesIn}
 use Rattle.event_map.specs.declared.Layout.{Layout}
 use Rattle.event_map.specs.EventMap.{RealKind, Real}
-use Rattle.driver.specs.Run.{Answer, refused, given, andThen, Net, Run, After, movedTo, insertedAs, insertEvent, goesOn, memberOf}
+use Rattle.driver.specs.Run.{Answer, refused, given, andThen, Arc, Net, Run, After, arcTo, addedTo, movedTo, insertedAs, insertEvent, goesOn, memberOf}
 use Rattle.driver.specs.Run.{Outcome as Became, Ended as Left, On as Goes}
 use Rattle.driver.specs.Growth.{joinGap, departure, originEvent, originRun, seekLeg, originAt}
 use Rattle.runs.specs.declared.Counts.{Counts}
@@ -29,12 +30,16 @@ use Rattle.runs.specs.Held.{NetIn, RunIn, Growing, OutcomeAs, NotFewer}
 use Rattle.runs.proofs.Kept.{goes-given}
 use Rattle.state.specs.declared.Plan.{Plan}
 use Rattle.state.specs.Held.{PlanIn}
-use Rattle.origins.specs.Origins.{originAnswer, savedOrigin}
+use Rattle.origins.specs.Origins.{originAnswer, placeOn, LeadsFrom, savedOrigin}
 
 -- ---- the run and the events, as the code makes them
 
-abbrev moverAt : Float → Mover
-moverAt time = record { place = record { «time_to_next» = time; «dist_to_next» = ofBits binary64 0; «idx_prev» = 1 }; added = false; count = 0 }
+abbrev moverAt : Float → ℕ → Mover
+moverAt time i = record { place = placeOn time (ofBits binary64 0) i; added = false; count = 0 }
+
+-- the run of the definition, but on node i
+abbrev runAt : Float → ℕ → Run
+runAt time i = record { place = placeOn time (ofBits binary64 0) i; leg = 0; added = false; joins = [] }
 
 abbrev eventOf : Float → ℕ → EstType → Float → TimedEvent
 eventOf time link kind offset = record { time = time; offset = offset; speed = ofBits binary64 0; «link_event» = record { «link_idx» = link; «est_type» = kind } }
@@ -42,25 +47,21 @@ eventOf time link kind offset = record { time = time; offset = offset; speed = o
 pub real-event : (e : TimedEvent) (time : Float) (link : ℕ) (kind : EstType) (offset : Float) (links : ℕ) → e ≡ eventOf time link kind offset → RealKind kind → link < links → Real (e .«link_event») links
 real-event e time link kind offset links d k h = subst (λ (x : TimedEvent). Real (x .«link_event») links) (sym d) (k, h)
 
--- any run that stands where one with no join entries moves
-run-there : (n : ℕ) (joins : List ℕ) (time : Float) (m : Mover) (run : Run) → m ≡ moverAt time → run .place ≡ moverAt time .place → run .leg ≡ 0 → run .added ≡ false → run .joins ≡ [] → 1 < n → RunIn n 0 joins m run
+run-there : (n : ℕ) (joins : List ℕ) (time : Float) (i : ℕ) (m : Mover) → m ≡ moverAt time i → i < n → RunIn n 0 joins m (runAt time i)
 unfolding entriesIn
-run-there n joins time m run e p l a j h = subst (λ (x : Mover). RunIn n 0 joins x run) (sym e) (record {
-  place = p;
-  leg = l;
-  added = a;
-  joins = j;
+run-there n joins time i m e h = subst (λ (x : Mover). RunIn n 0 joins x (runAt time i)) (sym e) (record {
+  place = refl;
+  leg = refl;
+  added = refl;
+  joins = refl;
   few = omega arith;
   valid = record { node = λ k g. absurd (omega arith) };
   stands = h;
 })
 
-two-nodes : {w : Layout} {start : List ℕ} {fs : List Float} {us cells : List ℕ} {c : Counts} {net : Net} → NetIn w start fs us cells c net → 1 < c .nodes
-two-nodes v = omega (arith, v .sum)
-
--- the run stands on node 1
-pub first-there : (time : Float) (m : Mover) → m ≡ moverAt time → {w : Layout} {fs : List Float} {us cells : List ℕ} {c : Counts} → Growing w fs us cells c → m .place .«idx_prev» < c .nodes
-first-there time m e g = let i : m .place .«idx_prev» ≡ 1 = ap (λ (x : Mover). x .place .«idx_prev») e in omega (arith, two-nodes (g .holds))
+-- it stands on a node
+pub first-there : (time : Float) (i : ℕ) (m : Mover) → m ≡ moverAt time i → (n : ℕ) → i < n → m .place .«idx_prev» < n
+first-there time i m e n h = subst (λ (x : Mover). x .place .«idx_prev» < n) (sym e) h
 
 -- ---- what the code is told of an insertion
 
@@ -78,12 +79,12 @@ fewer-as c d m r e h = subst (NotFewer c) e h
 
 -- ---- the first event
 
-module _ (w : Layout) (join time : Float) (fs : List Float) (us cells : List ℕ) (c : Counts) (m : Mover) (e : TimedEvent) (fs′ : List Float) (us′ cells′ : List ℕ) (r : Outcome) (t : Tells w join fs us cells c m e fs′ us′ cells′ r) (dm : m ≡ moverAt time) where
+module _ (w : Layout) (join time : Float) (last : ℕ) (fs : List Float) (us cells : List ℕ) (c : Counts) (m : Mover) (e : TimedEvent) (fs′ : List Float) (us′ cells′ : List ℕ) (r : Outcome) (t : Tells w join fs us cells c m e fs′ us′ cells′ r)
+    (dm : m ≡ moverAt time last) (within : last < c .nodes) where
   -- a network is there for the second
   pub first-grown : Growing w fs us cells c → (d : Counts) (n : Mover) → r ≡ On d n → Growing w fs′ us′ cells′ d × (n .place .«idx_prev» < d .nodes)
   first-grown g d n q =
-      let run : Run = record { place = moverAt time .place; leg = 0; added = false; joins = [] } in
-      let o = subst (OutcomeAs (goesOn (insertEvent (w .places) join (g .net) run e)) w (g .start) 0 fs′ us′ cells′ []) q (t (g .start) [] 0 (g .net) run (g .holds) (run-there (c .nodes) [] time m run dm refl refl refl refl (two-nodes (g .holds)))) in
+      let o = subst (OutcomeAs (goesOn (insertEvent (w .places) join (g .net) (runAt time last) e)) w (g .start) 0 fs′ us′ cells′ []) q (t (g .start) [] 0 (g .net) (runAt time last) (g .holds) (run-there (c .nodes) [] time last m dm within)) in
       (record { start = g .start; net = o .after .net; holds = o .net }, o .run .stands)
 
 -- ---- answers
@@ -110,13 +111,79 @@ pub goes-refused : (a : Answer After) (k : ℕ) → goesOn a ≡ refused k → a
 goes-refused (given x) k e = absurd (subst NotGiven (sym e) tt)
 goes-refused (refused n) k e = ap (λ (x : Answer Became). refused (numberIn x)) e
 
+-- ---- where the Arrive is inserted from
+
+abbrev goneIn : After → Answer Became → After
+goneIn d (given (Goes x)) = x
+goneIn d (given (Left net)) = d
+goneIn d (refused n) = d
+
+-- what is held says nothing of the arcs
+net-noted : {w : Layout} {start : List ℕ} {fs : List Float} {us cells : List ℕ} {c : Counts} (net : Net) (t : Table) (q : Place) (split : Bool) (x y : Arc) → NetIn w start fs us cells c (addedTo net t q split x) → NetIn w start fs us cells c (addedTo net t q split y)
+unfolding addedTo
+net-noted net t q split x y v = record {
+  table = v .table;
+  nodes = v .nodes;
+  added = v .added;
+  splits = v .splits;
+  joined = v .joined;
+  sum = v .sum;
+  room = v .room;
+  within = v .within;
+  woven = v .woven;
+  apart = v .apart;
+  mapped = v .mapped;
+  ends = v .ends;
+  ends-below = v .ends-below;
+  ended = v .ended;
+  elsewhere = v .elsewhere;
+}
+
+module _ (net : Net) (time : Float) (last : ℕ) (e : TimedEvent) (w : Layout) (start : List ℕ) (fs : List Float) (us cells joins : List ℕ) (r : Outcome) where
+  -- an answer from node `last` is one from the start: only the arc differs
+  answer-from : (t : Table) (x : Inserted) → OutcomeAs (goesOn (insertedAs net (runAt time last) e t x)) w start 0 fs us cells joins r → OutcomeAs (goesOn (insertedAs net (runAt time 1) e t x)) w start 0 fs us cells joins r
+  unfolding movedTo
+  answer-from t (NotIn k) o = o
+  answer-from t (Moved q) o = o
+  answer-from t (Added q split) o = go r o
+    where
+      from : Arc
+      from = arcTo (placeOn time (ofBits binary64 0) last) (q .«idx_prev») e
+
+      go : (r : Outcome) → OutcomeAs (goesOn (insertedAs net (runAt time last) e t (Added q split))) w start 0 fs us cells joins r → OutcomeAs (goesOn (insertedAs net (runAt time 1) e t (Added q split))) w start 0 fs us cells joins r
+      go (On c m) o =
+          let s = ap (goneIn (o .after)) (sym (o .is)) in
+          record {
+            after = record { net = addedTo net t q split (arcTo (placeOn time (ofBits binary64 0) 1) (q .«idx_prev») e); run = movedTo (runAt time 1) q true };
+            is = refl;
+            net = net-noted net t q split _ _ (subst (λ (z : After). NetIn w start fs us cells c (z .net)) s (o .net));
+            run = subst (λ (z : After). RunIn (c .nodes) 0 joins m (z .run)) s (o .run);
+          }
+      go (Ended c) o = absurd (subst Lost (sym (o .is)) tt)
+      go (Refused k) o = absurd (subst NotGiven (sym o) tt)
+
+  event-from : (places : ℕ) (join : Float) (link : ℕ) → LeadsFrom (net .table) (net .nodes) last link → e .«link_event» .«link_idx» ≡ link
+      → OutcomeAs (goesOn (insertEvent places join net (runAt time last) e)) w start 0 fs us cells joins r → OutcomeAs (goesOn (insertEvent places join net (runAt time 1) e)) w start 0 fs us cells joins r
+  unfolding insertEvent
+  event-from places join link l d o =
+      answer-from (insertedTable (net .table) (net .nodes) join (placeOn time (ofBits binary64 0) 1) e) (inserted (net .table) (net .nodes) places (memberOf (net .ends)) join (placeOn time (ofBits binary64 0) 1) e)
+      (subst (λ (x : Inserted). OutcomeAs (goesOn (insertedAs net (runAt time last) e (insertedTable (net .table) (net .nodes) join (placeOn time (ofBits binary64 0) 1) e) x)) w start 0 fs us cells joins r)
+      (l .answer places (memberOf (net .ends)) join time (ofBits binary64 0) e d)
+      (subst (λ (t : Table). OutcomeAs (goesOn (insertedAs net (runAt time last) e t (inserted (net .table) (net .nodes) places (memberOf (net .ends)) join (placeOn time (ofBits binary64 0) last) e))) w start 0 fs us cells joins r)
+      (l .table join time (ofBits binary64 0) e d)
+      o))
+
+leads-net : {w : Layout} {start : List ℕ} {fs : List Float} {us cells : List ℕ} {c : Counts} {net : Net} (last link : ℕ) → NetIn w start fs us cells c net → LeadsFrom (record { floats = fs; numbers = us }) (c .nodes) last link → LeadsFrom (net .table) (net .nodes) last link
+leads-net {c = c} {net = net} last link v l =
+    subst (λ (n : ℕ). LeadsFrom (net .table) n last link) (sym (v .nodes)) (subst (λ (t : Table). LeadsFrom t (c .nodes) last link) (sym (v .table)) l)
+
 -- ---- both events
 
 module _ (b : List ℕ) (places link : ℕ) (net : Net) where
-  abbrev clears : After → Answer After
+  abbrev pub clears : After → Answer After
   clears a = insertEvent places (joinGap b) (a .net) (a .run) (originEvent b link Clear (add binary64 (ofBits binary64 0) (floatOf (lengthBits b))))
 
-  abbrev arrived : Answer After
+  abbrev pub arrived : Answer After
   arrived = insertEvent places (joinGap b) net (originRun b) (originEvent b link Arrive (ofBits binary64 0))
 
   answered : originAnswer b places link net ≡ goesOn (andThen arrived clears)
@@ -124,13 +191,15 @@ module _ (b : List ℕ) (places link : ℕ) (net : Net) where
   answered = refl
 
 module _ (b : List ℕ) (p : Plan) (reals : ℕ) (plan : PlanIn b p reals) (link : ℕ) (fs : List Float) (us cells : List ℕ) (c : Counts) (m : Mover) (e : TimedEvent) (fs′ : List Float) (us′ cells′ : List ℕ) (r : Outcome)
-    (t : Tells (p .w) (p .join) fs us cells c m e fs′ us′ cells′ r) (dm : m ≡ moverAt (p .departure)) (de : e ≡ eventOf (p .departure) link Arrive (ofBits binary64 0)) (start joins : List ℕ) (net : Net) (v : NetIn (p .w) start fs us cells c net) where
+    (t : Tells (p .w) (p .join) fs us cells c m e fs′ us′ cells′ r) (last : ℕ) (leads : LeadsFrom (record { floats = fs; numbers = us }) (c .nodes) last link) (dm : m ≡ moverAt (p .departure) last)
+    (de : e ≡ eventOf (p .departure) link Arrive (ofBits binary64 0)) (start joins : List ℕ) (net : Net) (v : NetIn (p .w) start fs us cells c net) where
   arrives : OutcomeAs (goesOn (insertEvent (p .w .places) (joinGap b) net (originRun b) (originEvent b link Arrive (ofBits binary64 0)))) (p .w) start 0 fs′ us′ cells′ joins r
   unfolding originRun originEvent
   arrives =
-      subst (λ (j : Float). OutcomeAs (goesOn (insertEvent (p .w .places) j net (originRun b) (originEvent b link Arrive (ofBits binary64 0)))) (p .w) start 0 fs′ us′ cells′ joins r) (plan .join)
-      (subst (λ (x : TimedEvent). OutcomeAs (goesOn (insertEvent (p .w .places) (p .join) net (originRun b) x)) (p .w) start 0 fs′ us′ cells′ joins r) (de ∙ ap (λ (x : Float). eventOf x link Arrive (ofBits binary64 0)) (plan .departs))
-      (t start joins 0 net (originRun b) v (run-there (c .nodes) joins (departure b) m (originRun b) (dm ∙ ap moverAt (plan .departs)) refl refl refl refl (two-nodes v))))
+      event-from net (departure b) last (originEvent b link Arrive (ofBits binary64 0)) (p .w) start fs′ us′ cells′ joins r (p .w .places) (joinGap b) link (leads-net last link v leads) refl
+      (subst (λ (j : Float). OutcomeAs (goesOn (insertEvent (p .w .places) j net (runAt (departure b) last) (originEvent b link Arrive (ofBits binary64 0)))) (p .w) start 0 fs′ us′ cells′ joins r) (plan .join)
+      (subst (λ (x : TimedEvent). OutcomeAs (goesOn (insertEvent (p .w .places) (p .join) net (runAt (departure b) last) x)) (p .w) start 0 fs′ us′ cells′ joins r) (de ∙ ap (λ (x : Float). eventOf x link Arrive (ofBits binary64 0)) (plan .departs))
+      (t start joins 0 net (runAt (departure b) last) v (run-there (c .nodes) joins (departure b) last m (dm ∙ ap (λ (x : Float). moverAt x last) (plan .departs)) (leads .within)))))
 
   -- the run does not go on at the Arrive
   pub origin-stops : ((d : Counts) (n : Mover) → r ≡ On d n → ⊥) → OutcomeAs (originAnswer b (p .w .places) link net) (p .w) start 0 fs′ us′ cells′ joins r
@@ -157,7 +226,7 @@ module _ (b : List ℕ) (p : Plan) (reals : ℕ) (plan : PlanIn b p reals) (link
 
 -- ---- the run's leg is sought
 
-abbrev Filled : Answer After → Type 0
+abbrev pub Filled : Answer After → Type 0
 Filled (given x) = Unit
 Filled (refused n) = ⊥
 

@@ -15,11 +15,13 @@ use state::Plan;
 use state::State;
 use state::Turned;
 ghost use mathlib.Core.Path.{_≡_};
+ghost use mathlib.Core.Logic.{_≢_};
 ghost use mathlib.Core.Bool.{false};
 ghost use mathlib.Core.List.{List, [], _∷_};
 ghost use Prim.Native.Nat.{ℕ, _+_, _*_, _≤_, _<_};
 ghost use lib.ListN.{length};
 ghost use lib.Ieee.{Float, binary64, ofBits};
+ghost use Rattle.network.specs.Table.{nodeAt};
 ghost use Rattle.book.specs.Format.{links, origins, destinations, legs, originLink};
 ghost use Rattle.book.specs.Chains.{Readable};
 ghost use Rattle.legs.specs.Legs.{Started};
@@ -28,7 +30,7 @@ ghost use Rattle.driver.specs.Run.{Net, Run};
 ghost use Rattle.driver.specs.Growth.{originAt, originsOf};
 ghost use Rattle.runs.specs.Held.{Growing, NetIn, OutcomeAs, NotFewer};
 ghost use Rattle.state.specs.Held.{PlanIn};
-ghost use Rattle.origins.specs.Origins.{startState, originAnswer, Elsewhere, SomeOrigin, SomeOrigins, OriginsIn, OriginsAs, Sown, SomeSown, savedOrigin};
+ghost use Rattle.origins.specs.Origins.{startState, originAnswer, Elsewhere, LeadsFrom, OnlyStart, SomeOrigin, SomeOrigins, OriginsIn, OriginsAs, Sown, SomeSown, savedOrigin};
 
 // What growth goes by. The legs' units of cells stand first, then the nodes', then the links'; the path's points stand first in the reals, then the pairs of the runs that wait.
 pub fn plan_of(book: &[u8], s: Sections, places: usize) -> Plan
@@ -75,14 +77,14 @@ fn origin_event(departure: f64, link_idx: u32, est_type: EstType, offset: f64) -
     }
 }
 
-// A run at the start.
-fn origin_run(departure: f64) -> Mover
-    ensures { λ r. ⌜ r ≡ record { place = record { «time_to_next» = departure; «dist_to_next» = ofBits binary64 0; «idx_prev» = 1 }; added = false; count = 0 } ⌝ }
+// A run at the start, or at an alternative of it.
+fn origin_run(departure: f64, idx_prev: u32) -> Mover
+    ensures { λ r. ⌜ r ≡ record { place = record { «time_to_next» = departure; «dist_to_next» = ofBits binary64 0; «idx_prev» = «idx_prev» }; added = false; count = 0 } ⌝ }
 {
     let place = Place {
         time_to_next: departure,
         dist_to_next: 0.0,
-        idx_prev: 1,
+        idx_prev,
     };
     Mover {
         place,
@@ -102,7 +104,7 @@ pub fn first_state() -> State
         joined: 0,
         last_end: 0,
     };
-    let mover = origin_run(0.0);
+    let mover = origin_run(0.0, 1);
     let front = Front {
         moves: false,
         mover,
@@ -117,7 +119,7 @@ pub fn first_state() -> State
     }
 }
 
-// An origin's Arrive at offset 0 and its Clear at the train's length.
+// An origin's Arrive at offset 0 and its Clear at the train's length. The Arrive is sought from the start's last alternative on: those before it lead to other links.
 fn origin_events(
     floats: &mut [f64],
     numbers: &mut [u32],
@@ -125,14 +127,16 @@ fn origin_events(
     p: Plan,
     c: Counts,
     link_idx: u32,
+    last: u32,
 ) -> Outcome
     requires { ⌜ Growing (p .w) (now floats) (now numbers) (now cells) c ⌝ }
     requires { ⌜ «link_idx» < p .w .links ⌝ }
+    requires { ⌜ LeadsFrom (record { floats = now floats; numbers = now numbers }) (c .nodes) last «link_idx» ⌝ }
     ensures answer { λ r. ⌜ ((b : List ℕ) (reals : ℕ) (start joins : List ℕ) (net : Net) → PlanIn b p reals → NetIn (p .w) start (now (floats .entry)) (now (numbers .entry)) (now (cells .entry)) c net → OutcomeAs (originAnswer b (p .w .places) «link_idx» net) (p .w) start 0 (now (floats .exit)) (now (numbers .exit)) (now (cells .exit)) joins r) ⌝ }
     ensures more { λ r. ⌜ NotFewer c r ⌝ }
 {
     let w = p.w;
-    let run = origin_run(p.departure);
+    let run = origin_run(p.departure, last);
     let arrive = origin_event(p.departure, link_idx, EstType::Arrive, 0.0);
     let first = runs::insert_event(floats, numbers, cells, w, p.join, c, run, arrive);
     let Outcome::On(counts, mover) = first else {
@@ -201,10 +205,12 @@ fn origin(
     p: Plan,
     g: State,
     row: usize,
+    last: u32,
 ) -> Turned
     requires { ⌜ PlanIn (now book) p (length (now reals)) ⌝ }
     requires { ⌜ row < origins (now book) ⌝ }
     requires { ⌜ SomeOrigin (now book) p (now floats) (now numbers) (now reals) (now cells) (now joins) row g ⌝ }
+    requires { ⌜ LeadsFrom (record { floats = now floats; numbers = now numbers }) (g .counts .nodes) last (originLink (now book) row) ⌝ }
     requires { ⌜ Started (now book) (now marks) ⌝ }
     requires { ⌜ 2 * links (now book) ≤ length (now marks) ⌝ }
     ensures { λ r. ⌜ ((rows : List ℕ) (net : Net) (runs : List Run) → OriginsIn (now (book .entry)) p (now (floats .entry)) (now (numbers .entry)) (now (reals .entry)) (now (cells .entry)) (now (joins .entry)) (row ∷ rows) g net runs → Elsewhere (now (book .entry)) (originLink (now (book .entry)) row) rows → OriginsAs (originAt (now (book .entry)) (p .w .places) (originLink (now (book .entry)) row) (record { net = net; saved = runs })) (now (book .entry)) p (now (floats .exit)) (now (numbers .exit)) (now (reals .exit)) (now (cells .exit)) (now (joins .entry)) rows r) ⌝ }
@@ -212,7 +218,7 @@ fn origin(
     let s = p.s;
     let at = book::origin_at(book, s, row);
     let counts = g.counts;
-    let became = origin_events(floats, numbers, cells, p, counts, at.link_idx);
+    let became = origin_events(floats, numbers, cells, p, counts, at.link_idx, last);
     match became {
         Outcome::On(more, mover) => {
             let place = mover.place;
@@ -234,6 +240,18 @@ fn origin(
     }
 }
 
+// The start's last alternative after an origin, by how many nodes there were before it: the first one's Arrive is behind the start, each later one's behind a Fake, the first node that is new.
+fn last_after(before: usize) -> u32
+    requires { ⌜ before ≤ 65535 ⌝ }
+    ensures first { λ r. ⌜ (before ≡ 2 → r ≡ 1) ⌝ }
+    ensures later { λ r. ⌜ (before ≢ 2 → r ≡ before) ⌝ }
+{
+    if before == 2 {
+        return 1;
+    }
+    before as u32
+}
+
 // All kept origins, in the order in which they stand in the marks.
 pub fn origins(
     book: &[u8],
@@ -252,15 +270,18 @@ pub fn origins(
     requires { ⌜ 2 * links (now book) + destinations (now book) + origins (now book) ≤ length (now marks) ⌝ }
     requires { ⌜ kept ≡ length (keptOrigins (now book)) ⌝ }
     requires { ⌜ SomeOrigins (now book) p (now floats) (now numbers) (now reals) (now cells) (now joins) (keptOrigins (now book)) g ⌝ }
+    requires { ⌜ OnlyStart (nodeAt (now floats) (now numbers)) (g .counts .nodes) ⌝ }
     requires { ⌜ Started (now book) (now marks) ⌝ }
     ensures { λ r. ⌜ ((net : Net) (runs : List Run) → OriginsIn (now (book .entry)) p (now (floats .entry)) (now (numbers .entry)) (now (reals .entry)) (now (cells .entry)) (now (joins .entry)) (keptOrigins (now (book .entry))) g net runs → OriginsAs (originsOf (now (book .entry)) (p .w .places) (keptOrigins (now (book .entry))) (record { net = net; saved = runs })) (now (book .entry)) p (now (floats .exit)) (now (numbers .exit)) (now (reals .exit)) (now (cells .exit)) (now (joins .entry)) [] r) ⌝ }
 {
     let s = p.s;
     let rows_at = 2 * s.links + s.destinations;
     let mut state = g;
+    let mut last = 1;
     let mut k = 0;
     while k < kept {
         let row = marks[rows_at + k] as usize;
+        let counts = state.counts;
         let turned = origin(
             book,
             floats,
@@ -272,11 +293,13 @@ pub fn origins(
             p,
             state,
             row,
+            last,
         );
         let Turned::On(next) = turned else {
             return turned;
         };
         state = next;
+        last = last_after(counts.nodes);
         k += 1;
     }
     Turned::On(state)

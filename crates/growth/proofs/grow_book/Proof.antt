@@ -1,7 +1,7 @@
 -- `growth::grow_book` meets its contract: proofs/Growing.antt.
 use borrow.Author.Needs.{needs}
 use native.Mathlib.Omega.{arith}
-use Rattle.growth.proofs.Growing.{book-small, places-fit, first-fit, book-some, book-grown}
+use Rattle.growth.proofs.Growing.{book-small, places-fit, first-fit, book-start, book-some, book-grown}
 use Rattle.growth.proofs.grow_book.Statement.{statement}
 use Rattle.growth.proofs.grow_book.Tie as tie
 
@@ -20,7 +20,7 @@ run-all-requires c κs =
     let p = c .before .before .before .before .before .before .before .before .before .before .before .before .before .before .plan-of .ensures in
     let f = c .before .before .before .before .before .before .before .before .before .before .before .first-nodes .ensures in
     let plan = p .0 _ (r .1 .1 .0) in
-    (plan, (r .0 .marked, (r .1 .1 .1 .1, (r .0 .kept, (book-some (r .0) _ _ plan (r .1 .0) (c .before .before .before .before .before .before .before .before .before .before .before .before .before .before .before .before .before .before .before .before .before .before .before .args .floats .now) (c .before .before .before .before .before .before .before .before .before .before .before .before .before .before .before .before .before .before .before .before .before .before .before .args .numbers .now) _ (c .before .before .before .before .before .before .before .before .before .before .before .before .before .before .before .before .places .ensures) (p .1 .0) (c .before .before .before .before .before .before .before .before .before .before .before .before .before .before .before .if1 .left) (p .1 .1) (r .1 .1 .1 .0) _ _ (f .0) (f .1) _, (r .0 .starts, (omega arith, (omega arith, omega arith))))))))
+    (plan, (r .0 .marked, (r .1 .1 .1 .1, (r .0 .kept, (book-some (r .0) _ _ plan (r .1 .0) (c .before .before .before .before .before .before .before .before .before .before .before .before .before .before .before .before .before .before .before .before .before .before .before .args .floats .now) (c .before .before .before .before .before .before .before .before .before .before .before .before .before .before .before .before .before .before .before .before .before .before .before .args .numbers .now) _ (c .before .before .before .before .before .before .before .before .before .before .before .before .before .before .before .before .places .ensures) (p .1 .0) (c .before .before .before .before .before .before .before .before .before .before .before .before .before .before .before .if1 .left) (p .1 .1) (r .1 .1 .1 .0) _ _ (f .0) (f .1) _, (book-start (c .before .before .before .before .before .before .before .before .before .before .before .before .before .before .before .before .before .before .before .before .before .before .before .args .floats .now) (c .before .before .before .before .before .before .before .before .before .before .before .before .before .before .before .before .before .before .before .before .before .before .before .args .numbers .now) _ (c .before .before .before .before .before .before .before .before .before .before .before .before .before .before .before .before .places .ensures) (c .before .before .before .before .before .before .before .before .before .before .before .before .before .before .before .if1 .left) _ _ _ (f .0) (f .1), (r .0 .starts, (omega arith, (omega arith, omega arith)))))))))
 
 returns-2 : tie.Need-returns-2
 returns-2 c =

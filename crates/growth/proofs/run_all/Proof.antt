@@ -1,12 +1,12 @@
 -- `growth::run_all` meets its contract: proofs/Growing.antt.
 use borrow.Author.Needs.{needs}
 use native.Mathlib.Omega.{arith}
-use Rattle.growth.proofs.Growing.{all-some, all-plan, all-stopped, all-driving, all-refused, all-closing, all-grown}
+use Rattle.growth.proofs.Growing.{all-some, all-start, all-plan, all-stopped, all-driving, all-refused, all-closing, all-grown}
 use Rattle.growth.proofs.run_all.Statement.{statement}
 use Rattle.growth.proofs.run_all.Tie as tie
 
 origins-requires : tie.Need-origins-requires
-origins-requires c κs = let r = c .before .before .before .before .before .before .before .before .before .before .before .before .before .before .before .pre in (r .0, (r .1 .0, (r .1 .1 .0, (r .1 .1 .1 .0, (all-some _ _ _ _ _ _ _ _ (c .before .before .before .before .before .first-state .ensures) (r .1 .1 .1 .1 .0), r .1 .1 .1 .1 .1 .0)))))
+origins-requires c κs = let r = c .before .before .before .before .before .before .before .before .before .before .before .before .before .before .before .pre in (r .0, (r .1 .0, (r .1 .1 .0, (r .1 .1 .1 .0, (all-some _ _ _ _ _ _ _ _ (c .before .before .before .before .before .first-state .ensures) (r .1 .1 .1 .1 .0), (all-start _ _ _ (c .before .before .before .before .before .first-state .ensures) (r .1 .1 .1 .1 .1 .0), r .1 .1 .1 .1 .1 .1 .0))))))
 
 returns : tie.Need-returns
 returns c = let o = c .before .before .before .before .before .before .before .before .before .before .before .origins in λ net d. all-stopped _ _ _ _ _ _ _ _ (c .before .before .before .before .before .before .before .before .before .before .before .before .before .before .before .before .before .first-state .ensures) _ _ _ _ (o .result) (o .ensures) _ (c .before .planted .given .1) net d
@@ -16,7 +16,7 @@ drive-requires c κs =
     let r = c .before .before .before .before .before .before .before .before .before .before .before .before .before .before .before .before .before .before .before .before .before .before .before .before .before .before .before .before .before .before .before .before .before .before .pre in
     let o = c .before .before .before .before .before .before .before .before .before .before .before .before .before .before .before .before .before .before .origins in
     let q = r .1 .1 .1 .1 in
-    (all-plan (r .0) (omega (arith, o .kept)), (r .1 .0, (omega (arith, r .1 .1 .0), (all-driving _ _ _ _ _ _ _ _ (c .before .before .before .before .before .before .before .before .before .before .before .before .before .before .before .before .before .before .before .before .before .before .before .before .first-state .ensures) _ _ _ _ (o .result) (o .ensures) _ (c .before .before .before .before .before .before .before .before .planted2 .given .1) (q .0), q .1 .1))))
+    (all-plan (r .0) (omega (arith, o .kept)), (r .1 .0, (omega (arith, r .1 .1 .0), (all-driving _ _ _ _ _ _ _ _ (c .before .before .before .before .before .before .before .before .before .before .before .before .before .before .before .before .before .before .before .before .before .before .before .before .first-state .ensures) _ _ _ _ (o .result) (o .ensures) _ (c .before .before .before .before .before .before .before .before .planted2 .given .1) (q .0), q .1 .1 .1))))
 
 close-requires : tie.Need-close-requires
 close-requires c κs =

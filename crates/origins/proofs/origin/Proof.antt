@@ -3,7 +3,7 @@ use borrow.Author.Needs.{needs}
 use native.Mathlib.Omega.{arith}
 use Rattle.book.proofs.Given.{origin-float, origin-link, origin-named}
 use Rattle.book.proofs.Places.{sized-origins}
-use Rattle.origins.proofs.Planting.{some-sown, origin-on, origin-not, origin-never}
+use Rattle.origins.proofs.Planting.{leads-as, some-sown, origin-on, origin-not, origin-never}
 use Rattle.origins.proofs.origin.Statement.{statement}
 use Rattle.origins.proofs.origin.Tie as tie
 
@@ -13,12 +13,13 @@ origin-at-requires c κs = let r = c .before .before .before .before .before .be
 origin-events-requires : tie.Need-origin-events-requires
 origin-events-requires c κs =
     let o = c .before .before .before .before .before .before .before .before .before .before .before .before .before .pre .1 .1 .0 .origins in
-    (record { start = _; net = _; holds = o .holds .grown }, omega (arith, origin-link _ _ (c .before .before .before .before .origin-at .ensures), origin-named _ (c .before .before .before .before .before .before .before .before .before .before .before .before .before .pre .0 .readable .indices) _ (c .before .before .before .before .before .before .before .before .before .before .before .before .before .pre .1 .0), c .before .before .before .before .before .before .before .before .before .before .before .before .before .pre .0 .all-links))
+    let l = origin-link _ _ (c .before .before .before .before .origin-at .ensures) in
+    (record { start = _; net = _; holds = o .holds .grown }, (omega (arith, l, origin-named _ (c .before .before .before .before .before .before .before .before .before .before .before .before .before .pre .0 .readable .indices) _ (c .before .before .before .before .before .before .before .before .before .before .before .before .before .pre .1 .0), c .before .before .before .before .before .before .before .before .before .before .before .before .before .pre .0 .all-links), leads-as _ _ _ _ _ l (c .before .before .before .before .before .before .before .before .before .before .before .before .before .pre .1 .1 .1 .0)))
 
 save-origin-requires : tie.Need-save-origin-requires
 save-origin-requires c κs =
     let e = c .before .before .before .before .before .before .before .before .before .before .before .before .origin-events in
-    (c .before .before .before .before .before .before .before .before .before .before .before .before .before .before .before .before .before .before .before .before .before .before .before .before .before .before .pre .0, (some-sown _ _ _ _ _ _ _ _ _ _ (origin-link _ _ (c .before .before .before .before .before .before .before .before .before .before .before .before .before .before .before .before .before .origin-at .ensures)) (c .before .before .before .before .before .before .before .before .before .before .before .before .before .before .before .before .before .before .before .before .before .before .before .before .before .before .pre .0) _ _ _ (omega (arith, e .kept)) (e .result) (e .ensures .1) (e .ensures .0) (c .before .before .before .before .before .before .before .before .before .before .before .before .before .before .before .before .before .before .before .before .before .before .before .before .before .before .pre .1 .1 .0) _ _ (c .before .before .before .before .became .given .1), (c .before .before .before .before .before .before .before .before .before .before .before .before .before .before .before .before .before .before .before .before .before .before .before .before .before .before .pre .1 .1 .1 .0, (c .before .before .before .before .before .before .before .before .before .before .before .before .before .before .before .before .before .before .before .before .before .before .before .before .before .before .pre .1 .1 .1 .1, omega (arith, origin-link _ _ (c .before .before .before .before .before .before .before .before .before .before .before .before .before .before .before .before .before .origin-at .ensures), origin-named _ (c .before .before .before .before .before .before .before .before .before .before .before .before .before .before .before .before .before .before .before .before .before .before .before .before .before .before .pre .0 .readable .indices) _ (c .before .before .before .before .before .before .before .before .before .before .before .before .before .before .before .before .before .before .before .before .before .before .before .before .before .before .pre .1 .0))))))
+    (c .before .before .before .before .before .before .before .before .before .before .before .before .before .before .before .before .before .before .before .before .before .before .before .before .before .before .pre .0, (some-sown _ _ _ _ _ _ _ _ _ _ (origin-link _ _ (c .before .before .before .before .before .before .before .before .before .before .before .before .before .before .before .before .before .origin-at .ensures)) (c .before .before .before .before .before .before .before .before .before .before .before .before .before .before .before .before .before .before .before .before .before .before .before .before .before .before .pre .0) _ _ _ (omega (arith, e .kept)) (e .result) (e .ensures .1) (e .ensures .0) (c .before .before .before .before .before .before .before .before .before .before .before .before .before .before .before .before .before .before .before .before .before .before .before .before .before .before .pre .1 .1 .0) _ _ (c .before .before .before .before .became .given .1), (c .before .before .before .before .before .before .before .before .before .before .before .before .before .before .before .before .before .before .before .before .before .before .before .before .before .before .pre .1 .1 .1 .1 .0, (c .before .before .before .before .before .before .before .before .before .before .before .before .before .before .before .before .before .before .before .before .before .before .before .before .before .before .pre .1 .1 .1 .1 .1, omega (arith, origin-link _ _ (c .before .before .before .before .before .before .before .before .before .before .before .before .before .before .before .before .before .origin-at .ensures), origin-named _ (c .before .before .before .before .before .before .before .before .before .before .before .before .before .before .before .before .before .before .before .before .before .before .before .before .before .before .pre .0 .readable .indices) _ (c .before .before .before .before .before .before .before .before .before .before .before .before .before .before .before .before .before .before .before .before .before .before .before .before .before .before .pre .1 .0))))))
 
 returns : tie.Need-returns
 returns c =
