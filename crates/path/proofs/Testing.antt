@@ -11,37 +11,43 @@ use Rattle.floats.proofs.Order.{not-le}
 use Rattle.walk.specs.declared.Heads.{Heads}
 use Rattle.walk.specs.declared.PassedPoint.{PassedPoint}
 use Rattle.walk.specs.Course.{Course, Walkable}
-use Rattle.walk.specs.Walk.{start, passedFrom, pointsPassed, reachesLast, badPoint, someBad, row11, Within}
+use Rattle.walk.specs.Walk.{passedFrom, pointsPassed, reachesLast, badPoint, someBad, row11, Within}
 use Rattle.walk.proofs.Searches.{size-number}
 use Rattle.path.specs.Kept.{Sound}
 
 -- ---- the loop
 
-pub record Testing (c : Course) (h : Heads) : Type 0 where
+-- the next event is bad, or it is what comes behind it that counts
+pub bad-first : (c : Course) (h g : Heads) (p : PassedPoint) → passedFrom c h ≡ p ∷ passedFrom c g → badPoint p ≡ true → someBad (passedFrom c h) ≡ true
+unfolding someBad
+bad-first c h g p e b = ap someBad e ∙ or-left (badPoint p) (someBad (passedFrom c g)) b
+
+pub fine-first : (c : Course) (h g : Heads) (p : PassedPoint) → passedFrom c h ≡ p ∷ passedFrom c g → badPoint p ≡ false → someBad (passedFrom c h) ≡ someBad (passedFrom c g)
+unfolding someBad
+fine-first c h g p e b = ap someBad e ∙ ap (λ (x : Bool). x || someBad (passedFrom c g)) b
+
+pub record Testing (c : Course) (from h : Heads) : Type 0 where
   pub within : Within c h
-  pub left : someBad (passedFrom c h) ≡ someBad (pointsPassed c)
+  pub left : someBad (passedFrom c h) ≡ someBad (passedFrom c from)
 
-module _ (c : Course) where
-  pub test-start : (h : Heads) → h ≡ start c → Within c h → Testing c h
-  unfolding pointsPassed
-  test-start h e w = record { within = w; left = ap (λ (x : Heads). someBad (passedFrom c x)) e }
+module _ (c : Course) (from : Heads) where
+  pub test-start : Within c from → Testing c from from
+  test-start w = record { within = w; left = refl }
 
-  pub test-end : {h : Heads} → Testing c h → passedFrom c h ≡ [] → false ≡ someBad (pointsPassed c)
+  pub test-end : {h : Heads} → Testing c from h → passedFrom c h ≡ [] → false ≡ someBad (passedFrom c from)
   unfolding someBad
   test-end t e = sym (sym (t .left) ∙ ap someBad e)
 
-  pub test-bad : {h : Heads} (g : Heads) (p : PassedPoint) → Testing c h → passedFrom c h ≡ p ∷ passedFrom c g → badPoint p ≡ true → true ≡ someBad (pointsPassed c)
-  unfolding someBad
-  test-bad {h} g p t e b = sym (sym (t .left) ∙ ap someBad e ∙ or-left (badPoint p) (someBad (passedFrom c g)) b)
+  pub test-bad : {h : Heads} (g : Heads) (p : PassedPoint) → Testing c from h → passedFrom c h ≡ p ∷ passedFrom c g → badPoint p ≡ true → true ≡ someBad (passedFrom c from)
+  test-bad {h} g p t e b = sym (sym (t .left) ∙ bad-first c h g p e b)
 
-  pub test-on : {h : Heads} (g : Heads) (p : PassedPoint) → Testing c h → passedFrom c h ≡ p ∷ passedFrom c g → Within c g → badPoint p ≡ false → Testing c g
-  unfolding someBad
-  test-on {h} g p t e w b = record { within = w; left = ap (λ (x : Bool). x || someBad (passedFrom c g)) (sym b) ∙ sym (ap someBad e) ∙ t .left }
+  pub test-on : {h : Heads} (g : Heads) (p : PassedPoint) → Testing c from h → passedFrom c h ≡ p ∷ passedFrom c g → Within c g → badPoint p ≡ false → Testing c from g
+  test-on {h} g p t e w b = record { within = w; left = sym (fine-first c h g p e b) ∙ t .left }
 
-  pub test-less : (h g : Heads) (p : PassedPoint) → passedFrom c h ≡ p ∷ passedFrom c g → length (passedFrom c g) < length (passedFrom c h)
-  test-less h g p e =
-      let l : length (passedFrom c h) ≡ length (p ∷ passedFrom c g) = ap length e in
-      omega arith
+pub test-less : (c : Course) (h g : Heads) (p : PassedPoint) → passedFrom c h ≡ p ∷ passedFrom c g → length (passedFrom c g) < length (passedFrom c h)
+test-less c h g p e =
+    let l : length (passedFrom c h) ≡ length (p ∷ passedFrom c g) = ap length e in
+    omega arith
 
 -- ---- both parts of row 11
 

@@ -1,8 +1,9 @@
-// A run's path in the work space, the movement of a leg along it, and row 11. Contracts: specs/.
+// A run's path in the work space, the movement of a leg along it, and row 11 for what is left of it. Contracts: specs/.
 use book::Sections;
 use legs::TakenLeg;
 use network::LinkEvent;
 use network::TimedEvent;
+use walk::Heads;
 use walk::Movement;
 use walk::Next;
 use walk::PassedPoint;
@@ -13,8 +14,7 @@ ghost use lib.Ieee.{binary64, nan, add};
 ghost use Rattle.book.specs.Format.{links, linkLength, floatOf, sampleWidth};
 ghost use Rattle.book.specs.Chains.{Readable};
 ghost use Rattle.walk.specs.Course.{courseOf, Held, Walkable};
-ghost use Rattle.walk.specs.Walk.{pointsPassed, someBad, row11};
-ghost use Rattle.path.specs.Kept.{Sound};
+ghost use Rattle.walk.specs.Walk.{passedFrom, someBad, Within};
 
 // Puts a link behind the `depth` links of a path: its name, and the point behind it.
 pub fn extend_path(
@@ -54,13 +54,14 @@ pub fn movement_of(s: Sections, leg: TakenLeg, depth: usize, length: f64) -> Mov
     }
 }
 
-// Whether an event of a leg whose samples don't reach the last point is bad.
-fn some_bad(book: &[u8], offsets: &[f64], m: Movement) -> bool
+// Whether an event is bad that is still to come behind these heads, in a leg whose samples don't reach the last point.
+pub fn some_bad(book: &[u8], offsets: &[f64], m: Movement, from: Heads) -> bool
     requires { ⌜ Held (now book) (now offsets) m ⌝ }
     requires { ⌜ Walkable (courseOf (now book) (now offsets) m) ⌝ }
-    ensures { λ r. ⌜ r ≡ someBad (pointsPassed (courseOf (now (book .entry)) (now (offsets .entry)) m)) ⌝ }
+    requires { ⌜ Within (courseOf (now book) (now offsets) m) from ⌝ }
+    ensures { λ r. ⌜ r ≡ someBad (passedFrom (courseOf (now (book .entry)) (now (offsets .entry)) m) from) ⌝ }
 {
-    let mut h = walk::start_heads(book, offsets, m);
+    let mut h = from;
     loop {
         let next = walk::next_event(book, offsets, m, h);
         let Next::Passed(p, g) = next else {
@@ -71,18 +72,6 @@ fn some_bad(book: &[u8], offsets: &[f64], m: Movement) -> bool
         }
         h = g;
     }
-}
-
-// Row 11 for a leg: a sample reaches the last point, or an event is bad.
-pub fn is_refused(book: &[u8], offsets: &[f64], m: Movement) -> bool
-    requires { ⌜ Held (now book) (now offsets) m ⌝ }
-    requires { ⌜ Sound (courseOf (now book) (now offsets) m) ⌝ }
-    ensures { λ r. ⌜ r ≡ row11 (courseOf (now (book .entry)) (now (offsets .entry)) m) ⌝ }
-{
-    if walk::reaches_last(book, offsets, m) {
-        return true;
-    }
-    some_bad(book, offsets, m)
 }
 
 // A point that is passed, as an event of the link that it names.

@@ -16,18 +16,19 @@ use Rattle.walk.specs.declared.Movement.{Movement}
 use Rattle.walk.specs.declared.Heads.{Heads}
 use Rattle.walk.specs.declared.PassedPoint.{PassedPoint}
 use Rattle.walk.specs.Course.{Course, courseOf, Walkable}
-use Rattle.walk.specs.Walk.{start, offsetNext, clearsNext, emits, turn, passedAs, passedNext, walk, turnsLeft, passedFrom, pointsPassed, Each, Within}
+use Rattle.walk.specs.Walk.{start, offsetNext, clearsNext, emits, turn, passedAs, passedNext, walk, turnsLeft, passedFrom, pointsPassed, badPoint, someBad, Each, Within}
 use Rattle.walk.proofs.Theorems.{never-the-last}
+use Rattle.path.proofs.Testing.{bad-first, fine-first}
 use Rattle.path.specs.Path.{eventAt, eventsAt}
 use Rattle.event_map.specs.declared.Layout.{Layout}
 use Rattle.event_map.specs.EventMap.{RealKind, Real}
-use Rattle.driver.specs.Run.{Answer, andThen, Net, Run, After, runEvent, nextEvent, runEvents}
+use Rattle.driver.specs.Run.{Answer, refused, andThen, Net, Run, After, runEvent, nextEvent, runEvents}
 use Rattle.driver.specs.Run.{Outcome as Became}
 use Rattle.runs.specs.declared.Counts.{Counts}
 use Rattle.runs.specs.declared.Mover.{Mover}
 use Rattle.runs.specs.declared.Outcome.{Outcome}
 use Rattle.runs.specs.declared.Outcome.the-variants.{On, Ended, Refused}
-use Rattle.runs.specs.Held.{NetIn, RunIn, Moving, Along, SomePath, GoesAs, OutcomeAs, NotFewer}
+use Rattle.runs.specs.Held.{NetIn, RunIn, Moving, Along, SomePath, GoesAs, OutcomeAs, NotFewer, unlessBad, stoppedAs}
 use Rattle.runs.proofs.Kept.{along-kept}
 
 -- ---- the points that are passed
@@ -114,6 +115,7 @@ module _ (b : List ℕ) (reals : List Float) (v : Movement) (w : Layout) (join :
       pub within : Within course h
       pub ahead : Each (Ahead (v .points)) (passedFrom course h)
       pub more : c₀ .nodes ≤ c .nodes
+      pub fine : someBad (pointsPassed course) ≡ someBad (passedFrom course h)
       pub goes : (start path : List ℕ) (leg : ℕ) (net : Net) (run : Run) → NetIn w start fs₀ us₀ cells₀ c₀ net → RunIn (c₀ .nodes) leg joins₀ m₀ run → Along b reals cells₀ w (v .points) path
           → OnWay start path leg fs us cells joins h c m (wholeOf path net run)
 
@@ -123,17 +125,18 @@ module _ (b : List ℕ) (reals : List Float) (v : Movement) (w : Layout) (join :
       within = k;
       ahead = subst (λ (x : Heads). Each (Ahead (v .points)) (passedFrom course x)) (sym e) (all-ahead course l);
       more = omega arith;
+      fine = ap (λ (x : Heads). someBad (passedFrom course x)) (sym e);
       goes = λ start path leg net run n r a. record { net = net; run = run; holds = n; runs = r; along = a; left = ap (λ (x : Heads). leftOf path x net run) e };
     }
 
     module _ {fs : List Float} {us cells joins : List ℕ} {h : Heads} {c : Counts} {m : Mover} (s : Going fs us cells joins h c m) where
       pub going-end : passedFrom course h ≡ [] → (start path : List ℕ) (leg : ℕ) (net : Net) (run : Run) → NetIn w start fs₀ us₀ cells₀ c₀ net → RunIn (c₀ .nodes) leg joins₀ m₀ run → Along b reals cells₀ w (v .points) path
-          → GoesAs (wholeOf path net run) w start leg fs us cells joins c m
-      unfolding runEvents eventsAt
+          → GoesAs (unlessBad (someBad (pointsPassed course)) (wholeOf path net run)) w start leg fs us cells joins c m
+      unfolding runEvents eventsAt someBad
       going-end e start path leg net run n r a =
           let o = s .goes start path leg net run n r a in
           let x : After = record { net = o .net; run = o .run } in
-          record { after = x; is = sym (o .left) ∙ ap (λ (ps : List PassedPoint). runEvents (w .places) join (eventsAt b path ps) x) e; net = o .holds; run = o .runs }
+          record { after = x; is = ap (λ (t : Bool). unlessBad t (wholeOf path net run)) (s .fine ∙ ap someBad e) ∙ sym (o .left) ∙ ap (λ (ps : List PassedPoint). runEvents (w .places) join (eventsAt b path ps) x) e; net = o .holds; run = o .runs }
 
       -- the next event
       module _ (p : PassedPoint) (g : Heads) (e : passedFrom course h ≡ p ∷ passedFrom course g) where
@@ -143,6 +146,10 @@ module _ (b : List ℕ) (reals : List Float) (v : Movement) (w : Layout) (join :
 
         next-ahead : Ahead (v .points) p
         next-ahead = next-all .0
+
+        -- it is bad
+        pub going-bad : badPoint p ≡ true → (answer : Answer Became) → unlessBad (someBad (pointsPassed course)) answer ≡ refused 11
+        going-bad d answer = ap (λ (t : Bool). unlessBad t answer) (s .fine ∙ bad-first course h g p e d)
 
         -- what is asked of it
         module _ (q : SomePath b reals cells₀ w (v .points)) (y : Moving w fs₀ us₀ cells₀ joins₀ c₀ m₀) where
@@ -161,7 +168,10 @@ module _ (b : List ℕ) (reals : List Float) (v : Movement) (w : Layout) (join :
         -- what became of it
         module _ (x : TimedEvent) (z : x ≡ pointEvent cells p) (fs′ : List Float) (us′ cells′ joins′ : List ℕ) (r : Outcome)
             (f : (start : List ℕ) (leg : ℕ) (net : Net) (run : Run) → NetIn w start fs us cells c net → RunIn (c .nodes) leg joins m run → OutcomeAs (runEvent (w .places) join net run x) w start leg fs′ us′ cells′ joins′ r)
-            (k : NotFewer c r) where
+            (k : NotFewer c r) (ok : badPoint p ≡ false) where
+          fine-left : someBad (pointsPassed course) ≡ someBad (passedFrom course g)
+          fine-left = s .fine ∙ fine-first course h g p e ok
+
           step : (path : List ℕ) (net : Net) (run : Run) → Along b reals cells w (v .points) path → leftOf path h net run ≡ thenLeft path g (runEvent (w .places) join net run x)
           unfolding runEvents eventsAt
           step path net run a =
@@ -174,25 +184,42 @@ module _ (b : List ℕ) (reals : List Float) (v : Movement) (w : Layout) (join :
           stopped (Ended d) i start path leg net run a o = record { after = o .after; is = step path net run a ∙ ap (thenLeft path g) (o .is); net = o .net }
           stopped (Refused n) i start path leg net run a o = step path net run a ∙ ap (thenLeft path g) o
 
-          pub going-stop : ((d : Counts) (n : Mover) → r ≡ On d n → ⊥) → (start path : List ℕ) (leg : ℕ) (net : Net) (run : Run) → NetIn w start fs₀ us₀ cells₀ c₀ net → RunIn (c₀ .nodes) leg joins₀ m₀ run → Along b reals cells₀ w (v .points) path
+          stays : ((d : Counts) (n : Mover) → r ≡ On d n → ⊥) → (start path : List ℕ) (leg : ℕ) (net : Net) (run : Run) → NetIn w start fs₀ us₀ cells₀ c₀ net → RunIn (c₀ .nodes) leg joins₀ m₀ run → Along b reals cells₀ w (v .points) path
               → OutcomeAs (wholeOf path net run) w start leg fs′ us′ cells′ joins′ r
-          going-stop i start path leg net run n u a =
+          stays i start path leg net run n u a =
               let o = s .goes start path leg net run n u a in
               subst (λ (y : Answer Became). OutcomeAs y w start leg fs′ us′ cells′ joins′ r) (o .left) (stopped r i start path leg (o .net) (o .run) (o .along) (f start leg (o .net) (o .run) (o .holds) (o .runs)))
 
-          pub stop-more : NotFewer c₀ r
-          stop-more = go r k
+          -- it is the last, unless a bad one is left
+          pub going-stop : ((d : Counts) (n : Mover) → r ≡ On d n → ⊥) → (r′ : Outcome) → r′ ≡ stoppedAs (someBad (passedFrom course g)) r
+              → (start path : List ℕ) (leg : ℕ) (net : Net) (run : Run) → NetIn w start fs₀ us₀ cells₀ c₀ net → RunIn (c₀ .nodes) leg joins₀ m₀ run → Along b reals cells₀ w (v .points) path
+              → OutcomeAs (unlessBad (someBad (pointsPassed course)) (wholeOf path net run)) w start leg fs′ us′ cells′ joins′ r′
+          going-stop i r′ q start path leg net run n u a =
+              subst (λ (t : Bool). OutcomeAs (unlessBad t (wholeOf path net run)) w start leg fs′ us′ cells′ joins′ r′) (sym fine-left)
+              (subst (OutcomeAs (unlessBad (someBad (passedFrom course g)) (wholeOf path net run)) w start leg fs′ us′ cells′ joins′) (sym q) (go (someBad (passedFrom course g))))
+            where
+              go : (t : Bool) → OutcomeAs (unlessBad t (wholeOf path net run)) w start leg fs′ us′ cells′ joins′ (stoppedAs t r)
+              go true = refl
+              go false = stays i start path leg net run n u a
+
+          pub stop-more : (r′ : Outcome) → r′ ≡ stoppedAs (someBad (passedFrom course g)) r → NotFewer c₀ r′
+          stop-more r′ q = subst (NotFewer c₀) (sym q) (either (someBad (passedFrom course g)))
             where
               go : (r : Outcome) → NotFewer c r → NotFewer c₀ r
               go (On d n) i = omega (arith, s .more)
               go (Ended d) i = omega (arith, s .more)
               go (Refused n) i = tt
 
+              either : (t : Bool) → NotFewer c₀ (stoppedAs t r)
+              either true = tt
+              either false = go r k
+
           pub going-on : Within course g → (d : Counts) (n : Mover) → r ≡ On d n → Going fs′ us′ cells′ joins′ g d n
           going-on l d n i = record {
             within = l;
             ahead = next-all .1;
             more = let y : c .nodes ≤ d .nodes = subst (NotFewer c) i k in omega (arith, s .more);
+            fine = fine-left;
             goes = λ start path leg net run a u j. on start path leg net run (s .goes start path leg net run a u j);
           }
             where

@@ -2,6 +2,7 @@
 -- A node's unit of cells has the map's two (event_map's specs), and in cell 2 what `ends` keeps of a node at which a run has finished.
 use mathlib.Core.Path.{_≡_}
 use mathlib.Core.Logic.{_≢_}
+use mathlib.Core.Bool.{Bool, true, false}
 use mathlib.Core.List.{List, [], _∷_}
 use Prim.Native.Nat.{ℕ, suc, _+_, _*_, _≤_, _<_}
 use lib.ListN.{length, getD}
@@ -101,3 +102,15 @@ abbrev pub NotFewer : Counts → Outcome → Type 0
 NotFewer c (On more m) = c .nodes ≤ more .nodes
 NotFewer c (Ended more) = c .nodes ≤ more .nodes
 NotFewer c (Refused k) = Unit
+
+-- ---- row 11 of a leg, asked as its events come
+
+-- a leg's answer, by whether one of its events is bad: row 11 is asked of all of them before any is inserted
+abbrev pub unlessBad : Bool → Answer Became → Answer Became
+unlessBad true answer = refused 11
+unlessBad false answer = answer
+
+-- what the code answers where a run stops before its leg's end, by whether an event is bad that is left
+abbrev pub stoppedAs : Bool → Outcome → Outcome
+stoppedAs true r = Refused 11
+stoppedAs false r = r

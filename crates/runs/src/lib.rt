@@ -4,6 +4,7 @@ use insertion::Inserted;
 use insertion::Place;
 use joins::Step;
 use network::TimedEvent;
+use walk::Heads;
 use walk::Movement;
 use walk::Next;
 ghost use mathlib.Core.Path.{_≡_};
@@ -11,11 +12,11 @@ ghost use mathlib.Core.List.{List};
 ghost use Prim.Native.Nat.{ℕ, _+_, _≤_, _<_};
 ghost use lib.ListN.{length};
 ghost use Rattle.walk.specs.Course.{courseOf, Held, Walkable};
-ghost use Rattle.walk.specs.Walk.{pointsPassed};
+ghost use Rattle.walk.specs.Walk.{passedFrom, pointsPassed, someBad, Within};
 ghost use Rattle.path.specs.Path.{eventsAt};
 ghost use Rattle.event_map.specs.EventMap.{Real};
 ghost use Rattle.driver.specs.Run.{Net, Run, countIf, insertEvent, goesOn, runEvent, runEvents};
-ghost use Rattle.runs.specs.Held.{NetIn, RunIn, Growing, Moving, Along, SomePath, OutcomeAs, NotFewer};
+ghost use Rattle.runs.specs.Held.{NetIn, RunIn, Growing, Moving, Along, SomePath, OutcomeAs, NotFewer, unlessBad, stoppedAs};
 
 // What is counted of a network: its nodes, event nodes, split Fakes and joins; and the latest node at which a run has finished, or 0.
 pub struct Counts {
@@ -179,7 +180,21 @@ pub fn run_event(
     }
 }
 
-// The events of a leg whose row 11 doesn't hold, one after the other, until the run ends.
+// What a leg gives whose run has stopped, or is refused, before its end: 11, if an event is bad that is left.
+fn stopped(book: &[u8], reals: &[f64], v: Movement, from: Heads, became: Outcome) -> Outcome
+    requires { ⌜ Held (now book) (now reals) v ⌝ }
+    requires { ⌜ Walkable (courseOf (now book) (now reals) v) ⌝ }
+    requires { ⌜ Within (courseOf (now book) (now reals) v) from ⌝ }
+    ensures { λ r. ⌜ r ≡ stoppedAs (someBad (passedFrom (courseOf (now (book .entry)) (now (reals .entry)) v) from)) became ⌝ }
+{
+    if path::some_bad(book, reals, v, from) {
+        return Outcome::Refused(11);
+    }
+    became
+}
+
+// The events of a leg whose samples don't reach the last point, one after the other, until the run ends. Row 11 goes before all that an event of the leg gives, so each is tested as it comes, and those
+// that are left where the run stops.
 pub fn run_events(
     book: &[u8],
     reals: &[f64],
@@ -202,7 +217,7 @@ pub fn run_events(
     requires { ⌜ 2048 ≤ length (now joins) ⌝ }
     requires { ⌜ 2048 ≤ length (now scratch) ⌝ }
     requires { ⌜ 4096 ≤ length (now stack) ⌝ }
-    ensures outcome { λ r. ⌜ ((start path : List ℕ) (leg : ℕ) (net : Net) (run : Run) → NetIn w start (now (floats .entry)) (now (numbers .entry)) (now (cells .entry)) c net → RunIn (c .nodes) leg (now (joins .entry)) m run → Along (now (book .entry)) (now (reals .entry)) (now (cells .entry)) w (v .points) path → OutcomeAs (runEvents (w .places) join (eventsAt (now (book .entry)) path (pointsPassed (courseOf (now (book .entry)) (now (reals .entry)) v))) (record { net = net; run = run })) w start leg (now (floats .exit)) (now (numbers .exit)) (now (cells .exit)) (now (joins .exit)) r) ⌝ }
+    ensures outcome { λ r. ⌜ ((start path : List ℕ) (leg : ℕ) (net : Net) (run : Run) → NetIn w start (now (floats .entry)) (now (numbers .entry)) (now (cells .entry)) c net → RunIn (c .nodes) leg (now (joins .entry)) m run → Along (now (book .entry)) (now (reals .entry)) (now (cells .entry)) w (v .points) path → OutcomeAs (unlessBad (someBad (pointsPassed (courseOf (now (book .entry)) (now (reals .entry)) v))) (runEvents (w .places) join (eventsAt (now (book .entry)) path (pointsPassed (courseOf (now (book .entry)) (now (reals .entry)) v))) (record { net = net; run = run }))) w start leg (now (floats .exit)) (now (numbers .exit)) (now (cells .exit)) (now (joins .exit)) r) ⌝ }
     ensures more { λ r. ⌜ NotFewer c r ⌝ }
 {
     let mut h = walk::start_heads(book, reals, v);
@@ -213,6 +228,9 @@ pub fn run_events(
         let Next::Passed(p, g) = next else {
             return Outcome::On(counts, mover);
         };
+        if walk::is_bad_point(p) {
+            return Outcome::Refused(11);
+        }
         let e = path::event_at(cells, p);
         let became = run_event(
             floats,
@@ -228,7 +246,7 @@ pub fn run_events(
             e,
         );
         let Outcome::On(more, moved) = became else {
-            return became;
+            return stopped(book, reals, v, g, became);
         };
         counts = more;
         mover = moved;

@@ -1,5 +1,5 @@
 -- The walk of a leg: its path in the work space, what the walk looks at, and that this is the leg of the definition.
-use mathlib.Core.Path.{_≡_, sym, ap, _∙_, subst}
+use mathlib.Core.Path.{_≡_, refl, sym, ap, _∙_, subst}
 use mathlib.Core.Logic.{_⊎_, inl, inr, _≢_}
 use mathlib.Core.Bool.{Bool, true, false, _||_}
 use mathlib.Core.List.{List, [], _∷_}
@@ -8,7 +8,7 @@ use native.Mathlib.Omega.{arith}
 use lib.ListN.{length, getD, set, length-set}
 use lib.Seq.{getD-set-other}
 use lib.Ieee.{Float, nan, binary64, add}
-use Rattle.fields.proofs.Below.{sum-more, sum-part, none-left}
+use Rattle.fields.proofs.Below.{sum-more, sum-part}
 use Rattle.floats.specs.Floats.{bookFloat}
 use Rattle.book.specs.declared.Leg.{Leg}
 use Rattle.book.specs.Format.{links, legs, samples, samplesAt, legAt, legLink, legSamples, firstSample, linkLength, lengthBits, floatOf}
@@ -30,12 +30,12 @@ use Rattle.path.specs.Path.{pathOf, linkOf, pointLink, legCourse, eventsAt, leg
 use Rattle.path.specs.Kept.{PathIn, Sound}
 use Rattle.path.proofs.Extending.{path-begins, path-extends}
 use Rattle.path.proofs.Legs.{leg-held, leg-sound, leg-alike}
-use Rattle.path.proofs.Testing.{walkable}
+use Rattle.path.proofs.Testing.{reaches, passes, walkable}
 use Rattle.driver.specs.Run.{Answer, Net, Run, Outcome, runEvents}
 use Rattle.driver.specs.Growth.{joinGap}
 use Rattle.runs.specs.declared.Outcome.{Outcome as Became}
 use Rattle.runs.specs.declared.Outcome.the-variants.{Refused}
-use Rattle.runs.specs.Held.{NetIn, RunIn, Moving, Along, SomePath, OutcomeAs}
+use Rattle.runs.specs.Held.{NetIn, RunIn, Moving, Along, SomePath, OutcomeAs, unlessBad}
 use Rattle.state.specs.declared.Plan.{Plan}
 use Rattle.state.specs.declared.State.{State}
 use Rattle.state.specs.Held.{PlanIn, DriveIn, Driving, FrontIn, WaitIn, RunsIn, pathBefore}
@@ -56,10 +56,6 @@ row-alike c d s a = go (known (reachesLast c))
     go (inr e) =
         ap (λ (t : Bool). t || someBad (pointsPassed c)) (reaches-alike a (s .some-points))
         ∙ ap (λ (ps : List PassedPoint). reachesLast d || someBad ps) (passed-alike a (walkable c s (sym e)))
-
-row-walkable : (c : Course) → Sound c → row11 c ≡ false → Walkable c
-unfolding row11
-row-walkable c s e = walkable c s (sym (none-left (reachesLast c) (someBad (pointsPassed c)) e))
 
 -- ---- the run at the front
 
@@ -241,15 +237,15 @@ module _ {b : List ℕ} {p : Plan} {fs : List Float} {us : List ℕ} {reals : Li
       outcome = subst (λ (xs : List ℕ). OutcomeAs answer (p .w) xs (run .leg) fs′ us′ cells″ joins′ r) cells-are o;
     }
 
-    -- row 11 refuses it
-    pub walk-refused : (t : Bool) → t ≡ row11 (courseOf b reals′ v) → t ≡ true → (fs′ : List Float) (us′ joins′ : List ℕ) → WalkedAs b p (run .leg) (g .front .depth) (legOutcome b (p .w .places) net run) reals cells fs′ us′ reals′ cells′ joins′ (Refused 11)
+    -- a sample reaches the last point
+    pub walk-refused : (t : Bool) → t ≡ reachesLast (courseOf b reals′ v) → t ≡ true → (fs′ : List Float) (us′ joins′ : List ℕ) → WalkedAs b p (run .leg) (g .front .depth) (legOutcome b (p .w .places) net run) reals cells fs′ us′ reals′ cells′ joins′ (Refused 11)
     unfolding legOutcome
-    walk-refused t e f fs′ us′ joins′ = walked fs′ us′ cells′ joins′ (Refused 11) (ap (λ (s : Bool). outcomeAs s b (p .w .places) net run) (sym row-is ∙ sym e ∙ f))
+    walk-refused t e f fs′ us′ joins′ = walked fs′ us′ cells′ joins′ (Refused 11) (ap (λ (s : Bool). outcomeAs s b (p .w .places) net run) (sym row-is ∙ sym (reaches (courseOf b reals′ v) (sym f ∙ e))))
 
-    -- or lets it through
-    module _ (t : Bool) (tested : t ≡ row11 (courseOf b reals′ v)) (free : t ≡ false) where
+    -- or none does
+    module _ (t : Bool) (tested : t ≡ reachesLast (courseOf b reals′ v)) (free : t ≡ false) where
       pub walk-walkable : Walkable (courseOf b reals′ v)
-      walk-walkable = row-walkable (courseOf b reals′ v) walk-sound (sym tested ∙ free)
+      walk-walkable = walkable (courseOf b reals′ v) walk-sound (sym free ∙ tested)
 
       along : Along b reals′ cells′ (p .w) (v .points) (pathOf b (run .leg))
       along = record {
@@ -272,16 +268,21 @@ module _ {b : List ℕ} {p : Plan} {fs : List Float} {us : List ℕ} {reals : Li
       unfolding legEvents
       events-are = ap (eventsAt b (pathOf b (run .leg))) (passed-alike alike walk-walkable)
 
-      outcome-is : runEvents (p .w .places) (p .join) (eventsAt b (pathOf b (run .leg)) (pointsPassed (courseOf b reals′ v))) (record { net = net; run = run }) ≡ legOutcome b (p .w .places) net run
+      outcome-is : unlessBad (someBad (pointsPassed (courseOf b reals′ v))) (runEvents (p .w .places) (p .join) (eventsAt b (pathOf b (run .leg)) (pointsPassed (courseOf b reals′ v))) (record { net = net; run = run })) ≡ legOutcome b (p .w .places) net run
       unfolding legOutcome
       outcome-is =
-          ap (λ (x : Float). runEvents (p .w .places) x (eventsAt b (pathOf b (run .leg)) (pointsPassed (courseOf b reals′ v))) (record { net = net; run = run })) (plan .join)
-          ∙ ap (λ (es : List TimedEvent). runEvents (p .w .places) (joinGap b) es (record { net = net; run = run })) events-are
-          ∙ ap (λ (s : Bool). outcomeAs s b (p .w .places) net run) (sym (sym row-is ∙ sym tested ∙ free))
+          ap (λ (x : Float). unlessBad (someBad (pointsPassed (courseOf b reals′ v))) (runEvents (p .w .places) x (eventsAt b (pathOf b (run .leg)) (pointsPassed (courseOf b reals′ v))) (record { net = net; run = run }))) (plan .join)
+          ∙ ap (λ (es : List TimedEvent). unlessBad (someBad (pointsPassed (courseOf b reals′ v))) (runEvents (p .w .places) (joinGap b) es (record { net = net; run = run }))) events-are
+          ∙ as-tested (someBad (pointsPassed (courseOf b reals′ v)))
+          ∙ ap (λ (s : Bool). outcomeAs s b (p .w .places) net run) (passes (courseOf b reals′ v) (someBad (pointsPassed (courseOf b reals′ v))) (sym free ∙ tested) refl ∙ row-is)
+        where
+          as-tested : (s : Bool) → unlessBad s (runEvents (p .w .places) (joinGap b) (legEvents b (run .leg)) (record { net = net; run = run })) ≡ outcomeAs s b (p .w .places) net run
+          as-tested true = refl
+          as-tested false = refl
 
       pub walk-goes : (fs′ : List Float) (us′ cells″ joins′ : List ℕ) (r : Became)
           → ((start path : List ℕ) (leg : ℕ) (net : Net) (run : Run) → NetIn (p .w) start fs us cells′ (g .counts) net → RunIn (g .counts .nodes) leg joins (g .front .mover) run → Along b reals′ cells′ (p .w) (v .points) path
-          → OutcomeAs (runEvents (p .w .places) (p .join) (eventsAt b path (pointsPassed (courseOf b reals′ v))) (record { net = net; run = run })) (p .w) start leg fs′ us′ cells″ joins′ r)
+          → OutcomeAs (unlessBad (someBad (pointsPassed (courseOf b reals′ v))) (runEvents (p .w .places) (p .join) (eventsAt b path (pointsPassed (courseOf b reals′ v))) (record { net = net; run = run }))) (p .w) start leg fs′ us′ cells″ joins′ r)
           → WalkedAs b p (run .leg) (g .front .depth) (legOutcome b (p .w .places) net run) reals cells fs′ us′ reals′ cells″ joins′ r
       walk-goes fs′ us′ cells″ joins′ r f =
           walked fs′ us′ cells″ joins′ r (subst (λ (y : Answer Outcome). OutcomeAs y (p .w) cells′ (run .leg) fs′ us′ cells″ joins′ r) outcome-is (f cells′ (pathOf b (run .leg)) (run .leg) net run grown runs along))

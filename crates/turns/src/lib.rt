@@ -276,7 +276,7 @@ fn end_leg(
     go_on(book, reals, cells, marks, joins, p, g, leg.link_idx)
 }
 
-// The events of the leg of the run at the front, behind its path: row 11 for all of them, then one after the other.
+// The events of the leg of the run at the front, behind its path: one after the other, unless row 11 refuses them.
 fn walk_leg(
     book: &[u8],
     floats: &mut [f64],
@@ -307,7 +307,7 @@ fn walk_leg(
     let taken = legs::leg_samples(cells, front.leg);
     path::extend_path(book, s, reals, cells, front.depth, leg.link_idx);
     let v = path::movement_of(s, taken, front.depth + 1, p.length);
-    if path::is_refused(book, reals, v) {
+    if walk::reaches_last(book, reals, v) {
         return Outcome::Refused(11);
     }
     runs::run_events(

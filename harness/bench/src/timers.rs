@@ -12,9 +12,16 @@ fn ms(time: Duration) -> f64 {
     time.as_secs_f64() * 1e3
 }
 
-/// The best of both, each asked once a run.
+/// One call's time out of so many in a row.
+fn each(calls: u32, call: &mut impl FnMut() -> Duration) -> f64 {
+    ms((0..calls).map(|_| call()).sum::<Duration>() / calls)
+}
+
+/// The best of both. A run is one call, or as many in a row as take a millisecond: a short call alone would be timed with cold caches, which a caller of many has once.
 fn best(mut ours: impl FnMut() -> Duration, mut theirs: impl FnMut() -> Duration) -> Times {
-    (0..RUNS).map(|_| (ms(ours()), ms(theirs()))).fold((f64::INFINITY, f64::INFINITY), |a, b| (a.0.min(b.0), a.1.min(b.1)))
+    let shorter = ms(ours().min(theirs()));
+    let calls = (1.0 / shorter).clamp(1.0, 1000.0) as u32;
+    (0..RUNS).map(|_| (each(calls, &mut ours), each(calls, &mut theirs))).fold((f64::INFINITY, f64::INFINITY), |a, b| (a.0.min(b.0), a.1.min(b.1)))
 }
 
 fn took<T>(work: impl FnOnce() -> T) -> Duration {

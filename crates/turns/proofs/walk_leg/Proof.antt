@@ -2,6 +2,7 @@
 use borrow.Author.Needs.{needs}
 use native.Mathlib.Omega.{arith}
 use Rattle.book.proofs.Places.{sized-legs}
+use Rattle.walk.specs.Course.{courseOf}
 use Rattle.state.proofs.Keeping.{plan-legs}
 use Rattle.turns.proofs.Walking.{Looks, some-front, some-leg, leg-inside, depth-inside, link-inside, samples-inside, section-inside, walk-held, walk-sound, walk-refused, walk-walkable, walk-path, walk-moving, walk-goes}
 use Rattle.turns.proofs.walk_leg.Statement.{statement}
@@ -39,20 +40,21 @@ movement-of-requires c κs =
     let i = samples-inside (s .0) (s .1 .1 .0) d (c .before .before .before .before .before .before .before .before .leg-samples .result) (c .before .before .before .before .before .before .before .before .leg-samples .ensures) in
     (i .0, (i .1, (section-inside (s .0) (s .1 .1 .0) d, omega (arith, depth-inside (s .0) (s .1 .1 .0) d, plan-legs (s .0)))))
 
-is-refused-requires : tie.Need-is-refused-requires
-is-refused-requires c κs =
+reaches-last-requires : tie.Need-reaches-last-requires
+unfolding courseOf
+reaches-last-requires c κs =
     let s = c .before .before .before .before .before .before .before .before .before .before .before .before .before .before .before .before .before .before .before .before .before .before .before .before .before .before .before .pre in
     let d = some-front (s .1 .1 .0) (s .1 .0) .holds in
     let k : Looks (c .before .before .before .before .before .before .before .before .before .before .before .before .before .before .before .before .before .before .before .before .before .before .before .before .before .before .before .args .book .now) (c .before .before .before .before .before .before .before .before .before .before .before .before .before .before .before .before .before .before .before .before .before .before .before .before .before .before .before .args .p) (c .before .before .before .before .before .before .before .before .before .before .before .before .before .before .before .before .before .before .before .before .before .before .before .before .before .before .before .args .reals .now) (c .before .before .before .before .before .before .before .before .before .before .before .before .before .before .before .before .before .before .before .before .before .before .before .before .before .before .before .args .cells .now) (c .before .before .before .before .before .before .before .before .before .before .before .before .before .before .before .before .before .before .before .before .before .before .before .before .before .before .before .args .g) (c .before .before .before .before .before .before .before .extend-path .last .1 .1 .0) (c .before .before .before .before .before .before .before .extend-path .last .1 .1 .1 .0) (c .before .movement-of .result) = record { leg = c .before .before .before .before .before .before .before .before .before .before .before .before .leg-at .result; is = c .before .before .before .before .before .before .before .before .before .before .before .before .leg-at .ensures; taken = c .before .before .before .before .before .before .before .before .before .before .leg-samples .result; samples = c .before .before .before .before .before .before .before .before .before .before .leg-samples .ensures; reals-then = c .before .before .before .before .before .before .before .extend-path .ensures .0; cells-then = c .before .before .before .before .before .before .before .extend-path .ensures .1; moves = c .before .movement-of .ensures } in (
       walk-held (s .0) (s .1 .1 .0) d k,
-      walk-sound (s .0) (s .1 .1 .0) d k,
+      walk-sound (s .0) (s .1 .1 .0) d k .some-points,
     )
 
 returns : tie.Need-returns
 returns c =
     let s = c .before .before .before .before .before .before .before .before .before .before .before .before .before .before .before .before .before .before .before .before .before .before .before .before .before .before .before .before .before .pre in
     let k : Looks (c .before .before .before .before .before .before .before .before .before .before .before .before .before .before .before .before .before .before .before .before .before .before .before .before .before .before .before .before .before .args .book .now) (c .before .before .before .before .before .before .before .before .before .before .before .before .before .before .before .before .before .before .before .before .before .before .before .before .before .before .before .before .before .args .p) (c .before .before .before .before .before .before .before .before .before .before .before .before .before .before .before .before .before .before .before .before .before .before .before .before .before .before .before .before .before .args .reals .now) (c .before .before .before .before .before .before .before .before .before .before .before .before .before .before .before .before .before .before .before .before .before .before .before .before .before .before .before .before .before .args .cells .now) (c .before .before .before .before .before .before .before .before .before .before .before .before .before .before .before .before .before .before .before .before .before .before .before .before .before .before .before .before .before .args .g) (c .before .before .before .before .before .before .before .before .before .extend-path .last .1 .1 .0) (c .before .before .before .before .before .before .before .before .before .extend-path .last .1 .1 .1 .0) (c .before .before .before .movement-of .result) = record { leg = c .before .before .before .before .before .before .before .before .before .before .before .before .before .before .leg-at .result; is = c .before .before .before .before .before .before .before .before .before .before .before .before .before .before .leg-at .ensures; taken = c .before .before .before .before .before .before .before .before .before .before .before .before .leg-samples .result; samples = c .before .before .before .before .before .before .before .before .before .before .before .before .leg-samples .ensures; reals-then = c .before .before .before .before .before .before .before .before .before .extend-path .ensures .0; cells-then = c .before .before .before .before .before .before .before .before .before .extend-path .ensures .1; moves = c .before .before .before .movement-of .ensures } in (
-      λ path net run saved d. walk-refused (s .0) (s .1 .1 .0) d k (c .before .is-refused .result) (c .before .is-refused .ensures) (c .if1 .taken) _ _ _,
+      λ path net run saved d. walk-refused (s .0) (s .1 .1 .0) d k (c .before .reaches-last .result) (c .before .reaches-last .ensures) (c .if1 .taken) _ _ _,
       tt,
     )
 
@@ -63,11 +65,11 @@ run-events-requires c κs =
     let k : Looks (c .before .before .before .before .before .before .before .before .before .before .before .before .before .before .before .before .before .before .before .before .before .before .before .before .before .before .before .before .before .before .before .before .before .before .before .before .args .book .now) (c .before .before .before .before .before .before .before .before .before .before .before .before .before .before .before .before .before .before .before .before .before .before .before .before .before .before .before .before .before .before .before .before .before .before .before .before .args .p) (c .before .before .before .before .before .before .before .before .before .before .before .before .before .before .before .before .before .before .before .before .before .before .before .before .before .before .before .before .before .before .before .before .before .before .before .before .args .reals .now) (c .before .before .before .before .before .before .before .before .before .before .before .before .before .before .before .before .before .before .before .before .before .before .before .before .before .before .before .before .before .before .before .before .before .before .before .before .args .cells .now) (c .before .before .before .before .before .before .before .before .before .before .before .before .before .before .before .before .before .before .before .before .before .before .before .before .before .before .before .before .before .before .before .before .before .before .before .before .args .g) (c .before .before .before .before .before .before .before .before .before .before .before .before .before .before .before .before .extend-path .last .1 .1 .0) (c .before .before .before .before .before .before .before .before .before .before .before .before .before .before .before .before .extend-path .last .1 .1 .1 .0) (c .before .before .before .before .before .before .before .before .before .before .movement-of .result) = record { leg = c .before .before .before .before .before .before .before .before .before .before .before .before .before .before .before .before .before .before .before .before .before .leg-at .result; is = c .before .before .before .before .before .before .before .before .before .before .before .before .before .before .before .before .before .before .before .before .before .leg-at .ensures; taken = c .before .before .before .before .before .before .before .before .before .before .before .before .before .before .before .before .before .before .before .leg-samples .result; samples = c .before .before .before .before .before .before .before .before .before .before .before .before .before .before .before .before .before .before .before .leg-samples .ensures; reals-then = c .before .before .before .before .before .before .before .before .before .before .before .before .before .before .before .before .extend-path .ensures .0; cells-then = c .before .before .before .before .before .before .before .before .before .before .before .before .before .before .before .before .extend-path .ensures .1; moves = c .before .before .before .before .before .before .before .before .before .before .movement-of .ensures } in (
       walk-held (s .0) (s .1 .1 .0) d k,
       (
-        walk-walkable (s .0) (s .1 .1 .0) d k (c .before .before .before .before .before .before .before .before .is-refused .result) (c .before .before .before .before .before .before .before .before .is-refused .ensures) (c .before .before .before .before .before .before .before .if1 .left),
+        walk-walkable (s .0) (s .1 .1 .0) d k (c .before .before .before .before .before .before .before .before .reaches-last .result) (c .before .before .before .before .before .before .before .before .reaches-last .ensures) (c .before .before .before .before .before .before .before .if1 .left),
         (
-          walk-path (s .0) (s .1 .1 .0) d k (c .before .before .before .before .before .before .before .before .is-refused .result) (c .before .before .before .before .before .before .before .before .is-refused .ensures) (c .before .before .before .before .before .before .before .if1 .left),
+          walk-path (s .0) (s .1 .1 .0) d k (c .before .before .before .before .before .before .before .before .reaches-last .result) (c .before .before .before .before .before .before .before .before .reaches-last .ensures) (c .before .before .before .before .before .before .before .if1 .left),
           (
-            walk-moving (s .0) (s .1 .1 .0) d k (c .before .before .before .before .before .before .before .before .is-refused .result) (c .before .before .before .before .before .before .before .before .is-refused .ensures) (c .before .before .before .before .before .before .before .if1 .left),
+            walk-moving (s .0) (s .1 .1 .0) d k (c .before .before .before .before .before .before .before .before .reaches-last .result) (c .before .before .before .before .before .before .before .before .reaches-last .ensures) (c .before .before .before .before .before .before .before .if1 .left),
             s .1 .1 .1,
           ),
         ),
@@ -80,7 +82,7 @@ returns-2 c =
     let k : Looks (c .before .before .before .before .before .before .before .before .before .before .before .before .before .before .before .before .before .before .before .before .before .before .before .before .before .before .before .before .before .before .before .before .before .before .before .before .before .before .before .before .before .before .before .before .before .before .before .before .before .args .book .now) (c .before .before .before .before .before .before .before .before .before .before .before .before .before .before .before .before .before .before .before .before .before .before .before .before .before .before .before .before .before .before .before .before .before .before .before .before .before .before .before .before .before .before .before .before .before .before .before .before .before .args .p) (c .before .before .before .before .before .before .before .before .before .before .before .before .before .before .before .before .before .before .before .before .before .before .before .before .before .before .before .before .before .before .before .before .before .before .before .before .before .before .before .before .before .before .before .before .before .before .before .before .before .args .reals .now) (c .before .before .before .before .before .before .before .before .before .before .before .before .before .before .before .before .before .before .before .before .before .before .before .before .before .before .before .before .before .before .before .before .before .before .before .before .before .before .before .before .before .before .before .before .before .before .before .before .before .args .cells .now) (c .before .before .before .before .before .before .before .before .before .before .before .before .before .before .before .before .before .before .before .before .before .before .before .before .before .before .before .before .before .before .before .before .before .before .before .before .before .before .before .before .before .before .before .before .before .before .before .before .before .args .g) (c .before .before .before .before .before .before .before .before .before .before .before .before .before .before .before .before .before .before .before .before .before .before .before .before .before .before .before .before .before .extend-path .last .1 .1 .0) (c .before .before .before .before .before .before .before .before .before .before .before .before .before .before .before .before .before .before .before .before .before .before .before .before .before .before .before .before .before .extend-path .last .1 .1 .1 .0) (c .before .before .before .before .before .before .before .before .before .before .before .before .before .before .before .before .before .before .before .before .before .before .before .movement-of .result) = record { leg = c .before .before .before .before .before .before .before .before .before .before .before .before .before .before .before .before .before .before .before .before .before .before .before .before .before .before .before .before .before .before .before .before .before .before .leg-at .result; is = c .before .before .before .before .before .before .before .before .before .before .before .before .before .before .before .before .before .before .before .before .before .before .before .before .before .before .before .before .before .before .before .before .before .before .leg-at .ensures; taken = c .before .before .before .before .before .before .before .before .before .before .before .before .before .before .before .before .before .before .before .before .before .before .before .before .before .before .before .before .before .before .before .before .leg-samples .result; samples = c .before .before .before .before .before .before .before .before .before .before .before .before .before .before .before .before .before .before .before .before .before .before .before .before .before .before .before .before .before .before .before .before .leg-samples .ensures; reals-then = c .before .before .before .before .before .before .before .before .before .before .before .before .before .before .before .before .before .before .before .before .before .before .before .before .before .before .before .before .before .extend-path .ensures .0; cells-then = c .before .before .before .before .before .before .before .before .before .before .before .before .before .before .before .before .before .before .before .before .before .before .before .before .before .before .before .before .before .extend-path .ensures .1; moves = c .before .before .before .before .before .before .before .before .before .before .before .before .before .before .before .before .before .before .before .before .before .before .before .movement-of .ensures } in
     let v = c .before .before .before .before .before .before .before .before .before .before .before .before .run-events in (
       λ path net run saved d.
-          walk-goes (s .0) (s .1 .1 .0) d k (c .before .before .before .before .before .before .before .before .before .before .before .before .before .before .before .before .before .before .before .before .before .is-refused .result) (c .before .before .before .before .before .before .before .before .before .before .before .before .before .before .before .before .before .before .before .before .before .is-refused .ensures) (c .before .before .before .before .before .before .before .before .before .before .before .before .before .before .before .before .before .before .before .before .if1 .left) (v .last .1 .1 .0) (v .last .1 .1 .1 .0) (v .last .1 .1 .1 .1 .0) (v .last .1 .1 .1 .1 .1 .1 .1 .0) (v .result) (v .ensures .0),
+          walk-goes (s .0) (s .1 .1 .0) d k (c .before .before .before .before .before .before .before .before .before .before .before .before .before .before .before .before .before .before .before .before .before .reaches-last .result) (c .before .before .before .before .before .before .before .before .before .before .before .before .before .before .before .before .before .before .before .before .before .reaches-last .ensures) (c .before .before .before .before .before .before .before .before .before .before .before .before .before .before .before .before .before .before .before .before .if1 .left) (v .last .1 .1 .0) (v .last .1 .1 .1 .0) (v .last .1 .1 .1 .1 .0) (v .last .1 .1 .1 .1 .1 .1 .1 .0) (v .result) (v .ensures .0),
       v .ensures .1,
     )
 
@@ -95,7 +97,7 @@ walk-leg-spec =
     extend-path-requires
     add-movement-of
     movement-of-requires
-    is-refused-requires
+    reaches-last-requires
     (λ c. search needs)
     (λ c. search needs)
     returns
