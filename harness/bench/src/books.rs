@@ -59,20 +59,23 @@ impl Made {
     }
 }
 
-/// So many origins whose links meet two by two until one is left: the runs join each other on the way to it.
-pub fn origins(count: usize) -> Vec<u8> {
+/// So many origins whose links meet two by two until one is left: the runs join each other on the way to it. Beside them so many links that lead nowhere, with a starting leg each that no run takes.
+pub fn origins(count: usize, idle: usize) -> Vec<u8> {
     let link = |i: usize| match i {
-        0 => [0; 3],
+        i if i == 0 || i >= 2 * count => [0; 3],
         i if i < count => [i / 2, 2 * i, 2 * i + 1],
         i => [i / 2, 0, 0],
     };
-    let mut made = Made { links: (0..2 * count).map(link).collect(), origins: (count..2 * count).collect(), destinations: vec![1], ..Made::default() };
+    let mut made = Made { links: (0..2 * count + idle).map(link).collect(), origins: (count..2 * count).collect(), destinations: vec![1], ..Made::default() };
     for origin in count..2 * count {
         let (mut link, mut leg) = (origin, 0);
         while link > 0 {
             leg = made.go(link, leg, if leg == 0 { LENGTH - TRAIN - 1.0 } else { LENGTH }, 1);
             link /= 2;
         }
+    }
+    for link in 2 * count..2 * count + idle {
+        made.legs.push((link, 0, vec![[0.0, TRAIN, SPEED]]));
     }
     made.bytes()
 }

@@ -74,7 +74,7 @@ fn whole(bench: &Bench) {
     lines.plot();
     let mut kinds = bench.group("a book, 65,535 places", how);
     kinds.case("a line of 10 sidings", || timers::sheets(&[sidings::book(10)], 65_535));
-    kinds.case("1,000 origins", || timers::sheets(&[books::origins(1_000)], 65_535));
+    kinds.case("1,000 origins", || timers::sheets(&[books::origins(1_000, 0)], 65_535));
     kinds.case("a chain of 65,000 legs", || timers::sheets(&[books::chain(65_000)], 65_535));
     kinds.case("1,000,000 samples in 10 legs", || timers::sheets(&[books::samples(1_000_000)], 65_535));
     let mut clearing = bench.group("a line of 10 sidings", "The same; in place of the reference's time that of making what is lent zero twice, as the job does.");
@@ -91,7 +91,11 @@ fn whole(bench: &Bench) {
     }
     let mut origins = bench.group("origins, places as nodes", how);
     for count in [10, 100, 1_000] {
-        origins.size(&format!("{count} origins"), count, || timers::fitted(&books::origins(count)));
+        origins.size(&format!("{count} origins"), count, || timers::fitted(&books::origins(count, 0)));
+    }
+    let mut idle = bench.group("1,000 origins among starting legs, places as nodes", how);
+    for count in [500, 5_000, 50_000] {
+        idle.case(&format!("{count} starting legs that no run takes"), || timers::fitted(&books::origins(1_000, count)));
     }
 }
 
