@@ -48,7 +48,7 @@ fn answer(report: Report, number: u32) -> Sheet
     Sheet::Refused(number)
 }
 
-// Reads a book, grows its network, checks it and times it, in a table and work space that are zero.
+// Reads a book, grows its network, checks it and times it, in a table, cells and marks that are zero.
 fn build(
     book: &[u8],
     floats: &mut [f64],
@@ -59,7 +59,6 @@ fn build(
 ) -> Sheet
     requires { ⌜ now floats ≡ zeroFloats (length (now floats)) ⌝ }
     requires { ⌜ now numbers ≡ zeros (length (now numbers)) ⌝ }
-    requires { ⌜ now reals ≡ zeroFloats (length (now reals)) ⌝ }
     requires { ⌜ now cells ≡ zeros (length (now cells)) ⌝ }
     requires { ⌜ now marks ≡ zeros (length (now marks)) ⌝ }
     ensures { λ r. ⌜ BuiltAs (job (now (book .entry)) (length (now (floats .entry))) (length (now (numbers .entry))) (bytesOf (length (now (reals .entry))) (length (now (cells .entry))) (length (now (marks .entry))))) (now (floats .exit)) (now (numbers .exit)) r ⌝ }
@@ -103,9 +102,7 @@ pub fn make_est_times(
     ensures marks { λ _. ⌜ now (marks .exit) ≡ zeros (length (now (marks .entry))) ⌝ }
     ensures demand { λ r. ⌜ DemandOf (now (book .entry)) (now (floats .exit)) (now (numbers .exit)) r ⌝ }
 {
-    space::clear_floats(floats);
-    space::clear_numbers(numbers);
-    grower::clear_work(reals, cells, marks);
+    grower::clear_before(floats, numbers, cells, marks);
     let sheet = build(book, floats, numbers, reals, cells, marks);
     let n = nodes_of(sheet);
     grower::clear_behind(floats, numbers, n);

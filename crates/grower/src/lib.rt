@@ -9,7 +9,7 @@ ghost use Rattle.space.specs.Space.{bytesOf, zeros, zeroFloats};
 ghost use Rattle.growth.specs.Grower.{GrownAs};
 ghost use Rattle.grower.specs.Network.{network, counted, grownNodes, floatsAs, numbersAs};
 
-// Reads a book and grows its network, in a table and work space that are zero.
+// Reads a book and grows its network, in a table, cells and marks that are zero.
 pub fn read_and_grow(
     book: &[u8],
     floats: &mut [f64],
@@ -20,7 +20,6 @@ pub fn read_and_grow(
 ) -> Grown
     requires { ⌜ now floats ≡ zeroFloats (length (now floats)) ⌝ }
     requires { ⌜ now numbers ≡ zeros (length (now numbers)) ⌝ }
-    requires { ⌜ now reals ≡ zeroFloats (length (now reals)) ⌝ }
     requires { ⌜ now cells ≡ zeros (length (now cells)) ⌝ }
     requires { ⌜ now marks ≡ zeros (length (now marks)) ⌝ }
     ensures { λ r. ⌜ GrownAs (network (now (book .entry)) (length (now (floats .entry))) (length (now (numbers .entry))) (bytesOf (length (now (reals .entry))) (length (now (cells .entry))) (length (now (marks .entry))))) (now (floats .exit)) (now (numbers .exit)) r ⌝ }
@@ -33,6 +32,19 @@ pub fn read_and_grow(
             growth::grow_book(book, s, kept, floats, numbers, reals, cells, marks)
         }
     }
+}
+
+// Makes zero what growth begins with: the table, the cells and the marks.
+pub fn clear_before(floats: &mut [f64], numbers: &mut [u32], cells: &mut [u32], marks: &mut [u32])
+    ensures floats { λ _. ⌜ now (floats .exit) ≡ zeroFloats (length (now (floats .entry))) ⌝ }
+    ensures numbers { λ _. ⌜ now (numbers .exit) ≡ zeros (length (now (numbers .entry))) ⌝ }
+    ensures cells { λ _. ⌜ now (cells .exit) ≡ zeros (length (now (cells .entry))) ⌝ }
+    ensures marks { λ _. ⌜ now (marks .exit) ≡ zeros (length (now (marks .entry))) ⌝ }
+{
+    space::clear_floats(floats);
+    space::clear_numbers(numbers);
+    space::clear_numbers(cells);
+    space::clear_numbers(marks);
 }
 
 // Makes a table zero from node n on.
@@ -82,9 +94,7 @@ pub fn grow_network(
     ensures cells { λ _. ⌜ now (cells .exit) ≡ zeros (length (now (cells .entry))) ⌝ }
     ensures marks { λ _. ⌜ now (marks .exit) ≡ zeros (length (now (marks .entry))) ⌝ }
 {
-    space::clear_floats(floats);
-    space::clear_numbers(numbers);
-    clear_work(reals, cells, marks);
+    clear_before(floats, numbers, cells, marks);
     let grown = read_and_grow(book, floats, numbers, reals, cells, marks);
     let n = nodes_of(grown);
     clear_behind(floats, numbers, n);

@@ -1,4 +1,4 @@
--- The whole of growth: nodes 0 and 1 in work space of zeros, the origins, all runs, the ends.
+-- The whole of growth: nodes 0 and 1 in cells of zeros, the origins, all runs, the ends.
 use mathlib.Core.Path.{_≡_, refl, sym, ap, _∙_, subst}
 use mathlib.Core.Bool.{Bool}
 use mathlib.Core.List.{List, []}
@@ -7,9 +7,9 @@ use Prim.Native.Nat.{ℕ, zero, suc, _+_, _*_, _≤_, _<_}
 use native.Mathlib.Omega.{arith}
 use borrow.Author.Tests.{lt-ltb, le-ltb}
 use lib.Dec.{ltb}
-use lib.ListN.{length, getD, getD-replicate}
+use lib.ListN.{length, getD}
 use lib.Ieee.{Float, binary64, ofBits, nan}
-use Rattle.space.specs.Space.{placesOf, zeroFloats}
+use Rattle.space.specs.Space.{placesOf}
 use Rattle.book.specs.declared.Sections.{Sections}
 use Rattle.book.specs.Format.{links, legs}
 use Rattle.options.specs.Options.{keptOrigins}
@@ -139,16 +139,12 @@ book-small floats numbers e h b t = grow-small b (placesOf floats numbers) t (om
 
 -- ---- the work space at the start
 
-zero-real : (n : ℕ) (reals : List Float) → reals ≡ zeroFloats n → 0 < n → getD reals 0 nan ≡ ofBits binary64 0
-unfolding zeroFloats
-zero-real n reals e h = ap (λ (x : List Float). getD x 0 nan) e ∙ getD-replicate n 0 (ofBits binary64 0) nan h
-
-path-start : (b : List ℕ) (reals : List Float) (cells : List ℕ) → reals ≡ zeroFloats (length reals) → 0 < length reals → PathIn b reals cells []
+path-start : (b : List ℕ) (reals : List Float) (cells : List ℕ) → getD reals 0 nan ≡ ofBits binary64 0 → PathIn b reals cells []
 unfolding pointOffset
-path-start b reals cells z h = record { offsets = first; links = λ k l. absurd (omega arith) }
+path-start b reals cells z = record { offsets = first; links = λ k l. absurd (omega arith) }
   where
     first : (k : ℕ) → k ≤ 0 → getD reals k nan ≡ pointOffset b [] k
-    first zero l = zero-real (length reals) reals z h
+    first zero l = z
     first (suc k) l = absurd (omega arith)
 
 -- nodes 0 and 1 are there, no run is
@@ -166,7 +162,7 @@ book-start fs us places e h time fs′ us′ df du =
     ∙ node-one (record { floats = fs; numbers = us }) time places (record { floats = f .floats-fit; numbers = f .numbers-fit; most = f .most }) (omega arith) in
     record { two = refl; no-next = ap (λ (x : EstTime). x .«idx_next») one; no-alt = ap (λ (x : EstTime). x .«idx_next_alt») one }
 
-module _ {b : List ℕ} {s : Sections} {kept : ℕ} {cells marks : List ℕ} (ready : Ready b s kept cells marks) (p : Plan) (reals : List Float) (plan : PlanIn b p (length reals)) (zero-reals : reals ≡ zeroFloats (length reals))
+module _ {b : List ℕ} {s : Sections} {kept : ℕ} {cells marks : List ℕ} (ready : Ready b s kept cells marks) (p : Plan) (reals : List Float) (plan : PlanIn b p (length reals)) (at-zero : getD reals 0 nan ≡ ofBits binary64 0)
     (fs : List Float) (us : List ℕ) (room : Room fs us (p .w .places)) (some : 1 < p .w .places) (behind : p .w .«links_at» ≡ (legs b + 1) * 8 + p .w .places * 8) (long : (legs b + 1 + p .w .places + links b) * 8 ≤ length cells) where
   t : Table
   t = record { floats = fs; numbers = us }
@@ -199,7 +195,7 @@ module _ {b : List ℕ} {s : Sections} {kept : ℕ} {cells marks : List ℕ} (re
     holds = record {
       grown = first-net;
       chained = ready .chained;
-      kept = path-start b reals cells zero-reals (omega (arith, plan .pairs));
+      kept = path-start b reals cells at-zero;
       short = omega arith;
       waiting = record { runs = []; kept = saved-none cells reals (p .r); same = tt };
       sound = tt;
@@ -218,13 +214,13 @@ module _ {b : List ℕ} {s : Sections} {kept : ℕ} {cells marks : List ℕ} (re
       (subst (λ (x : List ℕ). OriginsIn b p (firstTable (record { floats = fs; numbers = us }) (p .departure) .floats) x reals cells joins (keptOrigins b) startState (firstNodes b (record { floats = fs; numbers = us })) []) (sym du) (start-origins joins))
 
 -- the same by what `grow_book` asks and its parts tell
-module _ {b : List ℕ} {s : Sections} {kept : ℕ} {cells marks : List ℕ} (ready : Ready b s kept cells marks) (p : Plan) (reals : List Float) (plan : PlanIn b p (length reals)) (zero-reals : reals ≡ zeroFloats (length reals))
+module _ {b : List ℕ} {s : Sections} {kept : ℕ} {cells marks : List ℕ} (ready : Ready b s kept cells marks) (p : Plan) (reals : List Float) (plan : PlanIn b p (length reals)) (at-zero : getD reals 0 nan ≡ ofBits binary64 0)
     (fs : List Float) (us : List ℕ) (places : ℕ) (are : places ≡ placesOf (length fs) (length us)) (planned : p .w .places ≡ places) (some : 2 ≤ places) (behind : p .w .«links_at» ≡ (legs b + 1) * 8 + places * 8)
     (long : (legs b + 1 + placesOf (length fs) (length us) + links b) * 8 ≤ length cells) (fs′ : List Float) (us′ : List ℕ) (df : fs′ ≡ firstTable (record { floats = fs; numbers = us }) (p .departure) .floats)
     (du : us′ ≡ firstTable (record { floats = fs; numbers = us }) (p .departure) .numbers) (joins : List ℕ) where
   book-origins : OriginsIn b p fs′ us′ reals cells joins (keptOrigins b) startState (firstNodes b (record { floats = fs; numbers = us })) []
   book-origins =
-      first-origins ready p reals plan zero-reals fs us (let f = places-fit (planned ∙ are) in record { floats = f .floats-fit; numbers = f .numbers-fit; most = f .most }) (omega (arith, planned)) (omega (arith, behind, planned)) (omega (arith, long, planned, are)) fs′ us′ df du joins
+      first-origins ready p reals plan at-zero fs us (let f = places-fit (planned ∙ are) in record { floats = f .floats-fit; numbers = f .numbers-fit; most = f .most }) (omega (arith, planned)) (omega (arith, behind, planned)) (omega (arith, long, planned, are)) fs′ us′ df du joins
 
   pub book-some : SomeOrigins b p fs′ us′ reals cells joins (keptOrigins b) startState
   book-some = record { net = firstNodes b (record { floats = fs; numbers = us }); runs = []; origins = book-origins }

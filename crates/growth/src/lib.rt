@@ -13,7 +13,7 @@ ghost use Prim.Native.Nat.{ℕ, _+_, _*_, _≤_};
 ghost use lib.Dec.{eqb};
 ghost use lib.ListN.{length};
 ghost use lib.Ieee.{Float};
-ghost use Rattle.space.specs.Space.{placesOf, zeroFloats};
+ghost use Rattle.space.specs.Space.{placesOf};
 ghost use Rattle.network.specs.Table.{nodeAt};
 ghost use Rattle.book.specs.Format.{links, origins, destinations, legs};
 ghost use Rattle.legs.specs.Legs.{Started};
@@ -263,7 +263,6 @@ pub fn grow_book(
     marks: &[u32],
 ) -> Grown
     requires { ⌜ Ready (now book) s kept (now cells) (now marks) ⌝ }
-    requires { ⌜ now reals ≡ zeroFloats (length (now reals)) ⌝ }
     requires { ⌜ legs (now book) * 3 + 4 ≤ length (now reals) ⌝ }
     requires { ⌜ (legs (now book) + 1 + placesOf (length (now floats)) (length (now numbers)) + links (now book)) * 8 ≤ length (now cells) ⌝ }
     requires { ⌜ 2 * links (now book) + destinations (now book) + origins (now book) ≤ length (now marks) ⌝ }
@@ -275,6 +274,7 @@ pub fn grow_book(
     }
     let p = origins::plan_of(book, s, places);
     ends::first_nodes(floats, numbers, p.departure);
+    path::start_path(reals);
     let mut joins = [0u32; 2048];
     let mut scratch = [0u32; 2048];
     let mut stack = [0u32; 4096];

@@ -10,11 +10,19 @@ use walk::PassedPoint;
 ghost use mathlib.Core.Path.{_≡_};
 ghost use Prim.Native.Nat.{_+_, _*_, _-_, _≤_, _<_};
 ghost use lib.ListN.{length, getD, set};
-ghost use lib.Ieee.{binary64, nan, add};
+ghost use lib.Ieee.{binary64, nan, add, ofBits};
 ghost use Rattle.book.specs.Format.{links, linkLength, floatOf, sampleWidth};
 ghost use Rattle.book.specs.Chains.{Readable};
 ghost use Rattle.walk.specs.Course.{courseOf, Held, Walkable};
 ghost use Rattle.walk.specs.Walk.{passedFrom, someBad, Within};
+
+// The first point of every path is at 0.
+pub fn start_path(reals: &mut [f64])
+    requires { ⌜ 0 < length (now reals) ⌝ }
+    ensures { λ _. ⌜ getD (now (reals .exit)) 0 nan ≡ ofBits binary64 0 ⌝ }
+{
+    reals[0] = 0.0;
+}
 
 // Puts a link behind the `depth` links of a path: its name, and the point behind it.
 pub fn extend_path(

@@ -8,7 +8,7 @@ use Rattle.grower.proofs.read_and_grow.Statement.{statement}
 use Rattle.grower.proofs.read_and_grow.Tie as tie
 
 read-book-requires : tie.Need-read-book-requires
-read-book-requires c κs = let p = c .before .before .before .before .before .before .before .before .before .pre in (p .1 .1 .1 .0, p .1 .1 .1 .1)
+read-book-requires c κs = let p = c .before .before .before .before .before .before .before .before .before .pre in (p .1 .1 .0, p .1 .1 .1)
 
 grow-book-requires : tie.Need-grow-book-requires
 grow-book-requires c κs =
@@ -18,7 +18,7 @@ grow-book-requires c κs =
     let z = accepted-zero _ _ _ _ _ (read-as _ _ _ _ _ _ (c .before .before .before .before .before .before .before .before .before .before .before .before .before .before .before .places .ensures) (r .0)) (r .1) (c .before .before .before .before .before .before .reading2 .given .1) in
     let e = enough-of _ _ _ _ _ _ (passes-of _ _ _ z) in (
       accepted-ready _ _ _ _ _ (r .0) (r .1) (c .before .before .before .before .before .before .reading2 .given .1),
-      (p .1 .1 .0, (e .reals, (omega (arith, e .cells, k), omega (arith, e .marks, k)))),
+      (e .reals, (omega (arith, e .cells, k), omega (arith, e .marks, k))),
     )
 
 returns : tie.Need-returns
