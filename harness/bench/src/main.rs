@@ -77,7 +77,7 @@ fn whole(bench: &Bench) {
     kinds.case("1,000 origins", || timers::sheets(&[books::origins(1_000, 0)], 65_535));
     kinds.case("a chain of 65,000 legs", || timers::sheets(&[books::chain(65_000)], 65_535));
     kinds.case("1,000,000 samples in 10 legs", || timers::sheets(&[books::samples(1_000_000)], 65_535));
-    let mut clearing = bench.group("a line of 10 sidings", "The same; in place of the reference's time that of making what is lent zero twice, as the job does.");
+    let mut clearing = bench.group("a line of 10 sidings", "The same; in place of the reference's time that of making what is lent zero before and after, as the job does.");
     for places in [nodes(10), 4_096, 65_535] {
         clearing.case(&format!("{places} places, and the clearing alone"), || timers::clearing(&sidings::book(10), places));
     }

@@ -47,15 +47,18 @@ pub fn fitted(bytes: &[u8]) -> Times {
     sheets(&[bytes.to_vec()], uncounted::time_book(bytes).1)
 }
 
-/// The whole job on a book in a table of so many places; beside it what is lent made zero twice, as the job does it, and nothing else.
+/// The whole job on a book in a table of so many places; beside it what is lent made zero before and after, as the job does it, and nothing else.
 pub fn clearing(bytes: &[u8], places: usize) -> Times {
     let mut room = Room::default();
     let lengths = Lengths::of(places, replay::books::asked(bytes, places));
     room.lend(lengths);
     let mut other = Room::default();
     other.lend(lengths);
-    let twice = |room: &mut Room| (0..2).for_each(|_| black_box(&mut *room).clear());
-    best(|| took(|| room.call(Entry::Make, bytes)), || took(|| twice(&mut other)))
+    let cleared = |room: &mut Room| {
+        black_box(&mut *room).clear_before();
+        black_box(&mut *room).clear();
+    };
+    best(|| took(|| room.call(Entry::Make, bytes)), || took(|| cleared(&mut other)))
 }
 
 /// Growth alone, in a table of 65,535 places: ours is the whole of `keldurap_grow_network`, the reference's is its reading and the published function up to the checks.

@@ -112,13 +112,18 @@ impl Room {
         (number, [nodes, added, splits, joined, finished])
     }
 
-    /// Makes all slices zero.
-    pub fn clear(&mut self) {
+    /// Makes the slices zero that the job begins with: all but the reals.
+    pub fn clear_before(&mut self) {
         self.floats.fill(0.0);
         self.numbers.fill(0);
-        self.work.reals.fill(0.0);
         self.work.cells.fill(0);
         self.work.marks.fill(0);
+    }
+
+    /// Makes all slices zero.
+    pub fn clear(&mut self) {
+        self.clear_before();
+        self.work.reals.fill(0.0);
     }
 
     /// The first nodes as an item for `keldurap_update_times`, with a departure of 0.
