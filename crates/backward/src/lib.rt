@@ -42,14 +42,8 @@ fn relink(
     if progress::is_done(cells, done_at, prev) {
         return Walked::Endless;
     }
-    let Walked::Found(found) = passes::relink_walk_backward(
-        floats,
-        numbers,
-        cells,
-        done_at,
-        n,
-        prev,
-    ) else {
+    let Walked::Found(found) = passes::relink_walk(floats, numbers, cells, done_at, n, true, prev)
+    else {
         return Walked::Endless;
     };
     if prev == found {

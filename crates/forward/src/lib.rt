@@ -67,7 +67,7 @@ fn relink(
     if progress::is_done(cells, done_at, next) {
         return Walked::Endless;
     }
-    let Walked::Found(found) = passes::relink_walk_forward(floats, numbers, cells, done_at, n, next)
+    let Walked::Found(found) = passes::relink_walk(floats, numbers, cells, done_at, n, false, next)
     else {
         return Walked::Endless;
     };

@@ -1,8 +1,8 @@
 -- What the code of the relink walks answers, and what it asks of a network. Only contracts use these words.
 use mathlib.Core.Path.{_≡_}
-use mathlib.Core.Bool.{Bool}
+use mathlib.Core.Bool.{Bool, true, false}
 use mathlib.Core.List.{List, []}
-use Prim.Native.Nat.{ℕ, _+_, _<_}
+use Prim.Native.Nat.{ℕ, _+_, _-_, _<_}
 use lib.Dec.{ltb}
 use lib.ListN.{getD}
 use Rattle.network.specs.declared.EstTime.{EstTime}
@@ -32,8 +32,25 @@ abbrev pub WalkAs : Answer ℕ → ℕ → Walked → Type 0
 WalkAs answer n (Found i) = (answer ≡ given i) × (i < n)
 WalkAs answer n Endless = answer ≡ fails
 
-abbrev pub ForwardWalk : Table → (ℕ → Bool) → ℕ → ℕ → Walked → Type 0
-ForwardWalk t done n i r = WalkAs (Forward.relinkWalk n (passOf t done) n i) n r
+-- ---- both walks in one, by whether the pass goes backward
 
-abbrev pub BackwardWalk : Table → (ℕ → Bool) → ℕ → ℕ → Walked → Type 0
-BackwardWalk t done n i r = WalkAs (Backward.relinkWalk n (passOf t done) i) n r
+-- along which index a walk goes: a node's next forward, its previous backward
+abbrev pub ahead : Bool → EstTime → ℕ
+ahead true node = node .«idx_prev»
+ahead false node = node .«idx_next»
+
+-- the node that a walk doesn't pass to: the end forward, 0 backward
+abbrev pub endOf : Bool → ℕ → ℕ
+endOf true n = 0
+endOf false n = n - 1
+
+abbrev pub passable : Bool → Pass → ℕ → ℕ → Bool
+passable true p n i = Backward.isPassable p i
+passable false p n i = Forward.isPassable p n i
+
+abbrev pub relinkWalk : Bool → ℕ → Pass → ℕ → ℕ → Answer ℕ
+relinkWalk true k p n i = Backward.relinkWalk k p i
+relinkWalk false k p n i = Forward.relinkWalk k p n i
+
+abbrev pub RelinkWalk : Bool → Table → (ℕ → Bool) → ℕ → ℕ → Walked → Type 0
+RelinkWalk backward t done n i r = WalkAs (relinkWalk backward n (passOf t done) n i) n r

@@ -11,9 +11,9 @@ ghost use Rattle.insertion.specs.Insertion.{Table};
 ghost use Rattle.passes.specs.Checks.{fakeKind, differ, prevHolds, nextHolds, fakeHolds, prevLeads, nextLeads, nodeHolds, row14};
 ghost use Rattle.passes.specs.Plain.{plain};
 ghost use Rattle.passes.specs.Net.{Pass, setTime, setNext, setPrev, setArc};
-ghost use Rattle.passes.specs.Forward.{swapJoin, isPassable as Forward·isPassable};
-ghost use Rattle.passes.specs.Backward.{swapSplit, isPassable as Backward·isPassable};
-ghost use Rattle.passes.specs.Walks.{Inside, doneIn, passOf, ForwardWalk, BackwardWalk};
+ghost use Rattle.passes.specs.Forward.{swapJoin};
+ghost use Rattle.passes.specs.Backward.{swapSplit};
+ghost use Rattle.passes.specs.Walks.{Inside, doneIn, passOf, ahead, endOf, passable, RelinkWalk};
 
 // Where a relink walk ends, or that it has passed more Fakes than there are nodes.
 pub enum Walked {
@@ -156,56 +156,78 @@ fn set_arc(floats: &mut [f64], numbers: &mut [u32], i: usize, time: f64, distanc
     floats[f + 2] = distance;
 }
 
-// Forward: whether a node is a Fake whose next is neither timed nor the end.
-fn is_passable_forward(
+// The index along which a relink walk goes: a node's next forward, its previous backward.
+fn ahead(node: EstTime, backward: bool) -> u32
+    ensures { λ r. ⌜ r ≡ ahead backward node ⌝ }
+{
+    if backward {
+        node.idx_prev
+    } else {
+        node.idx_next
+    }
+}
+
+// The node that a relink walk doesn't pass to: the end forward, 0 backward.
+fn end_of(n: usize, backward: bool) -> usize
+    requires { ⌜ 0 < n ⌝ }
+    ensures { λ r. ⌜ r ≡ endOf backward n ⌝ }
+{
+    if backward { 0 } else { n - 1 }
+}
+
+// Whether a node is a Fake that leads to a node which is neither done nor the walk's end. A node is done (timed forward, passed backward) whose cell is set.
+fn is_passable(
     floats: &[f64],
     numbers: &[u32],
     cells: &[u32],
     done_at: usize,
     n: usize,
+    backward: bool,
     i: u32,
 ) -> bool
     requires { ⌜ Room (now floats) (now numbers) n ⌝ }
     requires { ⌜ Inside (nodeAt (now floats) (now numbers)) n ⌝ }
     requires { ⌜ «done_at» + n ≤ length (now cells) ⌝ }
     requires { ⌜ i < n ⌝ }
-    ensures { λ r. ⌜ r ≡ Forward·isPassable (passOf (record { floats = now (floats .entry); numbers = now (numbers .entry) }) (doneIn (now (cells .entry)) «done_at»)) n i ⌝ }
+    ensures { λ r. ⌜ r ≡ passable backward (passOf (record { floats = now (floats .entry); numbers = now (numbers .entry) }) (doneIn (now (cells .entry)) «done_at»)) n i ⌝ }
 {
     let node = network::load(floats, numbers, i as usize);
     let event = node.link_event;
     let kind = event.est_type;
     let fake = is_fake(kind);
-    let to = node.idx_next as usize;
+    let to = ahead(node, backward) as usize;
+    let end = end_of(n, backward);
     let done = 0 < cells[done_at + to];
-    fake & (!done & !(to == n - 1))
+    fake & (!done & !(to == end))
 }
 
-// Forward: from node i along Fakes whose next is neither timed nor the end. A node is timed whose cell is set.
-pub fn relink_walk_forward(
+// The relink walk of a pass: from node i along Fakes that lead to nodes which are neither done nor its end.
+pub fn relink_walk(
     floats: &[f64],
     numbers: &[u32],
     cells: &[u32],
     done_at: usize,
     n: usize,
+    backward: bool,
     i: u32,
 ) -> Walked
     requires { ⌜ Room (now floats) (now numbers) n ⌝ }
     requires { ⌜ Inside (nodeAt (now floats) (now numbers)) n ⌝ }
     requires { ⌜ «done_at» + n ≤ length (now cells) ⌝ }
     requires { ⌜ i < n ⌝ }
-    ensures { λ r. ⌜ ForwardWalk (record { floats = now (floats .entry); numbers = now (numbers .entry) }) (doneIn (now (cells .entry)) «done_at») n i r ⌝ }
+    ensures { λ r. ⌜ RelinkWalk backward (record { floats = now (floats .entry); numbers = now (numbers .entry) }) (doneIn (now (cells .entry)) «done_at») n i r ⌝ }
 {
     let mut at = i;
     let mut count = 0;
     loop {
-        if !is_passable_forward(floats, numbers, cells, done_at, n, at) {
+        if !is_passable(floats, numbers, cells, done_at, n, backward, at) {
             return Walked::Found(at);
         }
         if n <= count {
             return Walked::Endless;
         }
         let node = network::load(floats, numbers, at as usize);
-        at = node.idx_next;
+        at = ahead(node, backward);
         count += 1;
     }
 }
@@ -233,60 +255,6 @@ pub fn swap_join(
     set_next(floats, numbers, base as usize, save);
     set_prev(floats, numbers, save as usize, base);
     set_prev(floats, numbers, found as usize, curr);
-}
-
-// Backward: whether a node is a Fake whose previous is neither passed nor 0.
-fn is_passable_backward(
-    floats: &[f64],
-    numbers: &[u32],
-    cells: &[u32],
-    done_at: usize,
-    n: usize,
-    i: u32,
-) -> bool
-    requires { ⌜ Room (now floats) (now numbers) n ⌝ }
-    requires { ⌜ Inside (nodeAt (now floats) (now numbers)) n ⌝ }
-    requires { ⌜ «done_at» + n ≤ length (now cells) ⌝ }
-    requires { ⌜ i < n ⌝ }
-    ensures { λ r. ⌜ r ≡ Backward·isPassable (passOf (record { floats = now (floats .entry); numbers = now (numbers .entry) }) (doneIn (now (cells .entry)) «done_at»)) i ⌝ }
-{
-    let node = network::load(floats, numbers, i as usize);
-    let event = node.link_event;
-    let kind = event.est_type;
-    let fake = is_fake(kind);
-    let to = node.idx_prev as usize;
-    let done = 0 < cells[done_at + to];
-    fake & (!done & !(to == 0))
-}
-
-// Backward: from node i along Fakes whose previous is neither passed nor 0. A node is passed whose cell is set.
-pub fn relink_walk_backward(
-    floats: &[f64],
-    numbers: &[u32],
-    cells: &[u32],
-    done_at: usize,
-    n: usize,
-    i: u32,
-) -> Walked
-    requires { ⌜ Room (now floats) (now numbers) n ⌝ }
-    requires { ⌜ Inside (nodeAt (now floats) (now numbers)) n ⌝ }
-    requires { ⌜ «done_at» + n ≤ length (now cells) ⌝ }
-    requires { ⌜ i < n ⌝ }
-    ensures { λ r. ⌜ BackwardWalk (record { floats = now (floats .entry); numbers = now (numbers .entry) }) (doneIn (now (cells .entry)) «done_at») n i r ⌝ }
-{
-    let mut at = i;
-    let mut count = 0;
-    loop {
-        if !is_passable_backward(floats, numbers, cells, done_at, n, at) {
-            return Walked::Found(at);
-        }
-        if n <= count {
-            return Walked::Endless;
-        }
-        let node = network::load(floats, numbers, at as usize);
-        at = node.idx_prev;
-        count += 1;
-    }
 }
 
 // Backward: the node and the base of the split that is reached exchange their previous, and time and distance to next go along.
