@@ -41,7 +41,7 @@ takenLeg b parent link = takenBy b (legSearch b parent link)
 pub record Started (b marks : List ℕ) : Type 0 where
   pub starts : (l : ℕ) → l < links b → getD marks (links b + l) 0 ≡ legBelow b (legs b) 0 l
 
--- ---- words of private functions
+-- ---- words of single functions
 
 -- the first n legs: those that start, by their links
 pub record Named (b : List ℕ) (n : ℕ) (starts : List ℕ) : Type 0 where
