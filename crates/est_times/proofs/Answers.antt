@@ -7,13 +7,13 @@ use native.Mathlib.Omega.{arith}
 use lib.ListN.{length, take}
 use lib.Ieee.{Float}
 use Rattle.space.specs.Space.{bytesOf, zeros, zeroFloats}
-use Rattle.insertion.specs.Insertion.{Table}
-use Rattle.driver.specs.Run.{Answer, refused, given}
-use Rattle.driver.specs.Growth.{Grown, departure}
-use Rattle.passes.specs.Passes.{Timed, timedAs, passes}
-use Rattle.passes.specs.Passes.{refused as untimed}
-use Rattle.grower.specs.Network.{network}
-use Rattle.grower.proofs.Networks.{network-moved, sound}
+use Rattle.net_insertion.specs.Insertion.{Table}
+use Rattle.grow_rules.specs.Run.{Answer, refused, given}
+use Rattle.grow_rules.specs.Growth.{Grown, departure}
+use Rattle.pass_rules.specs.Passes.{Timed, timedAs, passes}
+use Rattle.pass_rules.specs.Passes.{refused as untimed}
+use Rattle.grow_for_tests.specs.Network.{network}
+use Rattle.grow_for_tests.proofs.Networks.{network-moved, sound}
 use Rattle.est_times.specs.declared.Sheet.{Sheet}
 use Rattle.est_times.specs.declared.Sheet.the-variants.{Made, Refused}
 use Rattle.est_times.specs.Sheet.{Job, stopped, finished, timed, passed, job, reportOf, answered, BuiltAs, sheetNodes, floatsAs, numbersAs}

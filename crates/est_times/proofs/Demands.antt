@@ -7,15 +7,15 @@ use lib.ListN.{length, getD, take, List·getD-append}
 use lib.Seq.{length-take-le, getD-take}
 use lib.Ieee.{Float, nan}
 use Rattle.space.specs.Space.{placesOf, bytesOf, zeros, zeroFloats}
-use Rattle.network.specs.declared.EstTime.{EstTime}
-use Rattle.network.specs.Table.{kindOf, nodeAt}
-use Rattle.insertion.specs.Insertion.{Table, at}
-use Rattle.driver.specs.Growth.{Grown, departure}
-use Rattle.arcs.proofs.OneGrowth.{one-growth}
-use Rattle.pass_arcs.proofs.Sheet.{SheetWell, sheet-well, lent-arcs, lent-heard}
-use Rattle.grower.specs.Network.{zeroTable, network}
-use Rattle.grower.proofs.Accepts.{places-fit}
-use Rattle.grower.proofs.Networks.{Sound, sound, zero-room}
+use Rattle.net_node.specs.declared.EstTime.{EstTime}
+use Rattle.net_node.specs.Table.{kindOf, nodeAt}
+use Rattle.net_insertion.specs.Insertion.{Table, at}
+use Rattle.grow_rules.specs.Growth.{Grown, departure}
+use Rattle.arcs_growth.proofs.OneGrowth.{one-growth}
+use Rattle.arcs_passes.proofs.Sheet.{SheetWell, sheet-well, lent-arcs, lent-heard}
+use Rattle.grow_for_tests.specs.Network.{zeroTable, network}
+use Rattle.grow_for_tests.proofs.Accepts.{places-fit}
+use Rattle.grow_for_tests.proofs.Networks.{Sound, sound, zero-room}
 use Rattle.est_times.specs.declared.Sheet.{Sheet}
 use Rattle.est_times.specs.declared.Sheet.the-variants.{Made, Refused}
 use Rattle.est_times.specs.Sheet.{Job, stopped, finished, job, reportOf, BuiltAs, sheetNodes}

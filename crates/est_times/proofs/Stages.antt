@@ -11,25 +11,25 @@ use lib.Ieee.{Float, binary64, nanBits, ofBits}
 use Rattle.fields.specs.Fields.{u64At}
 use Rattle.floats.specs.Floats.{bookFloat}
 use Rattle.space.specs.Space.{placesOf, bytesOf}
-use Rattle.book.specs.Format.{departureBits}
-use Rattle.book.proofs.Floats.{book-no-nan}
-use Rattle.network.specs.declared.EstTime.{EstTime}
-use Rattle.network.specs.Table.{nodeAt, Room}
-use Rattle.insertion.specs.Insertion.{Table, at}
-use Rattle.driver.specs.Run.{Answer, refused, given}
-use Rattle.driver.specs.Growth.{Grown, departure}
-use Rattle.passes.specs.Walks.{Inside}
-use Rattle.passes.specs.Passes.{Timed, timedAs, passes}
-use Rattle.passes.specs.Passes.{refused as untimed}
-use Rattle.timing.specs.Timing.{timedNumber, TimedInto}
-use Rattle.timing.proofs.Proper.{Proper, passes-proper}
-use Rattle.growth.specs.declared.Report.{Report}
-use Rattle.growth.specs.declared.Grown.{Grown as Growth}
-use Rattle.growth.specs.declared.Grown.the-variants.{Whole, Stopped}
-use Rattle.growth.specs.Grower.{WholeAs, GrownAs}
-use Rattle.grower.specs.Network.{network, grownNumber}
-use Rattle.grower.proofs.Accepts.{head-there, departure-float, enough-of}
-use Rattle.grower.proofs.Networks.{Sound, sound}
+use Rattle.book_format.specs.Format.{departureBits}
+use Rattle.book_format.proofs.Floats.{book-no-nan}
+use Rattle.net_node.specs.declared.EstTime.{EstTime}
+use Rattle.net_node.specs.Table.{nodeAt, Room}
+use Rattle.net_insertion.specs.Insertion.{Table, at}
+use Rattle.grow_rules.specs.Run.{Answer, refused, given}
+use Rattle.grow_rules.specs.Growth.{Grown, departure}
+use Rattle.pass_rules.specs.Walks.{Inside}
+use Rattle.pass_rules.specs.Passes.{Timed, timedAs, passes}
+use Rattle.pass_rules.specs.Passes.{refused as untimed}
+use Rattle.pass_all.specs.Timing.{timedNumber, TimedInto}
+use Rattle.pass_all.proofs.Proper.{Proper, passes-proper}
+use Rattle.grow_book.specs.declared.Report.{Report}
+use Rattle.grow_book.specs.declared.Grown.{Grown as Growth}
+use Rattle.grow_book.specs.declared.Grown.the-variants.{Whole, Stopped}
+use Rattle.grow_book.specs.Grower.{WholeAs, GrownAs}
+use Rattle.grow_for_tests.specs.Network.{network, grownNumber}
+use Rattle.grow_for_tests.proofs.Accepts.{head-there, departure-float, enough-of}
+use Rattle.grow_for_tests.proofs.Networks.{Sound, sound}
 use Rattle.est_times.specs.declared.Sheet.{Sheet}
 use Rattle.est_times.specs.declared.Sheet.the-variants.{Made, Refused}
 use Rattle.est_times.specs.Sheet.{Job, stopped, finished, timed, passed, job, reportOf, answerAs, BuiltAs}

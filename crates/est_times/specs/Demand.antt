@@ -4,13 +4,13 @@ use mathlib.Core.List.{List}
 use Prim.Native.Nat.{ℕ, _+_}
 use lib.ListN.{length}
 use lib.Ieee.{Float}
-use Rattle.network.specs.Table.{nodeAt, Room}
-use Rattle.insertion.specs.Insertion.{Table}
-use Rattle.driver.specs.Run.{Answer, given, Arc}
-use Rattle.driver.specs.Growth.{Grown, grow}
-use Rattle.growth.specs.declared.Report.{Report}
-use Rattle.arcs.specs.Arcs.{arcsRead, SameArcs}
-use Rattle.arcs.specs.Noted.{AllHeard}
+use Rattle.net_node.specs.Table.{nodeAt, Room}
+use Rattle.net_insertion.specs.Insertion.{Table}
+use Rattle.grow_rules.specs.Run.{Answer, given, Arc}
+use Rattle.grow_rules.specs.Growth.{Grown, grow}
+use Rattle.grow_book.specs.declared.Report.{Report}
+use Rattle.arcs_growth.specs.Arcs.{arcsRead, SameArcs}
+use Rattle.arcs_growth.specs.Noted.{AllHeard}
 use Rattle.est_times.specs.declared.Sheet.{Sheet}
 use Rattle.est_times.specs.declared.Sheet.the-variants.{Made, Refused}
 

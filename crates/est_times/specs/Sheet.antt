@@ -5,13 +5,13 @@ use Prim.Native.Nat.{ℕ, zero, suc, _-_, _*_}
 use lib.ListN.{take}
 use lib.Ieee.{Float}
 use Rattle.space.specs.Space.{zeros, zeroFloats}
-use Rattle.insertion.specs.Insertion.{Table}
-use Rattle.driver.specs.Run.{Answer, refused, given}
-use Rattle.driver.specs.Growth.{Grown, departure}
-use Rattle.passes.specs.Passes.{Timed, timedAs, passes}
-use Rattle.passes.specs.Passes.{refused as untimed}
-use Rattle.growth.specs.declared.Report.{Report}
-use Rattle.grower.specs.Network.{network}
+use Rattle.net_insertion.specs.Insertion.{Table}
+use Rattle.grow_rules.specs.Run.{Answer, refused, given}
+use Rattle.grow_rules.specs.Growth.{Grown, departure}
+use Rattle.pass_rules.specs.Passes.{Timed, timedAs, passes}
+use Rattle.pass_rules.specs.Passes.{refused as untimed}
+use Rattle.grow_book.specs.declared.Report.{Report}
+use Rattle.grow_for_tests.specs.Network.{network}
 use Rattle.est_times.specs.declared.Sheet.{Sheet}
 use Rattle.est_times.specs.declared.Sheet.the-variants.{Made, Refused}
 

@@ -1,14 +1,14 @@
 // Estimated times: a book to its sheet. Contracts: specs/Sheet.antt, specs/Demand.antt.
-use growth::Grown;
-use growth::Report;
+use grow_book::Grown;
+use grow_book::Report;
 ghost use mathlib.Core.Path.{_≡_};
 ghost use mathlib.Core.Bool.{true};
 ghost use Prim.Native.Nat.{_≤_};
 ghost use lib.ListN.{length};
 ghost use Rattle.floats.specs.Floats.{bookFloat};
-ghost use Rattle.book.specs.Format.{departureBits};
-ghost use Rattle.driver.specs.Growth.{departure};
-ghost use Rattle.grower.specs.Network.{grownNumber};
+ghost use Rattle.book_format.specs.Format.{departureBits};
+ghost use Rattle.grow_rules.specs.Growth.{departure};
+ghost use Rattle.grow_for_tests.specs.Network.{grownNumber};
 ghost use Rattle.space.specs.Space.{bytesOf, zeros, zeroFloats};
 ghost use Rattle.est_times.specs.Sheet.{job, answered, answerAs, BuiltAs, sheetNodes, floatsAs, numbersAs};
 ghost use Rattle.est_times.specs.Demand.{DemandOf};
@@ -63,7 +63,7 @@ fn build(
     requires { ⌜ now marks ≡ zeros (length (now marks)) ⌝ }
     ensures { λ r. ⌜ BuiltAs (job (now (book .entry)) (length (now (floats .entry))) (length (now (numbers .entry))) (bytesOf (length (now (reals .entry))) (length (now (cells .entry))) (length (now (marks .entry))))) (now (floats .exit)) (now (numbers .exit)) r ⌝ }
 {
-    let grown = grower::read_and_grow(book, floats, numbers, reals, cells, marks);
+    let grown = grow_for_tests::read_and_grow(book, floats, numbers, reals, cells, marks);
     let Grown::Whole(report) = grown else {
         return Sheet::Refused(number_of(grown));
     };
@@ -71,7 +71,7 @@ fn build(
     let flags = &mut cells[..n * 2];
     space::clear_numbers(flags);
     let departure = departure_of(book);
-    let number = timing::run_passes(floats, numbers, n, departure, reals, flags, marks);
+    let number = pass_all::run_passes(floats, numbers, n, departure, reals, flags, marks);
     answer(report, number)
 }
 
@@ -102,10 +102,10 @@ pub fn make_est_times(
     ensures marks { λ _. ⌜ now (marks .exit) ≡ zeros (length (now (marks .entry))) ⌝ }
     ensures demand { λ r. ⌜ DemandOf (now (book .entry)) (now (floats .exit)) (now (numbers .exit)) r ⌝ }
 {
-    grower::clear_before(floats, numbers, cells, marks);
+    grow_for_tests::clear_before(floats, numbers, cells, marks);
     let sheet = build(book, floats, numbers, reals, cells, marks);
     let n = nodes_of(sheet);
-    grower::clear_behind(floats, numbers, n);
-    grower::clear_work(reals, cells, marks);
+    grow_for_tests::clear_behind(floats, numbers, n);
+    grow_for_tests::clear_work(reals, cells, marks);
     sheet
 }

@@ -11,11 +11,11 @@ use Rattle.fields.specs.Fields.{u64At, u32At}
 use Rattle.fields.specs.Below.{someBelow}
 use Rattle.space.specs.Space.{zeros, zeroFloats}
 use Rattle.root.specs.Root.{sqrt}
-use Rattle.book.specs.Format.{sampleFrom}
-use Rattle.book.specs.Rows.{badSampleFrom}
-use Rattle.events.specs.Event.{eventOffset, clears, passingAt, badPassing}
-use Rattle.walk.specs.Course.{courseOf}
-use Rattle.walk.specs.Walk.{firstBeyond, start, offsetNext, inRange, clearsNext, emits, turned, turn, passedAs, passedNext, walk, turnsLeft, passedFrom, pointsPassed, reachesLast, someBad, row11}
+use Rattle.book_format.specs.Format.{sampleFrom}
+use Rattle.book_format.specs.Rows.{badSampleFrom}
+use Rattle.event_formula.specs.Event.{eventOffset, clears, passingAt, badPassing}
+use Rattle.event_walk.specs.Course.{courseOf}
+use Rattle.event_walk.specs.Walk.{firstBeyond, start, offsetNext, inRange, clearsNext, emits, turned, turn, passedAs, passedNext, walk, turnsLeft, passedFrom, pointsPassed, reachesLast, someBad, row11}
 use Rattle.event_maker.specs.declared.Made.{Made}
 use Rattle.event_maker.specs.declared.Made.the-variants.{Listed, Refused}
 use Rattle.event_maker.specs.Maker.{lentCourse, badCounts, badFloats, falling, answerOf, listPlaces, eventFloats, eventNumbers, floatsAs, numbersAs}

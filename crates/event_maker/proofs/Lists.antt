@@ -6,8 +6,8 @@ use native.Mathlib.Omega.{arith}
 use lib.ListN.{length, set, getD, replicate}
 use lib.Ieee.{Float, binary64, ofBits}
 use Rattle.space.specs.Space.{zeros, zeroFloats}
-use Rattle.network.specs.Table.{kindNumber}
-use Rattle.walk.specs.declared.PassedPoint.{PassedPoint}
+use Rattle.net_node.specs.Table.{kindNumber}
+use Rattle.event_walk.specs.declared.PassedPoint.{PassedPoint}
 use Rattle.event_maker.specs.Maker.{listPlaces, eventFloats, eventNumbers}
 use Rattle.event_maker.specs.Parts.{putEventFloats, putEventNumbers}
 

@@ -8,9 +8,9 @@ use lib.Dec.{T, ltb}
 use lib.ListN.{length, getD}
 use lib.Ieee.{Float, nan, binary64, fits}
 use Rattle.space.specs.Space.{zeroFloats}
-use Rattle.walk.specs.declared.Movement.{Movement}
-use Rattle.walk.specs.Course.{Course, courseOf, Held, Walkable}
-use Rattle.walk.specs.Walk.{pointsPassed, row11}
+use Rattle.event_walk.specs.declared.Movement.{Movement}
+use Rattle.event_walk.specs.Course.{Course, courseOf, Held, Walkable}
+use Rattle.event_walk.specs.Walk.{pointsPassed, row11}
 use Rattle.event_maker.specs.declared.Made.{Made}
 use Rattle.event_maker.specs.declared.Made.the-variants.{Listed, Refused}
 use Rattle.event_maker.specs.Maker.{movementOf, lentCourse, badCounts, badFloats, falling, pick, answerOf, madeNumber, madeCount, listPlaces, floatsAs, numbersAs}

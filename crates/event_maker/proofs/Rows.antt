@@ -14,14 +14,14 @@ use Rattle.fields.specs.Below.{someBelow}
 use Rattle.fields.proofs.Below.{none-left, none-right, none-at, none-all, some-at, some-same}
 use Rattle.floats.specs.Floats.{tableFloat, bookFloat, bookValue, Size}
 use Rattle.floats.proofs.Order.{not-lt, not-le, le-trans, size-of-bits, size-of-value}
-use Rattle.book.specs.declared.Sample.{Sample}
-use Rattle.book.specs.Format.{sampleFrom}
-use Rattle.book.specs.Rows.{outside, badSampleFrom}
-use Rattle.book.proofs.Floats.{sample-floats}
-use Rattle.walk.specs.declared.Movement.{Movement}
-use Rattle.walk.specs.Course.{Course, courseOf, Held, Rises, Walkable}
-use Rattle.walk.specs.Walk.{pointsPassed, reachesLast, someBad, row11}
-use Rattle.walk.proofs.Searches.{size-number, rises-le}
+use Rattle.book_format.specs.declared.Sample.{Sample}
+use Rattle.book_format.specs.Format.{sampleFrom}
+use Rattle.book_format.specs.Rows.{outside, badSampleFrom}
+use Rattle.book_format.proofs.Floats.{sample-floats}
+use Rattle.event_walk.specs.declared.Movement.{Movement}
+use Rattle.event_walk.specs.Course.{Course, courseOf, Held, Rises, Walkable}
+use Rattle.event_walk.specs.Walk.{pointsPassed, reachesLast, someBad, row11}
+use Rattle.event_walk.proofs.Searches.{size-number, rises-le}
 use Rattle.event_maker.specs.declared.Made.{Made}
 use Rattle.event_maker.specs.declared.Made.the-variants.{Listed, Refused}
 use Rattle.event_maker.specs.Maker.{badCounts, badFloats, falling, pick, answerOf}

@@ -11,9 +11,9 @@ use Rattle.fields.specs.Below.{someBelow}
 use Rattle.fields.proofs.Below.{some-more, none-more, some-at, none-at}
 use Rattle.floats.specs.Floats.{bookFloat}
 use Rattle.fields.specs.Fields.{u64At}
-use Rattle.book.specs.declared.Sample.{Sample}
-use Rattle.book.specs.Format.{sampleFrom}
-use Rattle.book.specs.Rows.{badSampleFrom}
+use Rattle.book_format.specs.declared.Sample.{Sample}
+use Rattle.book_format.specs.Format.{sampleFrom}
+use Rattle.book_format.specs.Rows.{badSampleFrom}
 use Rattle.event_maker.specs.Parts.{lowestOf, sweepNumber, offsetFalls, fallsAt}
 
 pub record Swept (n : ℕ) (bad falls : ℕ → Bool) (k : ℕ) (found : Bool) : Type 0 where

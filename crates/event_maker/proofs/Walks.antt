@@ -10,12 +10,12 @@ use lib.ListN.{length, getD, length-append}
 use lib.Ieee.{Float}
 use Rattle.fields.proofs.Below.{or-left, or-right, none-left, none-right}
 use Rattle.space.specs.Space.{zeros, zeroFloats}
-use Rattle.walk.specs.declared.Heads.{Heads}
-use Rattle.walk.specs.declared.PassedPoint.{PassedPoint}
-use Rattle.walk.specs.declared.Next.the-variants.{Passed}
-use Rattle.walk.specs.Course.{Course, Walkable}
-use Rattle.walk.specs.Walk.{start, turn, emits, passedNext, walk, turnsLeft, passedFrom, pointsPassed, badPoint, someBad, Each, Within, NextOf}
-use Rattle.walk.proofs.Theorems.{never-the-last}
+use Rattle.event_walk.specs.declared.Heads.{Heads}
+use Rattle.event_walk.specs.declared.PassedPoint.{PassedPoint}
+use Rattle.event_walk.specs.declared.Next.the-variants.{Passed}
+use Rattle.event_walk.specs.Course.{Course, Walkable}
+use Rattle.event_walk.specs.Walk.{start, turn, emits, passedNext, walk, turnsLeft, passedFrom, pointsPassed, badPoint, someBad, Each, Within, NextOf}
+use Rattle.event_walk.proofs.Theorems.{never-the-last}
 use Rattle.event_maker.specs.declared.Made.{Made}
 use Rattle.event_maker.specs.declared.Made.the-variants.{Listed, Refused}
 use Rattle.event_maker.specs.Maker.{pick, listPlaces, eventFloats, eventNumbers, floatsAs, numbersAs}

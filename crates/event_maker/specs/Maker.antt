@@ -11,13 +11,13 @@ use lib.Ieee.{Float, lt}
 use Rattle.fields.specs.Below.{someBelow}
 use Rattle.floats.specs.Floats.{bookValue}
 use Rattle.space.specs.Space.{zeros, zeroFloats}
-use Rattle.book.specs.Format.{sampleWidth}
-use Rattle.book.specs.Rows.{outside, badSampleFrom}
-use Rattle.network.specs.Table.{kindNumber}
-use Rattle.walk.specs.declared.Movement.{Movement}
-use Rattle.walk.specs.declared.PassedPoint.{PassedPoint}
-use Rattle.walk.specs.Course.{Course, courseOf}
-use Rattle.walk.specs.Walk.{pointsPassed, row11}
+use Rattle.book_format.specs.Format.{sampleWidth}
+use Rattle.book_format.specs.Rows.{outside, badSampleFrom}
+use Rattle.net_node.specs.Table.{kindNumber}
+use Rattle.event_walk.specs.declared.Movement.{Movement}
+use Rattle.event_walk.specs.declared.PassedPoint.{PassedPoint}
+use Rattle.event_walk.specs.Course.{Course, courseOf}
+use Rattle.event_walk.specs.Walk.{pointsPassed, row11}
 use Rattle.event_maker.specs.declared.Made.{Made}
 use Rattle.event_maker.specs.declared.Made.the-variants.{Listed, Refused}
 

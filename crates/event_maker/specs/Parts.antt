@@ -9,12 +9,12 @@ use lib.Ieee.{Float, nan, lt}
 use Rattle.fields.specs.Below.{someBelow}
 use Rattle.floats.specs.Floats.{bookValue}
 use Rattle.space.specs.Space.{zeros, zeroFloats}
-use Rattle.book.specs.Format.{sampleFrom}
-use Rattle.book.specs.Rows.{badSampleFrom}
-use Rattle.network.specs.Table.{kindNumber}
-use Rattle.walk.specs.declared.PassedPoint.{PassedPoint}
-use Rattle.walk.specs.Course.{Course}
-use Rattle.walk.specs.Walk.{pointsPassed, reachesLast, someBad}
+use Rattle.book_format.specs.Format.{sampleFrom}
+use Rattle.book_format.specs.Rows.{badSampleFrom}
+use Rattle.net_node.specs.Table.{kindNumber}
+use Rattle.event_walk.specs.declared.PassedPoint.{PassedPoint}
+use Rattle.event_walk.specs.Course.{Course}
+use Rattle.event_walk.specs.Walk.{pointsPassed, reachesLast, someBad}
 use Rattle.event_maker.specs.declared.Made.{Made}
 use Rattle.event_maker.specs.declared.Made.the-variants.{Listed, Refused}
 use Rattle.event_maker.specs.Maker.{badCounts, badFloats, falling, pick, floatsAs, numbersAs}

@@ -1,14 +1,14 @@
 // The event maker: samples, points and a train's length in, the events of one leg out. Contract: specs/Maker.antt.
-use walk::Movement;
-use walk::Next;
-use walk::PassedPoint;
+use event_walk::Movement;
+use event_walk::Next;
+use event_walk::PassedPoint;
 ghost use mathlib.Core.Path.{_≡_};
 ghost use mathlib.Core.Bool.{true, false, not};
 ghost use Prim.Native.Nat.{suc, _+_, _*_, _-_, _/_, _≤_, _<_, min};
 ghost use lib.ListN.{length};
 ghost use Rattle.space.specs.Space.{zeros, zeroFloats};
-ghost use Rattle.book.specs.Rows.{outside, badSampleFrom};
-ghost use Rattle.walk.specs.Course.{courseOf, Held, Walkable};
+ghost use Rattle.book_format.specs.Rows.{outside, badSampleFrom};
+ghost use Rattle.event_walk.specs.Course.{courseOf, Held, Walkable};
 ghost use Rattle.event_maker.specs.Maker.{lentCourse, answerOf, listPlaces, floatsAs, numbersAs};
 ghost use Rattle.event_maker.specs.Parts.{countAnswer, walkAnswer, lowestOf, firstNumber, sweepNumber, badOffset, offsetFalls, badAt, fallsAt, putEventFloats, putEventNumbers, FloatsListed, NumbersListed, isRefused, keptFloats, keptNumbers};
 
@@ -86,8 +86,8 @@ fn sample_falls(samples: &[u8], i: usize) -> bool
     requires { ⌜ badAt (now samples) (i + 1) ≡ false ⌝ }
     ensures { λ r. ⌜ r ≡ fallsAt (now (samples .entry)) i ⌝ }
 {
-    let a = book::sample_from(samples, i * 24);
-    let b = book::sample_from(samples, (i + 1) * 24);
+    let a = book_format::sample_from(samples, i * 24);
+    let b = book_format::sample_from(samples, (i + 1) * 24);
     !(a.time < b.time) | (b.offset < a.offset)
 }
 
@@ -136,7 +136,7 @@ fn first_number(samples: &[u8], offsets: &[f64], m: Movement) -> u32
     if of_points != 0 {
         return 7;
     }
-    let farthest = book::sample_from(samples, (m.samples - 1) * 24);
+    let farthest = book_format::sample_from(samples, (m.samples - 1) * 24);
     if offsets[m.points - 1] <= farthest.offset {
         return 11;
     }
@@ -166,7 +166,7 @@ fn list_event(
     floats[k * 3 + 1] = p.offset;
     floats[k * 3 + 2] = p.speed;
     let est_type = p.est_type;
-    let kind = network::kind_number(est_type);
+    let kind = net_node::kind_number(est_type);
     numbers[k * 2] = link;
     numbers[k * 2 + 1] = kind;
 }
@@ -201,14 +201,14 @@ fn list_events(
     ensures numbers { λ r. ⌜ NumbersListed r (courseOf (now (samples .entry)) (now (offsets .entry)) m) (now (links .entry)) (length (now (numbers .entry))) (now (numbers .exit)) ⌝ }
 {
     let places = list_places(floats.len(), numbers.len());
-    let mut h = walk::start_heads(samples, offsets, m);
+    let mut h = event_walk::start_heads(samples, offsets, m);
     let mut count = 0;
     loop {
-        let next = walk::next_event(samples, offsets, m, h);
+        let next = event_walk::next_event(samples, offsets, m, h);
         let Next::Passed(p, g) = next else {
             return listed(count, places);
         };
-        if walk::is_bad_point(p) {
+        if event_walk::is_bad_point(p) {
             return Made::Refused(11);
         }
         let point = p.point;

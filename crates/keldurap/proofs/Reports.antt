@@ -3,9 +3,9 @@ use mathlib.Core.Path.{_≡_, sym, ap, _∙_, subst}
 use mathlib.Core.List.{List}
 use Prim.Native.Nat.{ℕ}
 use lib.Ieee.{Float}
-use Rattle.growth.specs.declared.Report.{Report}
-use Rattle.growth.specs.declared.Grown.{Grown}
-use Rattle.grower.specs.Network.{grownNumber, reported as grownReport}
+use Rattle.grow_book.specs.declared.Report.{Report}
+use Rattle.grow_book.specs.declared.Grown.{Grown}
+use Rattle.grow_for_tests.specs.Network.{grownNumber, reported as grownReport}
 use Rattle.listing.specs.declared.Listed.{Listed}
 use Rattle.listing.specs.Listing.{listedNumber, listedLength}
 use Rattle.est_times.specs.declared.Sheet.{Sheet}

@@ -1,23 +1,23 @@
 // The entries for other languages. Each is thin: it calls the proved function of its crate and has its contract. include/keldurap.h has the C side.
 use est_times::Sheet;
 use event_maker::Made;
-use growth::Grown;
-use growth::Report;
+use grow_book::Grown;
+use grow_book::Report;
 use listing::Listed;
-use table::TimedTable;
+use pass_table::TimedTable;
 ghost use mathlib.Core.Path.{_≡_};
 ghost use lib.Ieee.{binary64};
 ghost use lib.ListN.{length};
 ghost use lib.Dec.{leb};
 ghost use Prim.Native.Nat.{_/_, min};
-ghost use Rattle.network.specs.Table.{nodeAt};
+ghost use Rattle.net_node.specs.Table.{nodeAt};
 ghost use Rattle.listing.specs.Listing.{sheetText, sheetListed, sheetBytes, listedNumber, listedLength};
 ghost use Rattle.root.specs.Root.{sqrt};
 ghost use Rattle.space.specs.Space.{bytesOf, zeros, zeroFloats};
-ghost use Rattle.reader.specs.Reader.{readNumber};
-ghost use Rattle.insertion.specs.Insertion.{Table};
-ghost use Rattle.table.specs.TableEntry.{nodesIn, tableTimes, timedAnswer, tableNumber, tableNodes, floatsAs as Table·floatsAs, numbersAs as Table·numbersAs};
-ghost use Rattle.grower.specs.Network.{network, counted, grownNumber, reported, floatsAs as Network·floatsAs, numbersAs as Network·numbersAs};
+ghost use Rattle.book_reader.specs.Reader.{readNumber};
+ghost use Rattle.net_insertion.specs.Insertion.{Table};
+ghost use Rattle.pass_table.specs.TableEntry.{nodesIn, tableTimes, timedAnswer, tableNumber, tableNodes, floatsAs as Table·floatsAs, numbersAs as Table·numbersAs};
+ghost use Rattle.grow_for_tests.specs.Network.{network, counted, grownNumber, reported, floatsAs as Network·floatsAs, numbersAs as Network·numbersAs};
 ghost use Rattle.est_times.specs.Sheet.{job, answered, sheetNumber, reported as Sheet·reported, floatsAs as Sheet·floatsAs, numbersAs as Sheet·numbersAs};
 ghost use Rattle.est_times.specs.Demand.{DemandOf};
 ghost use Rattle.event_maker.specs.Maker.{lentCourse, answerOf, listPlaces, madeNumber, madeCount, floatsAs, numbersAs};
@@ -44,7 +44,7 @@ pub extern "C" fn keldurap_check_book(
     ensures cells { λ _. ⌜ now (cells .exit) ≡ zeros (length (now (cells .entry))) ⌝ }
     ensures marks { λ _. ⌜ now (marks .exit) ≡ zeros (length (now (marks .entry))) ⌝ }
 {
-    reader::check_book(book, places, reals, cells, marks)
+    book_reader::check_book(book, places, reals, cells, marks)
 }
 
 // The events of one leg, into a list that is lent in two slices: 0 and how many there are, or the number of a refusal.
@@ -95,7 +95,7 @@ pub extern "C" fn keldurap_update_times(
     ensures cells { λ _. ⌜ now (cells .exit) ≡ zeros (length (now (cells .entry))) ⌝ }
     ensures marks { λ _. ⌜ now (marks .exit) ≡ zeros (length (now (marks .entry))) ⌝ }
 {
-    let timed = table::update_times(floats, numbers, departure, reals, cells, marks);
+    let timed = pass_table::update_times(floats, numbers, departure, reals, cells, marks);
     match timed {
         TimedTable::Whole(n) => {
             *nodes = n as u32;
@@ -135,7 +135,7 @@ pub extern "C" fn keldurap_grow_network(
     ensures cells { λ _. ⌜ now (cells .exit) ≡ zeros (length (now (cells .entry))) ⌝ }
     ensures marks { λ _. ⌜ now (marks .exit) ≡ zeros (length (now (marks .entry))) ⌝ }
 {
-    let grown = grower::grow_network(book, floats, numbers, reals, cells, marks);
+    let grown = grow_for_tests::grow_network(book, floats, numbers, reals, cells, marks);
     match grown {
         Grown::Stopped(k) => {
             *node_count = 0;

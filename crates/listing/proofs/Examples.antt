@@ -3,8 +3,8 @@ use mathlib.Core.Path.{_≡_, refl}
 use mathlib.Core.List.{List, [], _∷_}
 use Prim.Native.Nat.{ℕ}
 use lib.Ieee.{Float, binary64, ofBits, toBits}
-use Rattle.network.specs.Table.{nodeAt}
-use Rattle.growth.specs.declared.Report.{Report}
+use Rattle.net_node.specs.Table.{nodeAt}
+use Rattle.grow_book.specs.declared.Report.{Report}
 use Rattle.listing.specs.Listing.{float, sheetText, refusedText}
 
 abbrev o : Float

@@ -11,7 +11,7 @@ use borrow.Author.Tests.{le-leb, lt-leb}
 use lib.Dec.{leb}
 use lib.ListN.{length, set, take, getD, length-append, length-set}
 use lib.Seq.{take-suc, take-suc-set, length-take-le}
-use Rattle.network.specs.declared.EstTime.{EstTime}
+use Rattle.net_node.specs.declared.EstTime.{EstTime}
 use Rattle.space.specs.Space.{zeros}
 use Rattle.listing.specs.declared.Listed.{Listed}
 use Rattle.listing.specs.declared.Listed.the-variants.{Bytes, Short, Unfilled}

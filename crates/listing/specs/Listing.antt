@@ -7,10 +7,10 @@ use lib.Dec.{ltb, leb, eqb}
 use lib.ListN.{length}
 use lib.Ieee.{Float, binary64, toBits}
 use Rattle.space.specs.Space.{zeros}
-use Rattle.network.specs.declared.EstType.{EstType}
-use Rattle.network.specs.declared.EstType.the-variants.{Arrive, Clear, Fake}
-use Rattle.network.specs.declared.EstTime.{EstTime}
-use Rattle.growth.specs.declared.Report.{Report}
+use Rattle.net_node.specs.declared.EstType.{EstType}
+use Rattle.net_node.specs.declared.EstType.the-variants.{Arrive, Clear, Fake}
+use Rattle.net_node.specs.declared.EstTime.{EstTime}
+use Rattle.grow_book.specs.declared.Report.{Report}
 use Rattle.listing.specs.declared.Listed.{Listed}
 use Rattle.listing.specs.declared.Listed.the-variants.{Bytes, Short, Unfilled}
 

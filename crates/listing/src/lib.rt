@@ -1,7 +1,7 @@
 // The listing of a sheet, as bytes. Contracts: specs/Listing.antt, specs/Written.antt.
-use growth::Report;
-use network::EstTime;
-use network::EstType;
+use grow_book::Report;
+use net_node::EstTime;
+use net_node::EstType;
 ghost use mathlib.Core.Path.{_≡_};
 ghost use mathlib.Core.List.{List, [], _∷_, _++_};
 ghost use Prim.Native.Nat.{ℕ, _-_, _*_, _/_, _≤_, _<_, min};
@@ -9,7 +9,7 @@ ghost use lib.Dec.{leb};
 ghost use lib.ListN.{length, take};
 ghost use lib.Ieee.{binary64, toBits};
 ghost use Rattle.space.specs.Space.{zeros};
-ghost use Rattle.network.specs.Table.{nodeAt};
+ghost use Rattle.net_node.specs.Table.{nodeAt};
 ghost use Rattle.listing.specs.Listing.{glyph as Listing·glyph, letter as Listing·letter, digits, decimal, float, line, lines, head, sheetText, refusedText, fitted, bytesAs, sheetListed, sheetBytes};
 ghost use Rattle.listing.specs.Written.{Written, Puts};
 
@@ -151,7 +151,7 @@ fn put_lines(out: &mut [u8], at: usize, floats: &[f64], numbers: &[u32], n: usiz
     let mut to = at;
     let mut i = 0;
     while i < n {
-        let node = network::load(floats, numbers, i);
+        let node = net_node::load(floats, numbers, i);
         to = put_line(out, to, i, node);
         i += 1;
     }

@@ -6,21 +6,21 @@ use Prim.Native.Nat.{ℕ, zero, suc, _/_, _%_}
 use lib.IntN.{pos}
 use lib.ListN.{length, getD}
 use lib.Ieee.{Float, nan, binary64, add, sub, mul, div, lt, le, eq, isNan, ofBits, toBits, ofInt}
-use Rattle.network.specs.declared.EstType.{EstType}
-use Rattle.network.specs.declared.EstType.the-variants.{Arrive, Clear, Fake}
-use Rattle.network.specs.declared.EstTime.{EstTime}
-use Rattle.network.specs.declared.TimedEvent.{TimedEvent}
-use Rattle.network.specs.Table.{nodeAt}
-use Rattle.insertion.specs.Insertion.{matches}
+use Rattle.net_node.specs.declared.EstType.{EstType}
+use Rattle.net_node.specs.declared.EstType.the-variants.{Arrive, Clear, Fake}
+use Rattle.net_node.specs.declared.EstTime.{EstTime}
+use Rattle.net_node.specs.declared.TimedEvent.{TimedEvent}
+use Rattle.net_node.specs.Table.{nodeAt}
+use Rattle.net_insertion.specs.Insertion.{matches}
 use Rattle.root.specs.Root.{sqrt}
-use Rattle.book.specs.declared.Sample.{Sample}
-use Rattle.walk.specs.Course.{Course}
-use Rattle.walk.specs.Walk.{start, turn, pointsPassed}
-use Rattle.strands.specs.declared.EstJoinPath.{EstJoinPath}
-use Rattle.strands.specs.Entries.{entry}
-use Rattle.joins.specs.Joins.{JoinStep, JoinsTo, GoesOn, joinStep}
-use Rattle.queue.specs.declared.Entry.{Entry}
-use Rattle.queue.specs.Queue.{best}
+use Rattle.book_format.specs.declared.Sample.{Sample}
+use Rattle.event_walk.specs.Course.{Course}
+use Rattle.event_walk.specs.Walk.{start, turn, pointsPassed}
+use Rattle.net_strands.specs.declared.EstJoinPath.{EstJoinPath}
+use Rattle.net_strands.specs.Entries.{entry}
+use Rattle.net_joins.specs.Joins.{JoinStep, JoinsTo, GoesOn, joinStep}
+use Rattle.pass_queue.specs.declared.Entry.{Entry}
+use Rattle.pass_queue.specs.Queue.{best}
 use Rattle.est_times.specs.declared.Sheet.the-variants.{Made}
 use Rattle.est_times.specs.Sheet.{Job, stopped, finished, job, reportOf, answered, floatsAs, numbersAs}
 use Rattle.listing.specs.Listing.{sheetText, refusedText}
@@ -29,28 +29,28 @@ use Rattle.fields.specs.Fields as FieldsOf
 use Rattle.floats.specs.Floats as FloatsOf
 use Rattle.space.specs.Space as SpaceOf
 use Rattle.root.specs.Root as RootOf
-use Rattle.book.specs.Format as FormatOf
-use Rattle.book.specs.Rows as RowsOf
-use Rattle.book.specs.Chains as ChainsOf
-use Rattle.options.specs.Options as OptionsOf
-use Rattle.reader.specs.Reader as ReaderOf
-use Rattle.events.specs.Event as EventOf
-use Rattle.network.specs.Table as TableOf
-use Rattle.walk.specs.Walk as WalkOf
-use Rattle.insertion.specs.Insertion as InsertionOf
-use Rattle.strands.specs.Entries as EntriesOf
-use Rattle.strands.specs.Space as StrandsOf
-use Rattle.event_map.specs.EventMap as EventMapOf
-use Rattle.joins.specs.Joins as JoinsOf
-use Rattle.path.specs.Path as PathOf
-use Rattle.driver.specs.Run as RunOf
-use Rattle.driver.specs.Growth as GrowthOf
-use Rattle.queue.specs.Queue as QueueOf
-use Rattle.passes.specs.Checks as ChecksOf
-use Rattle.passes.specs.Forward as ForwardOf
-use Rattle.passes.specs.Backward as BackwardOf
-use Rattle.passes.specs.Passes as PassesOf
-use Rattle.grower.specs.Network as NetworkOf
+use Rattle.book_format.specs.Format as FormatOf
+use Rattle.book_format.specs.Rows as RowsOf
+use Rattle.book_format.specs.Chains as ChainsOf
+use Rattle.book_options.specs.Options as OptionsOf
+use Rattle.book_reader.specs.Reader as ReaderOf
+use Rattle.event_formula.specs.Event as EventOf
+use Rattle.net_node.specs.Table as TableOf
+use Rattle.event_walk.specs.Walk as WalkOf
+use Rattle.net_insertion.specs.Insertion as InsertionOf
+use Rattle.net_strands.specs.Entries as EntriesOf
+use Rattle.net_strands.specs.Space as StrandsOf
+use Rattle.net_event_map.specs.EventMap as EventMapOf
+use Rattle.net_joins.specs.Joins as JoinsOf
+use Rattle.grow_path.specs.Path as PathOf
+use Rattle.grow_rules.specs.Run as RunOf
+use Rattle.grow_rules.specs.Growth as GrowthOf
+use Rattle.pass_queue.specs.Queue as QueueOf
+use Rattle.pass_rules.specs.Checks as ChecksOf
+use Rattle.pass_rules.specs.Forward as ForwardOf
+use Rattle.pass_rules.specs.Backward as BackwardOf
+use Rattle.pass_rules.specs.Passes as PassesOf
+use Rattle.grow_for_tests.specs.Network as NetworkOf
 use Rattle.est_times.specs.Sheet as SheetOf
 use Rattle.listing.specs.Listing as ListingOf
 

@@ -3,7 +3,7 @@
 use libc::STDIN_FILENO;
 use libc::STDOUT_FILENO;
 ghost use mathlib.Core.Path.{_≡_};
-ghost use Rattle.reader.specs.Reader.{readNumber};
+ghost use Rattle.book_reader.specs.Reader.{readNumber};
 
 // The number of a book for a table of 192 nodes and 65,536 bytes of work space.
 fn number(book: &[u8]) -> u32
@@ -12,7 +12,7 @@ fn number(book: &[u8]) -> u32
     let mut reals = [0.0f64; 3072];
     let mut cells = [0u32; 8192];
     let mut marks = [0u32; 2048];
-    reader::check_book(book, 192, &mut reals, &mut cells, &mut marks)
+    book_reader::check_book(book, 192, &mut reals, &mut cells, &mut marks)
 }
 
 fn print_number(n: u32) {

@@ -7,8 +7,8 @@ use lib.Dec.{leb}
 use lib.ListN.{length}
 use lib.Ieee.{Float}
 use Rattle.space.specs.Space.{bytesOf}
-use Rattle.network.specs.Table.{nodeAt}
-use Rattle.growth.specs.declared.Report.{Report}
+use Rattle.net_node.specs.Table.{nodeAt}
+use Rattle.grow_book.specs.declared.Report.{Report}
 use Rattle.est_times.specs.declared.Sheet.{Sheet}
 use Rattle.est_times.specs.declared.Sheet.the-variants.{Made, Refused}
 use Rattle.est_times.specs.Sheet.{Job, stopped, finished, job, reportOf, answered, floatsAs, numbersAs}

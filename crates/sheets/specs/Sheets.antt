@@ -3,7 +3,7 @@ use mathlib.Core.List.{List}
 use Prim.Native.Nat.{ℕ, _/_, min}
 use lib.Dec.{leb}
 use lib.ListN.{length}
-use Rattle.network.specs.Table.{nodeAt}
+use Rattle.net_node.specs.Table.{nodeAt}
 use Rattle.est_times.specs.Sheet.{Job, stopped, finished, reportOf, floatsAs, numbersAs}
 use Rattle.listing.specs.declared.Listed.{Listed}
 use Rattle.listing.specs.Listing.{sheetText, refusedText, fitted, bytesAs, sheetListed, sheetBytes}

@@ -3,7 +3,7 @@ use mathlib.Core.Path.{_≡_, sym, ap, _∙_, refl}
 use native.Mathlib.Omega.{arith}
 use borrow.Author.Needs.{needs}
 use Rattle.space.proofs.Zeros.{zeros-again, zeros-as}
-use Rattle.grower.proofs.Networks.{floats-again, floats-zero}
+use Rattle.grow_for_tests.proofs.Networks.{floats-again, floats-zero}
 use Rattle.est_times.proofs.Answers.{nodes-most, final-answer, final-floats, final-numbers}
 use Rattle.est_times.proofs.Demands.{final-demand}
 use Rattle.est_times.proofs.make_est_times.Statement.{statement}

@@ -3,7 +3,7 @@ use mathlib.Core.Path.{_≡_}
 use mathlib.Core.Bool.{false}
 use native.Mathlib.Omega.{arith}
 use borrow.Author.Needs.{needs}
-use Rattle.walk.specs.Course.{courseOf}
+use Rattle.event_walk.specs.Course.{courseOf}
 use Rattle.event_maker.specs.Maker.{badCounts}
 use Rattle.event_maker.proofs.Rows.{Tested, Counted, counts, counts-left, first-3, first-length, first-points, first-samples, first-fall, tested, farthest-held, first-11, first-0}
 use Rattle.event_maker.proofs.first_number.Statement.{statement}

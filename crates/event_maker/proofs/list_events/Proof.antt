@@ -4,9 +4,9 @@ use Prim.Native.Nat.{_<_}
 use native.Mathlib.Omega.{arith}
 use borrow.Author.Needs.{needs}
 use lib.ListN.{length}
-use Rattle.walk.specs.declared.Next.the-variants.{Passed}
-use Rattle.walk.specs.Course.{courseOf}
-use Rattle.walk.specs.Walk.{passedFrom, NextOf}
+use Rattle.event_walk.specs.declared.Next.the-variants.{Passed}
+use Rattle.event_walk.specs.Course.{courseOf}
+use Rattle.event_walk.specs.Walk.{passedFrom, NextOf}
 use Rattle.event_maker.proofs.Walks.{Listing, listing-start, end-answer, end-floats, end-numbers, bad-answer, point-before, fewer-left, count-most, listing-room, listing-on}
 use Rattle.event_maker.proofs.list_events.Statement.{statement}
 use Rattle.event_maker.proofs.list_events.Tie as tie

@@ -1,7 +1,7 @@
 -- `keldurap::keldurap_update_times` meets its contract.
 use native.Mathlib.Omega.{arith}
 use borrow.Author.Needs.{needs}
-use Rattle.table.proofs.Answers.{whole-most, answer-told}
+use Rattle.pass_table.proofs.Answers.{whole-most, answer-told}
 use Rattle.keldurap.proofs.keldurap_update_times.Statement.{statement}
 use Rattle.keldurap.proofs.keldurap_update_times.Tie as tie
 

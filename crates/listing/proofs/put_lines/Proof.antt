@@ -2,7 +2,7 @@
 use borrow.Author.Needs.{needs}
 use Prim.Native.Nat.{_-_}
 use native.Mathlib.Omega.{arith}
-use Rattle.network.specs.Table.{nodeAt}
+use Rattle.net_node.specs.Table.{nodeAt}
 use Rattle.listing.specs.Listing.{lines}
 use Rattle.listing.proofs.Texts.{Turned, turned-none, turned-more, turned-all, no-lines, line-one}
 use Rattle.listing.proofs.put_lines.Statement.{statement}

@@ -2,7 +2,7 @@
 use borrow.Author.Needs.{needs}
 use mathlib.Core.Path.{_≡_, refl, _∙_}
 use Rattle.space.specs.Space.{bytesOf, unitsOf}
-use Rattle.reader.proofs.Rooms.{number-moved}
+use Rattle.book_reader.proofs.Rooms.{number-moved}
 use Rattle.readable.proofs.number.Statement.{statement}
 use Rattle.readable.proofs.number.Tie as tie
 

@@ -1,0 +1,264 @@
+-- The driver keeps its invariant: a leg's events, then a finish or the way on, with what is saved; and no run waits when it is done.
+use mathlib.Core.Path.{_≡_, refl, sym, ap, _∙_, subst}
+use mathlib.Core.Logic.{inl, inr}
+use mathlib.Core.Bool.{Bool, true, false}
+use mathlib.Core.List.{List, [], _∷_, _++_}
+use Prim.Native.Nat.{ℕ, zero, suc, _+_, _-_, _<_, _≤_}
+use native.Mathlib.Omega.{arith}
+use borrow.Author.Tests.{eqb-true, eqb-false}
+use lib.Dec.{eqb, ltb}
+use Rattle.book_format.specs.Format.{legs, linkNext, linkNextAlt, legLink, legParent}
+use Rattle.book_format.specs.Chains.{legBelow}
+use Rattle.book_options.specs.Options.{inSet}
+use Rattle.event_walk.specs.Walk.{row11}
+use Rattle.net_node.specs.declared.EstTime.{EstTime}
+use Rattle.net_node.specs.declared.TimedEvent.{TimedEvent}
+use Rattle.grow_path.specs.Path.{linkOf, legCourse, legEvents}
+use Rattle.grow_rules.specs.Run.{given, andThen, Net, Run, arcToEnd, Outcome, Ended, On, runEvents}
+use Rattle.grow_rules.specs.Growth.{Growth, joinGap, takes, seekLeg, badFinish, finishedAt, finishAs, waiting, onOver, fitsIn, saveOver, onAs, goOn, finishes, endedAs, legDone, legAs, takeLeg, drive}
+use Rattle.arcs_growth.specs.Arcs.{one}
+use Rattle.arcs_growth.specs.Runs.{runEventsTo}
+use Rattle.arcs_growth.specs.Read.{Read}
+use Rattle.arcs_growth.proofs.Answers.{Holds, holds-then, holds-so, All}
+use Rattle.arcs_growth.proofs.Labels.{Labels}
+use Rattle.arcs_growth.proofs.Invariant.{Stands, Waits, Owned}
+use Rattle.arcs_growth.proofs.Finishing.{finish-tip, finish-keeps}
+use Rattle.arcs_growth.proofs.Paths.{append-assoc, LegOf, leg-found, run-events-more, events-real}
+use Rattle.arcs_growth.proofs.Faring.{Fares, Driven, Running}
+use Rattle.arcs_growth.proofs.Running.{Came, events-run}
+use Rattle.arcs_growth.proofs.Loads.{legCount, load, load-same, Kids, load-less}
+
+-- a run with another leg, and whether it has added
+abbrev pub withLeg : Run → ℕ → Bool → Run
+withLeg run j flag = record { place = run .place; leg = j; added = flag; joins = run .joins }
+
+-- the number of a leg
+abbrev pub LegIn : List ℕ → Run → Type 0
+LegIn b r = (0 < r .leg) × (r .leg ≤ legs b)
+
+-- ---- another leg, and a saved run
+
+pub waits-leg : {L : Labels} {net : Net} {run : Run} {saved : List Run} → Waits L net (run ∷ saved) → (j : ℕ) → Waits L net (withLeg run j (run .added) ∷ saved)
+waits-leg {L} {net} {run} u j = record {
+  owned = u .owned;
+  stand = (record { within = s .within; self = s .self; holds = s .holds; listed = s .listed }, u .stand .1);
+  last = ((λ w. let t = u .last .0 w in record { last = t .last; empty = t .empty; no-end = t .no-end }), u .last .1);
+}
+  where
+    s : Stands L net run
+    s = u .stand .0
+
+pub waits-saved : {L : Labels} {net : Net} {run : Run} {saved : List Run} → Waits L net (run ∷ saved) → (j : ℕ) → Waits L net (run ∷ withLeg run j false ∷ saved)
+waits-saved {L} {net} {run} {saved} u j = record {
+  owned = λ i h b z o. go i (u .owned i h b z o);
+  stand = (s, (record { within = s .within; self = s .self; holds = s .holds; listed = s .listed }, u .stand .1));
+  last = (u .last .0, (refl, u .last .1));
+}
+  where
+    s : Stands L net run
+    s = u .stand .0
+
+    go : (i : ℕ) → Owned L i (run ∷ saved) → Owned L i (run ∷ withLeg run j false ∷ saved)
+    go i (inl q) = inl q
+    go i (inr q) = inr (q .0, inr (q .1))
+
+module _ {b : List ℕ} (r : Read b) where
+  -- a run at the end of its leg takes one of the leg's children
+  fares-leg : {L : Labels} {node : ℕ → EstTime} {n : ℕ} {run : Run} → Fares b L node n run [] → LegIn b run → {link : ℕ} (i : ℕ) → LegOf b (legs b) (run .leg) link i → (flag : Bool)
+      → Fares b L node n (withLeg run (suc i) flag) (legEvents b (suc i))
+  fares-leg {run = run} f l i o flag = record {
+    within = f .within;
+    deep = f .deep;
+    past = f .past;
+    last = f .last;
+    events = run-events-more r i (run .leg - 1) (o .within) (o .parent ∙ is) ∙ ap (λ (j : ℕ). runEventsTo b j ++ legEvents b (suc i)) (sym is)
+        ∙ ap (λ (xs : List TimedEvent). xs ++ legEvents b (suc i)) (f .events) ∙ append-assoc (f .past) (f .last ∷ []) (legEvents b (suc i));
+    here = f .here;
+    time = f .time;
+    distance = f .distance;
+  }
+    where
+      is : run .leg ≡ suc (run .leg - 1)
+      is = omega (arith, l .0)
+
+  -- what waits after a turn
+  pub record Turned (places : ℕ) (run : Run) (saved : List Run) (g : Growth) : Type 0 where
+    pub driven : Driven b places (g .net) (g .saved)
+    pub legs-in : All (LegIn b) (g .saved)
+    pub less : load b (g .saved) + 1 ≤ load b (run ∷ saved)
+
+  -- ---- the way on
+
+  module _ (places : ℕ) (net : Net) (run : Run) (saved : List Run) (in-here : LegIn b run) (link : ℕ) where
+    -- the children counted so far stay apart from one over this link
+    on-over : {rest : List Run} → Running b places net run rest [] → All (LegIn b) rest → (c : ℕ → ℕ) → ((x : ℕ) → legCount rest x ≡ c x + legCount saved x)
+        → ((i : ℕ) → LegOf b (legs b) (run .leg) link i → Kids b (run .leg) (λ (x : ℕ). one (eqb (suc i) x) + c x)) → Holds (Turned places run saved) (onOver b net run link rest)
+    unfolding onOver seekLeg
+    on-over {rest} d ls c counts kids = go (legBelow b (legs b) (run .leg) link) refl
+      where
+        go : (j : ℕ) → legBelow b (legs b) (run .leg) link ≡ j
+            → Holds (Turned places run saved) (andThen (takes run j) (λ (q : Run). given (record { net = net; saved = record { place = q .place; leg = q .leg; added = run .added; joins = q .joins } ∷ rest })))
+        go zero e = tt
+        go (suc i) e =
+            let o = leg-found b (legs b) (run .leg) link i e in
+            record {
+              driven = record { labels = d .labels; grows = d .grows; waits = waits-leg (d .waits) (suc i); fares = (fares-leg (d .fares) in-here i o (run .added), d .others); notes = d .notes };
+              legs-in = ((omega arith, omega (arith, o .within)), ls);
+              less = load-less r run saved (withLeg run (suc i) (run .added) ∷ rest) (λ (x : ℕ). one (eqb (suc i) x) + c x) (in-here .0) (in-here .1) (kids i o) (λ x. let q = counts x in omega arith);
+            }
+
+    -- an alternative's run is saved
+    record Saved (rest : List Run) : Type 0 where
+      running : Running b places net run rest []
+      legs-in : All (LegIn b) rest
+      child : ℕ
+      is-child : LegOf b (legs b) (run .leg) link child
+      counts : (x : ℕ) → legCount rest x ≡ one (eqb (suc child) x) + legCount saved x
+
+    save-over : Running b places net run saved [] → All (LegIn b) saved → Holds Saved (saveOver b places run link saved)
+    unfolding saveOver seekLeg
+    save-over d ls = go (legBelow b (legs b) (run .leg) link) refl
+      where
+        fits : (t : Bool) (rest : List Run) → Saved rest → Holds Saved (fitsIn t rest)
+        fits true rest s = tt
+        fits false rest s = s
+
+        go : (j : ℕ) → legBelow b (legs b) (run .leg) link ≡ j → Holds Saved (andThen (takes run j) (λ (q : Run). fitsIn (ltb places (waiting (q ∷ saved))) (q ∷ saved)))
+        go zero e = tt
+        go (suc i) e =
+            let o = leg-found b (legs b) (run .leg) link i e in
+            fits (ltb places (waiting (withLeg run (suc i) false ∷ saved))) (withLeg run (suc i) false ∷ saved) (record {
+              running = record { labels = d .labels; grows = d .grows; waits = waits-saved (d .waits) (suc i); fares = d .fares; others = (fares-leg (d .fares) in-here i o false, d .others); notes = d .notes };
+              legs-in = ((omega arith, omega (arith, o .within)), ls);
+              child = i;
+              is-child = o;
+              counts = λ x. refl;
+            })
+
+  -- one child alone
+  one-kid : (p i link : ℕ) → LegOf b (legs b) p link i → Kids b p (λ (x : ℕ). one (eqb (suc i) x) + 0)
+  one-kid p i link o = record { once = λ j h. go (eqb (suc i) (suc j)); parent = λ j h q. same j (eqb (suc i) (suc j)) refl q }
+    where
+      go : (t : Bool) → one t + 0 ≤ 1
+      go true = omega arith
+      go false = omega arith
+
+      same : (j : ℕ) (t : Bool) → eqb (suc i) (suc j) ≡ t → 0 < one t + 0 → legParent b j ≡ p
+      same j true e q = let d : suc i ≡ suc j = eqb-true (suc i) (suc j) e in let f : j ≡ i = omega arith in ap (legParent b) f ∙ o .parent
+      same j false e q = absurd (omega arith)
+
+  -- two children over different links
+  two-kids : (p i k link alt : ℕ) → LegOf b (legs b) p link i → LegOf b (legs b) p alt k → (link ≡ alt → ⊥) → Kids b p (λ (x : ℕ). one (eqb (suc i) x) + one (eqb (suc k) x))
+  two-kids p i k link alt o m d = record { once = λ j h. go j (eqb (suc i) (suc j)) (eqb (suc k) (suc j)) refl refl; parent = λ j h q. same j (eqb (suc i) (suc j)) (eqb (suc k) (suc j)) refl refl q }
+    where
+      is : (l j : ℕ) → eqb (suc l) (suc j) ≡ true → j ≡ l
+      is l j e = let q : suc l ≡ suc j = eqb-true (suc l) (suc j) e in omega arith
+
+      go : (j : ℕ) (s t : Bool) → eqb (suc i) (suc j) ≡ s → eqb (suc k) (suc j) ≡ t → one s + one t ≤ 1
+      go j true true e f = absurd (d (sym (o .link) ∙ ap (legLink b) (sym (is i j e) ∙ is k j f) ∙ m .link))
+      go j true false e f = omega arith
+      go j false true e f = omega arith
+      go j false false e f = omega arith
+
+      same : (j : ℕ) (s t : Bool) → eqb (suc i) (suc j) ≡ s → eqb (suc k) (suc j) ≡ t → 0 < one s + one t → legParent b j ≡ p
+      same j true t e f q = ap (legParent b) (is i j e) ∙ o .parent
+      same j false true e f q = ap (legParent b) (is k j f) ∙ m .parent
+      same j false false e f q = absurd (omega arith)
+
+  goes-on : {places : ℕ} {net : Net} {run : Run} {saved : List Run} → Running b places net run saved [] → LegIn b run → All (LegIn b) saved → Holds (Turned places run saved) (goOn b places net run saved)
+  unfolding goOn linkOf
+  goes-on {places} {net} {run} {saved} d in-here ls =
+      go (eqb next 0) (inSet b next) (inSet b alt) refl
+    where
+      next : ℕ
+      next = linkNext b (linkOf b (run .leg))
+
+      alt : ℕ
+      alt = linkNextAlt b (linkOf b (run .leg))
+
+      differ : eqb next 0 ≡ false → next ≡ alt → ⊥
+      differ e q = eqb-false next 0 e (r .forks (run .leg - 1) (omega (arith, in-here .0, in-here .1)) q)
+
+      single : (link : ℕ) → Holds (Turned places run saved) (onOver b net run link saved)
+      single link = on-over places net run saved in-here link d ls (λ (x : ℕ). 0) (λ x. omega arith) (λ i o. one-kid (run .leg) i link o)
+
+      go : (x y z : Bool) → eqb next 0 ≡ x → Holds (Turned places run saved) (onAs x y z b places net run next alt saved)
+      go true y z e = tt
+      go false false false e = tt
+      go false true false e = single next
+      go false false true e = single alt
+      go false true true e =
+          holds-then (Saved places net run saved in-here alt) (Turned places run saved) (saveOver b places run alt saved) (onOver b net run next) (save-over places net run saved in-here alt d ls)
+          (λ rest s. on-over places net run saved in-here next (s .running) (s .legs-in) (λ (x : ℕ). one (eqb (suc (s .child)) x)) (s .counts) (λ i o. two-kids (run .leg) i (s .child) next alt o (s .is-child) (differ e)))
+
+  -- ---- one leg
+
+  finishes-here : {places : ℕ} {net : Net} {run : Run} {saved : List Run} → Running b places net run saved [] → LegIn b run → All (LegIn b) saved → (t : Bool) → badFinish net run ≡ t
+      → Holds (Turned places run saved) (finishAs t net run saved)
+  unfolding finishedAt arcToEnd
+  finishes-here d l ls true e = tt
+  finishes-here {places} {net} {run} {saved} d l ls false e =
+      let v = d .grows .body .graph .laid .two in
+      let tip = finish-tip net run (omega arith) e in
+      let f = finish-keeps (d .grows) (d .waits) tip in
+      record {
+        driven = record {
+          labels = d .labels;
+          grows = f .grows;
+          waits = f .waits;
+          fares = d .others;
+          notes = ((d .fares .within, (omega arith, inl (record { to = refl; time = refl; distance = refl }))), d .notes);
+        };
+        legs-in = ls;
+        less = load-less r run saved saved (λ (x : ℕ). 0) (l .0) (l .1) (record { once = λ i h. omega arith; parent = λ i h q. absurd (omega arith) }) (λ x. omega arith);
+      }
+
+  leg-done : (places : ℕ) (run : Run) (saved : List Run) (o : Outcome) → Came b places (run .leg) saved [] o → LegIn b run → All (LegIn b) saved → Holds (Turned places run saved) (legDone b places saved o)
+  leg-done places run saved (Ended net) d l ls = record {
+    driven = d;
+    legs-in = ls;
+    less = load-less r run saved saved (λ (x : ℕ). 0) (l .0) (l .1) (record { once = λ i h. omega arith; parent = λ i h q. absurd (omega arith) }) (λ x. omega arith);
+  }
+  leg-done places run saved (On a) d l ls =
+      holds-so (Turned places (a .run) saved) (Turned places run saved) (endedAs (finishes b (a .run .leg)) b places a saved) (go (finishes b (a .run .leg)))
+      (λ g t. record { driven = t .driven; legs-in = t .legs-in; less = subst (λ (k : ℕ). load b (g .saved) + 1 ≤ k) same (t .less) })
+    where
+      in-here : LegIn b (a .run)
+      in-here = subst (λ (k : ℕ). (0 < k) × (k ≤ legs b)) (sym (d .1)) l
+
+      same : load b (a .run ∷ saved) ≡ load b (run ∷ saved)
+      same = load-same b (legCount (a .run ∷ saved)) (legCount (run ∷ saved)) (λ x. ap (λ (k : ℕ). one (eqb k x) + legCount saved x) (d .1))
+
+      go : (t : Bool) → Holds (Turned places (a .run) saved) (endedAs t b places a saved)
+      go true = finishes-here (d .0) in-here ls (badFinish (a .net) (a .run)) refl
+      go false = goes-on (d .0) in-here ls
+
+  pub takes-leg : {places : ℕ} {net : Net} {run : Run} {saved : List Run} → Driven b places net (run ∷ saved) → All (LegIn b) (run ∷ saved) → Holds (Turned places run saved) (takeLeg b places net run saved)
+  unfolding takeLeg
+  takes-leg {places} {net} {run} {saved} d ls = go (row11 (legCourse b (run .leg)))
+    where
+      running : Running b places net run saved (legEvents b (run .leg))
+      running = record { labels = d .labels; grows = d .grows; waits = d .waits; fares = d .fares .0; others = d .fares .1; notes = d .notes }
+
+      go : (t : Bool) → Holds (Turned places run saved) (legAs t b places net run saved)
+      go true = tt
+      go false =
+          holds-then (Came b places (run .leg) saved []) (Turned places run saved) (runEvents places (joinGap b) (legEvents b (run .leg)) (record { net = net; run = run })) (legDone b places saved)
+          (events-run (legEvents b (run .leg)) (record { net = net; run = run }) running (events-real b (run .leg)) (joinGap b))
+          (λ o c. leg-done places run saved o c (ls .0) (ls .1))
+
+  -- ---- all runs
+
+  nobody : (runs : List Run) → All (LegIn b) runs → load b runs ≤ 0 → runs ≡ []
+  nobody [] ls h = refl
+  nobody (run ∷ runs) ls h =
+      let l = load-less r run runs runs (λ (x : ℕ). 0) (ls .0 .0) (ls .0 .1) (record { once = λ i k. omega arith; parent = λ i k q. absurd (omega arith) }) (λ x. omega arith) in
+      absurd (omega arith)
+
+  pub drives : {places : ℕ} (k : ℕ) (net : Net) (saved : List Run) → Driven b places net saved → All (LegIn b) saved → load b saved ≤ k → Holds (λ (n : Net). Driven b places n []) (drive k b places net saved)
+  unfolding drive
+  drives {places} zero net saved d ls h = subst (Driven b places net) (nobody saved ls h) d
+  drives (suc k) net [] d ls h = d
+  drives {places} (suc k) net (run ∷ saved) d ls h =
+      holds-then (Turned places run saved) (λ (n : Net). Driven b places n []) (takeLeg b places net run saved) (λ (g : Growth). drive k b places (g .net) (g .saved)) (takes-leg d ls)
+      (λ g t. drives k (g .net) (g .saved) (t .driven) (t .legs-in) (let l = t .less in omega arith))

@@ -1,0 +1,98 @@
+-- The arcs of a sheet, document 01 under "Arcs". "Node 1 is the start, the last node the end; other arc ends are event nodes (Arrive or Clear), by number."
+-- Read off the sheet: "each of node 1, event nodes and split Fakes (Fakes that are next alternatives, 0 being none) has one arc, with its own time to next and distance to next.
+-- It leads from the event or start whose next alternatives reach it (the start or an event: from itself) to the first non-Fake or the end along next."
+-- The network is a function from index to node, of which the first n count. In an arc 0 stands for the end.
+use mathlib.Core.Path.{_≡_}
+use mathlib.Core.Bool.{Bool, true, false, not, _&&_, _||_, cond}
+use mathlib.Core.List.{List, [], _∷_, _++_}
+use Prim.Native.Nat.{ℕ, zero, suc, _+_, _-_}
+use lib.Dec.{eqb}
+use lib.Ieee.{Float, binary64, toBits, sub}
+use Rattle.fields.specs.Below.{someBelow}
+use Rattle.net_node.specs.declared.EstType.{EstType}
+use Rattle.net_node.specs.declared.EstType.the-variants.{Arrive, Clear, Fake}
+use Rattle.net_node.specs.declared.EstTime.{EstTime}
+use Rattle.net_node.specs.declared.TimedEvent.{TimedEvent}
+use Rattle.grow_rules.specs.Run.{Arc}
+
+abbrev pub fakeKind : EstType → Bool
+fakeKind Arrive = false
+fakeKind Clear = false
+fakeKind Fake = true
+
+abbrev pub isFake : EstTime → Bool
+isFake x = fakeKind (x .«link_event» .«est_type»)
+
+module _ (node : ℕ → EstTime) (n : ℕ) where
+  -- "Fakes that are next alternatives, 0 being none"
+  unfoldable pub isAlternative : ℕ → Bool
+  isAlternative i = not (eqb i 0) && someBelow n (λ k. eqb (node k .«idx_next_alt») i)
+
+  -- "each of node 1, event nodes and split Fakes"
+  unfoldable pub isBase : ℕ → Bool
+  unfolding isAlternative
+  isBase i = eqb i 1 || not (isFake (node i)) || isAlternative i
+
+  -- the last of the first k nodes whose next alternative is i, or 0
+  unfoldable pub alternativeOf : ℕ → ℕ → ℕ
+  alternativeOf zero i = 0
+  alternativeOf (suc k) i = cond (eqb (node k .«idx_next_alt») i) k (alternativeOf k i)
+
+  -- "from the event or start whose next alternatives reach it (the start or an event: from itself)", in so many steps
+  abbrev sourceAs : Bool → ℕ → ℕ → ℕ
+  sourceAs true i before = i
+  sourceAs false i before = before
+
+  unfoldable pub sourceOf : ℕ → ℕ → ℕ
+  unfolding alternativeOf
+  sourceOf zero i = i
+  sourceOf (suc k) i =
+      let before = sourceOf k (alternativeOf n i) in
+      sourceAs (eqb i 1 || not (isFake (node i))) i before
+
+  -- "to the first non-Fake or the end along next", in so many steps; 0 is the end
+  abbrev goalAs : Bool → Bool → ℕ → ℕ → ℕ
+  goalAs true fake i later = 0
+  goalAs false false i later = i
+  goalAs false true i later = later
+
+  unfoldable pub goalOf : ℕ → ℕ → ℕ
+  goalOf zero i = 0
+  goalOf (suc k) i =
+      let later = goalOf k (node i .«idx_next») in
+      goalAs (eqb i (n - 1)) (isFake (node i)) i later
+
+  -- "with its own time to next and distance to next"
+  unfoldable pub arcOf : ℕ → Arc
+  unfolding sourceOf goalOf
+  arcOf i = record { from = sourceOf n i; to = goalOf n (node i .«idx_next»); time = node i .«time_to_next»; distance = node i .«dist_to_next» }
+
+  -- the arcs of the first k nodes
+  unfoldable pub arcsBelow : ℕ → List Arc
+  unfolding isBase arcOf
+  arcsBelow zero = []
+  arcsBelow (suc k) = cond (isBase k) (arcOf k ∷ arcsBelow k) (arcsBelow k)
+
+  -- the arcs read off the sheet
+  unfoldable pub arcsRead : List Arc
+  unfolding arcsBelow
+  arcsRead = arcsBelow n
+
+-- ---- "the same as often each, both ends and every bit of time and distance"
+
+unfoldable pub sameArc : Arc → Arc → Bool
+sameArc a b = eqb (a .from) (b .from) && eqb (a .to) (b .to) && eqb (toBits binary64 (a .time)) (toBits binary64 (b .time)) && eqb (toBits binary64 (a .distance)) (toBits binary64 (b .distance))
+
+abbrev pub one : Bool → ℕ
+one true = 1
+one false = 0
+
+-- how often an arc is in a list
+unfoldable pub timesIn : Arc → List Arc → ℕ
+unfolding sameArc
+timesIn a [] = 0
+timesIn a (x ∷ xs) = one (sameArc a x) + timesIn a xs
+
+-- each arc is in the one list as often as in the other
+abbrev pub SameArcs : List Arc → List Arc → Type 0
+SameArcs xs ys = (a : Arc) → timesIn a xs ≡ timesIn a ys

@@ -1,0 +1,41 @@
+-- What every noted arc is, document 01 under "Arcs": a finish's, "(place, end) with zeros"; an origin's Arrive's, "(start, its node) with its time minus the book's departure and distance 0";
+-- or an arc between two neighbouring events of a run.
+use mathlib.Core.Path.{_≡_}
+use mathlib.Core.Logic.{_⊎_}
+use mathlib.Core.Bool.{true}
+use mathlib.Core.List.{List, [], _∷_}
+use Prim.Native.Nat.{ℕ, _<_}
+use lib.Ieee.{binary64, sub, ofBits}
+use Rattle.book_format.specs.Format.{originLink}
+use Rattle.book_options.specs.Options.{keptOrigins}
+use Rattle.net_node.specs.declared.EstType.the-variants.{Arrive}
+use Rattle.net_node.specs.declared.EstTime.{EstTime}
+use Rattle.grow_rules.specs.Run.{Arc, memberOf}
+use Rattle.grow_rules.specs.Growth.{departure}
+use Rattle.arcs_growth.specs.Runs.{Follows}
+
+pub record LeadsOut (arc : Arc) : Type 0 where
+  pub to : arc .to ≡ 0
+  pub time : arc .time ≡ ofBits binary64 0
+  pub distance : arc .distance ≡ ofBits binary64 0
+
+-- from the start to a kept origin's Arrive
+pub record Starts (b : List ℕ) (node : ℕ → EstTime) (arc : Arc) : Type 0 where
+  pub row : ℕ
+  pub kept : memberOf (keptOrigins b) row ≡ true
+  pub from : arc .from ≡ 1
+  pub to-event : node (arc .to) .«link_event» ≡ record { «link_idx» = originLink b row; «est_type» = Arrive }
+  pub time : arc .time ≡ sub binary64 (departure b) (departure b)
+  pub distance : arc .distance ≡ sub binary64 (ofBits binary64 0) (ofBits binary64 0)
+
+abbrev pub Heard : List ℕ → (ℕ → EstTime) → Arc → Type 0
+Heard b node arc = LeadsOut arc ⊎ (Starts b node arc ⊎ Follows b node arc)
+
+abbrev pub AllHeard : List ℕ → (ℕ → EstTime) → List Arc → Type 0
+AllHeard b node [] = Unit
+AllHeard b node (arc ∷ arcs) = Heard b node arc × AllHeard b node arcs
+
+-- both ends of each arc are among the first n nodes
+abbrev pub EndsInside : ℕ → List Arc → Type 0
+EndsInside n [] = Unit
+EndsInside n (arc ∷ arcs) = ((arc .from < n) × (arc .to < n)) × EndsInside n arcs

@@ -1,0 +1,294 @@
+// Growth of a book's network: its origins, all runs, the ends. Contracts: grow_rules' specs/Growth.antt, specs/Grower.antt.
+use book_format::Sections;
+use grow_ends::Pushed;
+use net_event_map::Layout;
+use grow_events::Counts;
+use grow_state::Plan;
+use grow_state::State;
+use grow_state::Turned;
+ghost use mathlib.Core.Path.{_≡_};
+ghost use mathlib.Core.Bool.{true, false, not, _&&_};
+ghost use mathlib.Core.List.{List, []};
+ghost use Prim.Native.Nat.{ℕ, _+_, _*_, _≤_};
+ghost use lib.Dec.{eqb};
+ghost use lib.ListN.{length};
+ghost use lib.Ieee.{Float};
+ghost use Rattle.space.specs.Space.{placesOf};
+ghost use Rattle.net_node.specs.Table.{nodeAt};
+ghost use Rattle.book_format.specs.Format.{links, origins, destinations, legs};
+ghost use Rattle.book_legs.specs.Legs.{Started};
+ghost use Rattle.book_options.specs.Options.{Marked, keptOrigins};
+ghost use Rattle.book_reader.specs.Reader.{Ready};
+ghost use Rattle.grow_rules.specs.Run.{Net, Run};
+ghost use Rattle.grow_rules.specs.Growth.{drive, grow};
+ghost use Rattle.grow_state.specs.Held.{PlanIn, DriveIn, Driving, SomeDrive, TurnedAs};
+ghost use Rattle.grow_origins.specs.Origins.{startState, OriginsIn, SomeOrigins, OnlyStart};
+ghost use Rattle.grow_book.specs.Grower.{nextTurn, DriveAs, Closing, SomeClosing, closing, grownFrom, GrownAs};
+
+// The report's counts.
+pub struct Report {
+    pub nodes: usize,
+    pub added: usize,
+    pub splits: usize,
+    pub joined: usize,
+    pub finished: usize,
+}
+
+// The counts of a network that has grown, or the number of a refusal.
+pub enum Grown {
+    Whole(Report),
+    Stopped(u32),
+}
+
+// Whether no run is left.
+fn is_done(g: State) -> bool
+    ensures { λ r. ⌜ r ≡ (not (g .front .moves) && eqb (g .top) 0) ⌝ }
+{
+    let front = g.front;
+    !front.moves & (g.top == 0)
+}
+
+// The state with a run at the front: where there is none, the run that was saved last is taken up.
+fn to_front(reals: &[f64], cells: &[u32], joins: &mut [u32], p: Plan, g: State) -> State
+    requires { ⌜ SomeDrive p (now reals) (now cells) (now joins) g ⌝ }
+    requires { ⌜ 2048 ≤ length (now joins) ⌝ }
+    requires { ⌜ (not (g .front .moves) && eqb (g .top) 0) ≡ false ⌝ }
+    ensures moves { λ r. ⌜ r .front .moves ≡ true ⌝ }
+    ensures held { λ r. ⌜ ((b : List ℕ) (fs : List Float) (us path : List ℕ) (net : Net) (runs : List Run) → DriveIn b p fs us (now (reals .entry)) (now (cells .entry)) (now (joins .entry)) path g net runs → DriveIn b p fs us (now (reals .entry)) (now (cells .entry)) (now (joins .exit)) path r net runs) ⌝ }
+{
+    let front = g.front;
+    if front.moves {
+        return g;
+    }
+    grow_state::take_up(reals, cells, joins, p, g)
+}
+
+// The run at the front takes its leg.
+fn next_turn(
+    book: &[u8],
+    floats: &mut [f64],
+    numbers: &mut [u32],
+    reals: &mut [f64],
+    cells: &mut [u32],
+    marks: &[u32],
+    joins: &mut [u32],
+    scratch: &mut [u32],
+    stack: &mut [u32],
+    p: Plan,
+    g: State,
+) -> Turned
+    requires { ⌜ PlanIn (now book) p (length (now reals)) ⌝ }
+    requires { ⌜ Marked (now book) (now marks) ⌝ }
+    requires { ⌜ links (now book) ≤ length (now marks) ⌝ }
+    requires { ⌜ Driving (now book) p (now floats) (now numbers) (now reals) (now cells) (now joins) g ⌝ }
+    requires { ⌜ 2048 ≤ length (now joins) ⌝ }
+    requires { ⌜ 2048 ≤ length (now scratch) ⌝ }
+    requires { ⌜ 4096 ≤ length (now stack) ⌝ }
+    requires { ⌜ (not (g .front .moves) && eqb (g .top) 0) ≡ false ⌝ }
+    ensures { λ r. ⌜ ((path : List ℕ) (net : Net) (runs : List Run) → DriveIn (now (book .entry)) p (now (floats .entry)) (now (numbers .entry)) (now (reals .entry)) (now (cells .entry)) (now (joins .entry)) path g net runs → TurnedAs (nextTurn (now (book .entry)) (p .w .places) net runs) (now (book .entry)) p (now (floats .exit)) (now (numbers .exit)) (now (reals .exit)) (now (cells .exit)) (now (joins .exit)) r) ⌝ }
+{
+    let h = to_front(reals, cells, joins, p, g);
+    grow_leg::turn(
+        book,
+        floats,
+        numbers,
+        reals,
+        cells,
+        marks,
+        joins,
+        scratch,
+        stack,
+        p,
+        h,
+    )
+}
+
+// All runs, a leg to a turn: "last saved run first". A leg is taken at most once, so as many turns as there are legs are enough.
+fn drive(
+    book: &[u8],
+    floats: &mut [f64],
+    numbers: &mut [u32],
+    reals: &mut [f64],
+    cells: &mut [u32],
+    marks: &[u32],
+    joins: &mut [u32],
+    scratch: &mut [u32],
+    stack: &mut [u32],
+    p: Plan,
+    g: State,
+) -> Turned
+    requires { ⌜ PlanIn (now book) p (length (now reals)) ⌝ }
+    requires { ⌜ Marked (now book) (now marks) ⌝ }
+    requires { ⌜ links (now book) ≤ length (now marks) ⌝ }
+    requires { ⌜ Driving (now book) p (now floats) (now numbers) (now reals) (now cells) (now joins) g ⌝ }
+    requires { ⌜ 2048 ≤ length (now joins) ⌝ }
+    requires { ⌜ 2048 ≤ length (now scratch) ⌝ }
+    requires { ⌜ 4096 ≤ length (now stack) ⌝ }
+    ensures { λ r. ⌜ ((path : List ℕ) (net : Net) (runs : List Run) → DriveIn (now (book .entry)) p (now (floats .entry)) (now (numbers .entry)) (now (reals .entry)) (now (cells .entry)) (now (joins .entry)) path g net runs → DriveAs (drive (legs (now (book .entry))) (now (book .entry)) (p .w .places) net runs) p (now (floats .exit)) (now (numbers .exit)) (now (cells .exit)) r) ⌝ }
+{
+    let s = p.s;
+    let mut state = g;
+    let mut turn = 0;
+    while turn < s.legs {
+        if is_done(state) {
+            return Turned::On(state);
+        }
+        let turned = next_turn(
+            book,
+            floats,
+            numbers,
+            reals,
+            cells,
+            marks,
+            joins,
+            scratch,
+            stack,
+            p,
+            state,
+        );
+        let Turned::On(next) = turned else {
+            return turned;
+        };
+        state = next;
+        turn += 1;
+    }
+    Turned::On(state)
+}
+
+// The end Fakes and the last node.
+fn close(floats: &mut [f64], numbers: &mut [u32], cells: &[u32], w: Layout, c: Counts) -> Grown
+    requires { ⌜ SomeClosing w (now floats) (now numbers) (now cells) c ⌝ }
+    ensures { λ r. ⌜ ((net : Net) → Closing w (now (floats .entry)) (now (numbers .entry)) (now (cells .entry)) c net → GrownAs (closing (w .places) net) (now (floats .exit)) (now (numbers .exit)) r) ⌝ }
+{
+    let fakes = grow_ends::end_fakes(
+        floats,
+        numbers,
+        c.nodes,
+        w.places,
+        cells,
+        w.nodes_at + 2,
+        c.last_end,
+    );
+    let Pushed::Nodes(n) = fakes else {
+        return Grown::Stopped(12);
+    };
+    let last = grow_ends::last_node(floats, numbers, n, w.places);
+    let Pushed::Nodes(nodes) = last else {
+        return Grown::Stopped(12);
+    };
+    Grown::Whole(Report {
+        nodes,
+        added: c.added,
+        splits: c.splits,
+        joined: c.joined,
+        finished: n - c.nodes,
+    })
+}
+
+// All runs of a book whose first nodes are made, from its origins on, then the ends.
+fn run_all(
+    book: &[u8],
+    floats: &mut [f64],
+    numbers: &mut [u32],
+    reals: &mut [f64],
+    cells: &mut [u32],
+    marks: &[u32],
+    joins: &mut [u32],
+    scratch: &mut [u32],
+    stack: &mut [u32],
+    kept: usize,
+    p: Plan,
+) -> Grown
+    requires { ⌜ PlanIn (now book) p (length (now reals)) ⌝ }
+    requires { ⌜ Marked (now book) (now marks) ⌝ }
+    requires { ⌜ 2 * links (now book) + destinations (now book) + origins (now book) ≤ length (now marks) ⌝ }
+    requires { ⌜ kept ≡ length (keptOrigins (now book)) ⌝ }
+    requires { ⌜ SomeOrigins (now book) p (now floats) (now numbers) (now reals) (now cells) (now joins) (keptOrigins (now book)) startState ⌝ }
+    requires { ⌜ OnlyStart (nodeAt (now floats) (now numbers)) 2 ⌝ }
+    requires { ⌜ Started (now book) (now marks) ⌝ }
+    requires { ⌜ 2048 ≤ length (now joins) ⌝ }
+    requires { ⌜ 2048 ≤ length (now scratch) ⌝ }
+    requires { ⌜ 4096 ≤ length (now stack) ⌝ }
+    ensures { λ r. ⌜ ((net : Net) → OriginsIn (now (book .entry)) p (now (floats .entry)) (now (numbers .entry)) (now (reals .entry)) (now (cells .entry)) (now (joins .entry)) (keptOrigins (now (book .entry))) startState net [] → GrownAs (grownFrom (now (book .entry)) (p .w .places) net) (now (floats .exit)) (now (numbers .exit)) r) ⌝ }
+{
+    let g = grow_origins::first_state();
+    let planted = grow_origins::origins(
+        book,
+        floats,
+        numbers,
+        reals,
+        cells,
+        marks,
+        joins,
+        kept,
+        p,
+        g,
+    );
+    let planted_state = match planted {
+        Turned::Refused(k) => return Grown::Stopped(k),
+        Turned::On(state) => state,
+    };
+    let driven = drive(
+        book,
+        floats,
+        numbers,
+        reals,
+        cells,
+        marks,
+        joins,
+        scratch,
+        stack,
+        p,
+        planted_state,
+    );
+    match driven {
+        Turned::Refused(k) => Grown::Stopped(k),
+        Turned::On(state) => {
+            let counts = state.counts;
+            let w = p.w;
+            close(floats, numbers, cells, w, counts)
+        }
+    }
+}
+
+// Grows the network of a book that was read, in a table and work space that are lent: the report's counts, or the number of a refusal.
+pub fn grow_book(
+    book: &[u8],
+    s: Sections,
+    kept: usize,
+    floats: &mut [f64],
+    numbers: &mut [u32],
+    reals: &mut [f64],
+    cells: &mut [u32],
+    marks: &[u32],
+) -> Grown
+    requires { ⌜ Ready (now book) s kept (now cells) (now marks) ⌝ }
+    requires { ⌜ legs (now book) * 3 + 4 ≤ length (now reals) ⌝ }
+    requires { ⌜ (legs (now book) + 1 + placesOf (length (now floats)) (length (now numbers)) + links (now book)) * 8 ≤ length (now cells) ⌝ }
+    requires { ⌜ 2 * links (now book) + destinations (now book) + origins (now book) ≤ length (now marks) ⌝ }
+    ensures { λ r. ⌜ GrownAs (grow (now (book .entry)) (placesOf (length (now (floats .entry))) (length (now (numbers .entry)))) (record { floats = now (floats .entry); numbers = now (numbers .entry) })) (now (floats .exit)) (now (numbers .exit)) r ⌝ }
+{
+    let places = space::places(floats.len(), numbers.len());
+    if places < 2 {
+        return Grown::Stopped(12);
+    }
+    let p = grow_origins::plan_of(book, s, places);
+    grow_ends::first_nodes(floats, numbers, p.departure);
+    grow_path::start_path(reals);
+    let mut joins = [0u32; 2048];
+    let mut scratch = [0u32; 2048];
+    let mut stack = [0u32; 4096];
+    run_all(
+        book,
+        floats,
+        numbers,
+        reals,
+        cells,
+        marks,
+        &mut joins,
+        &mut scratch,
+        &mut stack,
+        kept,
+        p,
+    )
+}

@@ -1,0 +1,116 @@
+-- How the lent slices hold the network under growth and the run that moves. Contracts use these words; the definitions of growth are grow_rules' specs/.
+-- A node's unit of cells has the map's two (net_event_map's specs), and in cell 2 what `ends` keeps of a node at which a run has finished.
+use mathlib.Core.Path.{_≡_}
+use mathlib.Core.Logic.{_≢_}
+use mathlib.Core.Bool.{Bool, true, false}
+use mathlib.Core.List.{List, [], _∷_}
+use Prim.Native.Nat.{ℕ, suc, _+_, _*_, _≤_, _<_}
+use lib.ListN.{length, getD}
+use lib.Ieee.{Float}
+use Rattle.net_node.specs.Table.{nodeAt, Room, Woven}
+use Rattle.net_insertion.specs.Insertion.{flagged}
+use Rattle.net_strands.specs.Entries.{entriesIn, Valid}
+use Rattle.net_event_map.specs.declared.Layout.{Layout}
+use Rattle.net_event_map.specs.EventMap.{Apart, Mapped}
+use Rattle.grow_path.specs.Path.{pointLink}
+use Rattle.grow_path.specs.Kept.{PathIn}
+use Rattle.grow_ends.specs.Ends.{EndsIn, Below}
+use Rattle.grow_rules.specs.Run.{Answer, refused, given, Net, Run, After, memberOf}
+use Rattle.grow_rules.specs.Run.{Outcome as Became, Ended as Left, On as Goes}
+use Rattle.grow_events.specs.declared.Counts.{Counts}
+use Rattle.grow_events.specs.declared.Mover.{Mover}
+use Rattle.grow_events.specs.declared.Outcome.{Outcome}
+use Rattle.grow_events.specs.declared.Outcome.the-variants.{On, Ended, Refused}
+
+-- where a node's mark of an end stands
+abbrev pub endsAt : Layout → ℕ
+endsAt w = w .«nodes_at» + 2
+
+-- The network: table, counts, the map of events and the ends. Of the cells before the links' units only the first three of each node's have changed since `start`.
+pub record NetIn (w : Layout) (start : List ℕ) (fs : List Float) (us cells : List ℕ) (c : Counts) (net : Net) : Type 0 where
+  pub table : net .table ≡ record { floats = fs; numbers = us }
+  pub nodes : net .nodes ≡ c .nodes
+  pub added : net .added ≡ c .added
+  pub splits : net .splits ≡ c .splits
+  pub joined : net .joined ≡ c .joined
+  pub sum : c .nodes ≡ 2 + c .added + c .splits + c .joined
+  pub room : Room fs us (w .places)
+  pub within : c .nodes ≤ w .places
+  pub woven : Woven (nodeAt fs us) (c .nodes)
+  pub apart : Apart cells w
+  pub mapped : Mapped cells w (nodeAt fs us) (c .nodes)
+  pub ends : EndsIn cells (endsAt w) (c .«last_end») (net .ends)
+  pub ends-below : Below (c .nodes) (net .ends)
+  pub ended : (i : ℕ) → i < w .places → flagged cells (endsAt w) i ≡ memberOf (net .ends) i
+  pub elsewhere : (q : ℕ) → q < w .«links_at» → ((i k : ℕ) → i < w .places → k < 3 → q ≢ w .«nodes_at» + i * 8 + k) → getD cells q 0 ≡ getD start q 0
+
+-- the run that moves, on its way through a leg of a network of n nodes
+pub record RunIn (n j : ℕ) (list : List ℕ) (m : Mover) (run : Run) : Type 0 where
+  pub place : run .place ≡ m .place
+  pub leg : run .leg ≡ j
+  pub added : run .added ≡ m .added
+  pub joins : run .joins ≡ entriesIn list (m .count)
+  pub few : m .count ≤ 1024
+  pub valid : Valid (entriesIn list (m .count)) n
+  pub stands : m .place .«idx_prev» < n
+
+-- some network is there
+pub record Growing (w : Layout) (fs : List Float) (us cells : List ℕ) (c : Counts) : Type 0 where
+  pub start : List ℕ
+  pub net : Net
+  pub holds : NetIn w start fs us cells c net
+
+-- some network and run are
+pub record Moving (w : Layout) (fs : List Float) (us cells joins : List ℕ) (c : Counts) (m : Mover) : Type 0 where
+  pub start : List ℕ
+  pub leg : ℕ
+  pub net : Net
+  pub run : Run
+  pub holds : NetIn w start fs us cells c net
+  pub runs : RunIn (c .nodes) leg joins m run
+
+-- The path of some leg is there too: as many points as the walk looks at, whose links are the book's, in cells before the nodes' units.
+pub record Along (b : List ℕ) (reals : List Float) (cells : List ℕ) (w : Layout) (many : ℕ) (path : List ℕ) : Type 0 where
+  pub kept : PathIn b reals cells path
+  pub points : many ≡ length path + 1
+  pub named : (k : ℕ) → k < length path → pointLink b path k < w .links
+  pub before : length path * 8 ≤ w .«nodes_at»
+
+pub record SomePath (b : List ℕ) (reals : List Float) (cells : List ℕ) (w : Layout) (points : ℕ) : Type 0 where
+  pub path : List ℕ
+  pub along : Along b reals cells w points path
+
+-- what the code answers to an event, or to all of a leg
+pub record GoesAs (answer : Answer Became) (w : Layout) (start : List ℕ) (leg : ℕ) (fs : List Float) (us cells joins : List ℕ) (c : Counts) (m : Mover) : Type 0 where
+  pub after : After
+  pub is : answer ≡ given (Goes after)
+  pub net : NetIn w start fs us cells c (after .net)
+  pub run : RunIn (c .nodes) leg joins m (after .run)
+
+pub record LeftAs (answer : Answer Became) (w : Layout) (start : List ℕ) (fs : List Float) (us cells : List ℕ) (c : Counts) : Type 0 where
+  pub after : Net
+  pub is : answer ≡ given (Left after)
+  pub net : NetIn w start fs us cells c after
+
+abbrev pub OutcomeAs : Answer Became → Layout → List ℕ → ℕ → List Float → List ℕ → List ℕ → List ℕ → Outcome → Type 0
+OutcomeAs answer w start leg fs us cells joins (On c m) = GoesAs answer w start leg fs us cells joins c m
+OutcomeAs answer w start leg fs us cells joins (Ended c) = LeftAs answer w start fs us cells c
+OutcomeAs answer w start leg fs us cells joins (Refused k) = answer ≡ refused k
+
+-- no node is lost
+abbrev pub NotFewer : Counts → Outcome → Type 0
+NotFewer c (On more m) = c .nodes ≤ more .nodes
+NotFewer c (Ended more) = c .nodes ≤ more .nodes
+NotFewer c (Refused k) = Unit
+
+-- ---- row 11 of a leg, asked as its events come
+
+-- a leg's answer, by whether one of its events is bad: row 11 is asked of all of them before any is inserted
+abbrev pub unlessBad : Bool → Answer Became → Answer Became
+unlessBad true answer = refused 11
+unlessBad false answer = answer
+
+-- what the code answers where a run stops before its leg's end, by whether an event is bad that is left
+abbrev pub stoppedAs : Bool → Outcome → Outcome
+stoppedAs true r = Refused 11
+stoppedAs false r = r

@@ -1,0 +1,255 @@
+// A run on its way: one event is joined or inserted, then all of a leg. Contracts: grow_rules' specs/Run.antt, specs/Held.antt.
+use net_event_map::Layout;
+use net_insertion::Inserted;
+use net_insertion::Place;
+use net_joins::Step;
+use net_node::TimedEvent;
+use event_walk::Heads;
+use event_walk::Movement;
+use event_walk::Next;
+ghost use mathlib.Core.Path.{_≡_};
+ghost use mathlib.Core.List.{List};
+ghost use Prim.Native.Nat.{ℕ, _+_, _≤_, _<_};
+ghost use lib.ListN.{length};
+ghost use Rattle.event_walk.specs.Course.{courseOf, Held, Walkable};
+ghost use Rattle.event_walk.specs.Walk.{passedFrom, pointsPassed, someBad, Within};
+ghost use Rattle.grow_path.specs.Path.{eventsAt};
+ghost use Rattle.net_event_map.specs.EventMap.{Real};
+ghost use Rattle.grow_rules.specs.Run.{Net, Run, countIf, insertEvent, goesOn, runEvent, runEvents};
+ghost use Rattle.grow_events.specs.Held.{NetIn, RunIn, Growing, Moving, Along, SomePath, OutcomeAs, NotFewer, unlessBad, stoppedAs};
+
+// What is counted of a network: its nodes, event nodes, split Fakes and joins; and the latest node at which a run has finished, or 0.
+pub struct Counts {
+    pub nodes: usize,
+    pub added: usize,
+    pub splits: usize,
+    pub joined: usize,
+    pub last_end: u32,
+}
+
+// The run that moves: its place, whether it has added since its pop, and how many join entries it has.
+pub struct Mover {
+    pub place: Place,
+    pub added: bool,
+    pub count: usize,
+}
+
+// What becomes of a run at an event: it goes on, it has ended by a join, or a refusal's number.
+pub enum Outcome {
+    On(Counts, Mover),
+    Ended(Counts),
+    Refused(u32),
+}
+
+// The counts with one event node more, and a split's Fake.
+fn with_added(c: Counts, node: u32, split: bool) -> Counts
+    requires { ⌜ c .added < 65535 ⌝ }
+    requires { ⌜ c .splits < 65535 ⌝ }
+    ensures { λ r. ⌜ r ≡ record { nodes = node + 1; added = c .added + 1; splits = countIf split (c .splits); joined = c .joined; «last_end» = c .«last_end» } ⌝ }
+{
+    let splits = if split { c.splits + 1 } else { c.splits };
+    Counts {
+        nodes: node as usize + 1,
+        added: c.added + 1,
+        splits,
+        joined: c.joined,
+        last_end: c.last_end,
+    }
+}
+
+// Inserts an event at a run's place; a node that is added is put into the map of events.
+pub fn insert_event(
+    floats: &mut [f64],
+    numbers: &mut [u32],
+    cells: &mut [u32],
+    w: Layout,
+    join: f64,
+    c: Counts,
+    m: Mover,
+    e: TimedEvent,
+) -> Outcome
+    requires { ⌜ Growing w (now floats) (now numbers) (now cells) c ⌝ }
+    requires { ⌜ m .place .«idx_prev» < c .nodes ⌝ }
+    requires { ⌜ Real (e .«link_event») (w .links) ⌝ }
+    ensures outcome { λ r. ⌜ ((start joins : List ℕ) (leg : ℕ) (net : Net) (run : Run) → NetIn w start (now (floats .entry)) (now (numbers .entry)) (now (cells .entry)) c net → RunIn (c .nodes) leg joins m run → OutcomeAs (goesOn (insertEvent (w .places) join net run e)) w start leg (now (floats .exit)) (now (numbers .exit)) (now (cells .exit)) joins r) ⌝ }
+    ensures more { λ r. ⌜ NotFewer c r ⌝ }
+{
+    let place = m.place;
+    let inserted = net_insertion::insert_est_time(
+        floats,
+        numbers,
+        c.nodes,
+        w.places,
+        cells,
+        w.nodes_at + 2,
+        join,
+        place,
+        e,
+    );
+    match inserted {
+        Inserted::Refused(k) => Outcome::Refused(k),
+        Inserted::Moved(place) => Outcome::On(
+            c,
+            Mover {
+                place,
+                added: m.added,
+                count: m.count,
+            },
+        ),
+        Inserted::Added(place, split) => {
+            let event = e.link_event;
+            net_event_map::insert(cells, w, place.idx_prev, event);
+            let counts = with_added(c, place.idx_prev, split);
+            Outcome::On(
+                counts,
+                Mover {
+                    place,
+                    added: true,
+                    count: m.count,
+                },
+            )
+        }
+    }
+}
+
+// The counts with a join's Fake more.
+fn with_joined(c: Counts) -> Counts
+    requires { ⌜ c .nodes < 65535 ⌝ }
+    requires { ⌜ c .joined < 65535 ⌝ }
+    ensures { λ r. ⌜ r ≡ record { nodes = c .nodes + 1; added = c .added; splits = c .splits; joined = c .joined + 1; «last_end» = c .«last_end» } ⌝ }
+{
+    Counts {
+        nodes: c.nodes + 1,
+        added: c.added,
+        splits: c.splits,
+        joined: c.joined + 1,
+        last_end: c.last_end,
+    }
+}
+
+// One event of a run: "Only a run that has added since its pop joins." Its entries lie in `joins`.
+pub fn run_event(
+    floats: &mut [f64],
+    numbers: &mut [u32],
+    cells: &mut [u32],
+    w: Layout,
+    join: f64,
+    joins: &mut [u32],
+    scratch: &mut [u32],
+    stack: &mut [u32],
+    c: Counts,
+    m: Mover,
+    e: TimedEvent,
+) -> Outcome
+    requires { ⌜ Moving w (now floats) (now numbers) (now cells) (now joins) c m ⌝ }
+    requires { ⌜ Real (e .«link_event») (w .links) ⌝ }
+    requires { ⌜ 2048 ≤ length (now joins) ⌝ }
+    requires { ⌜ 2048 ≤ length (now scratch) ⌝ }
+    requires { ⌜ 4096 ≤ length (now stack) ⌝ }
+    ensures outcome { λ r. ⌜ ((start : List ℕ) (leg : ℕ) (net : Net) (run : Run) → NetIn w start (now (floats .entry)) (now (numbers .entry)) (now (cells .entry)) c net → RunIn (c .nodes) leg (now (joins .entry)) m run → OutcomeAs (runEvent (w .places) join net run e) w start leg (now (floats .exit)) (now (numbers .exit)) (now (cells .exit)) (now (joins .exit)) r) ⌝ }
+    ensures more { λ r. ⌜ NotFewer c r ⌝ }
+{
+    if !m.added {
+        return insert_event(floats, numbers, cells, w, join, c, m, e);
+    }
+    let step = net_joins::join_step(
+        floats,
+        numbers,
+        c.nodes,
+        cells,
+        w,
+        join,
+        joins,
+        m.count,
+        scratch,
+        stack,
+        e,
+    );
+    match step {
+        Step::Refused(k) => Outcome::Refused(k),
+        Step::Joined(_) => Outcome::Ended(with_joined(c)),
+        Step::Waits(count) => {
+            let place = m.place;
+            let waits = Mover {
+                place,
+                added: m.added,
+                count,
+            };
+            insert_event(floats, numbers, cells, w, join, c, waits, e)
+        }
+    }
+}
+
+// What a leg gives whose run has stopped, or is refused, before its end: 11, if an event is bad that is left.
+fn stopped(book: &[u8], reals: &[f64], v: Movement, from: Heads, became: Outcome) -> Outcome
+    requires { ⌜ Held (now book) (now reals) v ⌝ }
+    requires { ⌜ Walkable (courseOf (now book) (now reals) v) ⌝ }
+    requires { ⌜ Within (courseOf (now book) (now reals) v) from ⌝ }
+    ensures { λ r. ⌜ r ≡ stoppedAs (someBad (passedFrom (courseOf (now (book .entry)) (now (reals .entry)) v) from)) became ⌝ }
+{
+    if grow_path::some_bad(book, reals, v, from) {
+        return Outcome::Refused(11);
+    }
+    became
+}
+
+// The events of a leg whose samples don't reach the last point, one after the other, until the run ends. Row 11 goes before all that an event of the leg gives, so each is tested as it comes, and those
+// that are left where the run stops.
+pub fn run_events(
+    book: &[u8],
+    reals: &[f64],
+    floats: &mut [f64],
+    numbers: &mut [u32],
+    cells: &mut [u32],
+    w: Layout,
+    join: f64,
+    joins: &mut [u32],
+    scratch: &mut [u32],
+    stack: &mut [u32],
+    v: Movement,
+    c: Counts,
+    m: Mover,
+) -> Outcome
+    requires { ⌜ Held (now book) (now reals) v ⌝ }
+    requires { ⌜ Walkable (courseOf (now book) (now reals) v) ⌝ }
+    requires { ⌜ SomePath (now book) (now reals) (now cells) w (v .points) ⌝ }
+    requires { ⌜ Moving w (now floats) (now numbers) (now cells) (now joins) c m ⌝ }
+    requires { ⌜ 2048 ≤ length (now joins) ⌝ }
+    requires { ⌜ 2048 ≤ length (now scratch) ⌝ }
+    requires { ⌜ 4096 ≤ length (now stack) ⌝ }
+    ensures outcome { λ r. ⌜ ((start path : List ℕ) (leg : ℕ) (net : Net) (run : Run) → NetIn w start (now (floats .entry)) (now (numbers .entry)) (now (cells .entry)) c net → RunIn (c .nodes) leg (now (joins .entry)) m run → Along (now (book .entry)) (now (reals .entry)) (now (cells .entry)) w (v .points) path → OutcomeAs (unlessBad (someBad (pointsPassed (courseOf (now (book .entry)) (now (reals .entry)) v))) (runEvents (w .places) join (eventsAt (now (book .entry)) path (pointsPassed (courseOf (now (book .entry)) (now (reals .entry)) v))) (record { net = net; run = run }))) w start leg (now (floats .exit)) (now (numbers .exit)) (now (cells .exit)) (now (joins .exit)) r) ⌝ }
+    ensures more { λ r. ⌜ NotFewer c r ⌝ }
+{
+    let mut h = event_walk::start_heads(book, reals, v);
+    let mut counts = c;
+    let mut mover = m;
+    loop {
+        let next = event_walk::next_event(book, reals, v, h);
+        let Next::Passed(p, g) = next else {
+            return Outcome::On(counts, mover);
+        };
+        if event_walk::is_bad_point(p) {
+            return Outcome::Refused(11);
+        }
+        let e = grow_path::event_at(cells, p);
+        let became = run_event(
+            floats,
+            numbers,
+            cells,
+            w,
+            join,
+            joins,
+            scratch,
+            stack,
+            counts,
+            mover,
+            e,
+        );
+        let Outcome::On(more, moved) = became else {
+            return stopped(book, reals, v, g, became);
+        };
+        counts = more;
+        mover = moved;
+        h = g;
+    }
+}

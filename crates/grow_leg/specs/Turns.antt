@@ -1,0 +1,116 @@
+-- Words of the parts of a turn alone. The turn is `takeLeg` of grow_rules' specs/Growth.antt.
+use mathlib.Core.Path.{_≡_}
+use mathlib.Core.Logic.{_≢_}
+use mathlib.Core.Bool.{Bool, true, false}
+use mathlib.Core.List.{List, _∷_}
+use Prim.Native.Nat.{ℕ, suc, _+_, _*_, _≤_, _<_}
+use lib.ListN.{length, getD, set}
+use lib.Ieee.{Float, nan}
+use Rattle.book_format.specs.Format.{legs, legParent, legLink}
+use Rattle.book_format.specs.Chains.{Chained}
+use Rattle.event_walk.specs.Walk.{row11}
+use Rattle.grow_path.specs.Path.{pathOf, linkOf, legCourse, legEvents}
+use Rattle.grow_path.specs.Kept.{PathIn}
+use Rattle.grow_rules.specs.Run.{Answer, refused, given, Net, Run, Outcome, runEvents}
+use Rattle.grow_rules.specs.Growth.{joinGap}
+use Rattle.grow_events.specs.Held.{NetIn, OutcomeAs}
+use Rattle.grow_events.specs.declared.Outcome.{Outcome as Became}
+use Rattle.grow_state.specs.declared.Plan.{Plan}
+use Rattle.grow_state.specs.declared.State.{State}
+use Rattle.grow_state.specs.declared.Turned.{Turned}
+use Rattle.grow_state.specs.declared.Turned.the-variants.{On, Refused}
+use Rattle.grow_state.specs.Held.{PlanIn, FrontIn, WaitIn, AllSound, Beneath, ClearOf, AllClear}
+use Rattle.grow_leg.specs.declared.Ways.{Ways}
+use Rattle.grow_leg.specs.declared.Ways.the-variants.{None, One, Both}
+
+-- ---- a leg's events
+
+abbrev pub outcomeAs : Bool → List ℕ → ℕ → Net → Run → Answer Outcome
+outcomeAs true b places net run = refused 11
+outcomeAs false b places net run = runEvents places (joinGap b) (legEvents b (run .leg)) (record { net = net; run = run })
+
+-- row 11, then all events of the leg
+unfoldable pub legOutcome : List ℕ → ℕ → Net → Run → Answer Outcome
+legOutcome b places net run = outcomeAs (row11 (legCourse b (run .leg))) b places net run
+
+-- What the walk of a leg leaves, whose number is j and behind whose path's first `depth` legs it is put: the path of the leg, and what it made of the network. All else in reals and cells is as it was.
+pub record WalkedAs (b : List ℕ) (p : Plan) (j depth : ℕ) (answer : Answer Outcome) (reals : List Float) (cells : List ℕ) (fs : List Float) (us : List ℕ) (reals′ : List Float) (cells′ joins : List ℕ) (r : Became) : Type 0 where
+  pub kept : PathIn b reals′ (set cells (depth * 8 + 3) (linkOf b j)) (pathOf b j)
+  pub reals-left : (q : ℕ) → q ≢ depth + 1 → getD reals′ q nan ≡ getD reals q nan
+  pub outcome : OutcomeAs answer (p .w) (set cells (depth * 8 + 3) (linkOf b j)) j fs us cells′ joins r
+
+-- ---- the way on
+
+-- The run at the front has done its leg, whose path is kept; the rest wait.
+pub record AtEnd (b : List ℕ) (p : Plan) (fs : List Float) (us : List ℕ) (reals : List Float) (cells joins : List ℕ) (g : State) (net : Net) (run : Run) (rest : List Run) : Type 0 where
+  pub moves : g .front .moves ≡ true
+  pub grown : NetIn (p .w) cells fs us cells (g .counts) net
+  pub chained : Chained b cells
+  pub kept : PathIn b reals cells (pathOf b (run .leg))
+  pub short : length (pathOf b (run .leg)) ≤ legs b
+  pub front : FrontIn b joins (g .counts .nodes) (g .front) run
+  pub waiting : WaitIn b (p .r) reals cells (g .top) (g .used) rest
+  pub sound : AllSound b (g .counts .nodes) (run ∷ rest)
+  pub beneath : Beneath b (pathOf b (run .leg)) rest
+  pub clear : AllClear b rest
+
+pub record SomeEnd (b : List ℕ) (p : Plan) (fs : List Float) (us : List ℕ) (reals : List Float) (cells joins : List ℕ) (g : State) : Type 0 where
+  pub net : Net
+  pub run : Run
+  pub rest : List Run
+  pub ends : AtEnd b p fs us reals cells joins g net run rest
+
+-- the same, of what a part doesn't look at
+pub record SomeEnding (b : List ℕ) (p : Plan) (reals : List Float) (cells joins : List ℕ) (g : State) : Type 0 where
+  pub fs : List Float
+  pub us : List ℕ
+  pub ends : SomeEnd b p fs us reals cells joins g
+
+pub record SomeLeg (b cells : List ℕ) (p : Plan) (g : State) : Type 0 where
+  pub reals : List Float
+  pub joins : List ℕ
+  pub plan : PlanIn b p (length reals)
+  pub ends : SomeEnding b p reals cells joins g
+
+pub record SomeFinish (p : Plan) (fs : List Float) (us cells : List ℕ) (g : State) : Type 0 where
+  pub b : List ℕ
+  pub reals : List Float
+  pub joins : List ℕ
+  pub plan : PlanIn b p (length reals)
+  pub ends : SomeEnd b p fs us reals cells joins g
+
+-- a leg behind the run's, over a link, is clear of those that wait
+pub record Free (b : List ℕ) (run : Run) (rest : List Run) (link : ℕ) : Type 0 where
+  pub legs-clear : (i : ℕ) → i < legs b → legParent b i ≡ run .leg → legLink b i ≡ link → ClearOf b (suc i) rest
+
+-- some run is, all of whose legs behind its own are clear of those that wait
+pub record SomeWay (b : List ℕ) (p : Plan) (fs : List Float) (us : List ℕ) (reals : List Float) (cells joins : List ℕ) (g : State) : Type 0 where
+  pub net : Net
+  pub run : Run
+  pub rest : List Run
+  pub ends : AtEnd b p fs us reals cells joins g net run rest
+  pub free : (l : ℕ) → Free b run rest l
+
+pub record SomeGoing (b : List ℕ) (p : Plan) (reals : List Float) (cells joins : List ℕ) (g : State) : Type 0 where
+  pub fs : List Float
+  pub us : List ℕ
+  pub way : SomeWay b p fs us reals cells joins g
+
+-- a copy of the run is saved, or a refusal
+pub record SavedOver (answer : Answer (List Run)) (b : List ℕ) (p : Plan) (fs : List Float) (us : List ℕ) (reals : List Float) (cells joins : List ℕ) (g : State) (net : Net) (run : Run) (rest : List Run) (link : ℕ) : Type 0 where
+  pub more : List Run
+  pub is : answer ≡ given more
+  pub ends : AtEnd b p fs us reals cells joins g net run more
+  pub free : (l : ℕ) → l ≢ link → Free b run rest l → Free b run more l
+
+abbrev pub SavedAs : Answer (List Run) → List ℕ → Plan → List Float → List ℕ → List Float → List ℕ → List ℕ → Net → Run → List Run → ℕ → Turned → Type 0
+SavedAs answer b p fs us reals cells joins net run rest link (On g) = SavedOver answer b p fs us reals cells joins g net run rest link
+SavedAs answer b p fs us reals cells joins net run rest link (Refused k) = answer ≡ refused k
+
+-- the links over which a run can go on, by whether next is 0, and whether next and its alternative are in the set
+abbrev pub waysAs : Bool → Bool → Bool → ℕ → ℕ → Ways
+waysAs true m a next alt = None
+waysAs false false false next alt = None
+waysAs false true false next alt = One next
+waysAs false false true next alt = One alt
+waysAs false true true next alt = Both next alt

@@ -1,0 +1,148 @@
+-- One event of a run: joins, then insertion, with what the growth rule notes. Document 01 under "Arcs": "The growth rule is a definition over the book alone: the growth above on a table of its own,
+-- beside it a list, empty at first."
+use mathlib.Core.Bool.{Bool, true, false, _||_}
+use mathlib.Core.List.{List, [], _∷_}
+use Prim.Native.Nat.{ℕ, zero, suc, _+_}
+use lib.Dec.{eqb}
+use lib.Ieee.{Float, binary64, sub, ofBits}
+use Rattle.net_node.specs.declared.EstTime.{EstTime}
+use Rattle.net_node.specs.declared.TimedEvent.{TimedEvent}
+use Rattle.net_insertion.specs.declared.Place.{Place}
+use Rattle.net_insertion.specs.declared.Inserted.{Inserted}
+use Rattle.net_insertion.specs.declared.Inserted.the-variants.{Added, Moved, Refused}
+use Rattle.net_insertion.specs.Insertion.{Table, at, inserted, insertedTable}
+use Rattle.net_strands.specs.declared.EstJoinPath.{EstJoinPath}
+use Rattle.net_joins.specs.Joins.{JoinStep, JoinsTo, GoesOn, Beyond, joinStep, joinedTable}
+
+-- an answer that may be a refusal's number
+pub data Answer (A : Type 0) : Type 0 where
+  refused : ℕ → Answer A
+  given : A → Answer A
+
+abbrev pub andThen : {A B : Type 0} → Answer A → (A → Answer B) → Answer B
+andThen (refused n) f = refused n
+andThen (given a) f = f a
+
+-- An arc: from the start or an event's node to an event's node, 0 being the end, with its time and distance.
+pub record Arc : Type 0 where
+  pub from : ℕ
+  pub to : ℕ
+  pub time : Float
+  pub distance : Float
+
+-- The network under growth: its table and how many nodes it has, the finished runs' events (the latest first), the report's counts, and the arcs noted (the latest first).
+pub record Net : Type 0 where
+  pub table : Table
+  pub nodes : ℕ
+  pub ends : List ℕ
+  pub added : ℕ
+  pub splits : ℕ
+  pub joined : ℕ
+  pub noted : List Arc
+
+-- A run: "Its place is the node it last added or moved to", with its own event's time and offset there; its leg; whether it "has added since its pop"; and its list of join entries.
+pub record Run : Type 0 where
+  pub place : Place
+  pub leg : ℕ
+  pub added : Bool
+  pub joins : List EstJoinPath
+
+-- "both with the time and offset of the run's own event minus those of its event before, never a node's"
+unfoldable pub arcTo : Place → ℕ → TimedEvent → Arc
+arcTo p i e = record { from = p .«idx_prev»; to = i; time = sub binary64 (e .time) (p .«time_to_next»); distance = sub binary64 (e .offset) (p .«dist_to_next») }
+
+-- "A finish notes (place, end) with zeros."
+unfoldable pub arcToEnd : Place → Arc
+arcToEnd p = record { from = p .«idx_prev»; to = 0; time = ofBits binary64 0; distance = ofBits binary64 0 }
+
+abbrev pub memberOf : List ℕ → ℕ → Bool
+memberOf [] i = false
+memberOf (x ∷ xs) i = eqb x i || memberOf xs i
+
+-- ---- insertion
+
+abbrev pub countIf : Bool → ℕ → ℕ
+countIf true n = suc n
+countIf false n = n
+
+-- a node and the run after insertion. A new place is the last node.
+unfoldable pub addedTo : Net → Table → Place → Bool → Arc → Net
+addedTo net t q split arc = record {
+  table = t;
+  nodes = suc (q .«idx_prev»);
+  ends = net .ends;
+  added = suc (net .added);
+  splits = countIf split (net .splits);
+  joined = net .joined;
+  noted = arc ∷ net .noted;
+}
+
+unfoldable pub movedTo : Run → Place → Bool → Run
+movedTo run q added = record { place = q; leg = run .leg; added = added; joins = run .joins }
+
+-- what became of the network and of a run at an event
+pub record After : Type 0 where
+  pub net : Net
+  pub run : Run
+
+-- "Any other addition notes (place, added node)": and so does an origin's Arrive, whose place is the start at the departure. "A move, a Fake .. note nothing."
+abbrev pub insertedAs : Net → Run → TimedEvent → Table → Inserted → Answer After
+insertedAs net run e t (Refused n) = refused n
+insertedAs net run e t (Moved q) = given (record { net = net; run = movedTo run q (run .added) })
+insertedAs net run e t (Added q split) = given (record { net = addedTo net t q split (arcTo (run .place) (q .«idx_prev») e); run = movedTo run q true })
+
+unfoldable pub insertEvent : ℕ → Float → Net → Run → TimedEvent → Answer After
+unfolding addedTo movedTo arcTo
+insertEvent places join net run e =
+    insertedAs net run e (insertedTable (net .table) (net .nodes) join (run .place) e) (inserted (net .table) (net .nodes) places (memberOf (net .ends)) join (run .place) e)
+
+-- ---- joins
+
+-- "a join (place, target)". The run ends there.
+unfoldable pub joinedTo : Net → Run → TimedEvent → ℕ → Net
+unfolding arcTo
+joinedTo net run e target = record {
+  table = joinedTable (net .table) (net .nodes) target e;
+  nodes = suc (net .nodes);
+  ends = net .ends;
+  added = net .added;
+  splits = net .splits;
+  joined = suc (net .joined);
+  noted = arcTo (run .place) target e ∷ net .noted;
+}
+
+-- what an event makes of a run: it has ended by a join, or goes on
+pub data Outcome : Type 0 where
+  Ended : Net → Outcome
+  On : After → Outcome
+
+abbrev pub goesOn : Answer After → Answer Outcome
+goesOn (refused n) = refused n
+goesOn (given a) = given (On a)
+
+unfoldable pub listed : Run → List EstJoinPath → Run
+listed run es = record { place = run .place; leg = run .leg; added = run .added; joins = es }
+
+abbrev pub joinedAs : ℕ → Float → Net → Run → TimedEvent → JoinStep → Answer Outcome
+joinedAs places join net run e Beyond = refused 12
+joinedAs places join net run e (JoinsTo target) = given (Ended (joinedTo net run e target))
+joinedAs places join net run e (GoesOn es) = goesOn (insertEvent places join net (listed run es) e)
+
+-- "Only a run that has added since its pop joins."
+abbrev pub eventAs : Bool → ℕ → Float → Net → Run → TimedEvent → Answer Outcome
+eventAs true places join net run e = joinedAs places join net run e (joinStep (at (net .table)) (net .nodes) places join e (run .joins))
+eventAs false places join net run e = goesOn (insertEvent places join net run e)
+
+unfoldable pub runEvent : ℕ → Float → Net → Run → TimedEvent → Answer Outcome
+unfolding insertEvent joinedTo listed
+runEvent places join net run e = eventAs (run .added) places join net run e
+
+-- the events of a leg, one after the other
+abbrev pub nextEvent : (After → Answer Outcome) → Outcome → Answer Outcome
+nextEvent f (Ended net) = given (Ended net)
+nextEvent f (On a) = f a
+
+unfoldable pub runEvents : ℕ → Float → List TimedEvent → After → Answer Outcome
+unfolding runEvent
+runEvents places join [] a = given (On a)
+runEvents places join (e ∷ es) a = andThen (runEvent places join (a .net) (a .run) e) (nextEvent (runEvents places join es))

@@ -1,0 +1,91 @@
+-- What a change elsewhere in the work space leaves: the network, the legs' chains, the runs that wait; and what more nodes leave.
+use mathlib.Core.Path.{_≡_, refl, _∙_, subst}
+use mathlib.Core.Logic.{_≢_}
+use mathlib.Core.Bool.{Bool, false}
+use mathlib.Core.List.{List, [], _∷_}
+use Prim.Native.Nat.{ℕ, _+_, _*_, _≤_, _<_}
+use native.Mathlib.Omega.{arith}
+use lib.ListN.{length, getD}
+use lib.Ieee.{Float}
+use Rattle.book_format.specs.Format.{legs}
+use Rattle.book_format.specs.Chains.{Chained}
+use Rattle.book_format.proofs.Given.{limits}
+use Rattle.net_node.specs.Table.{nodeAt}
+use Rattle.net_event_map.specs.declared.Layout.{Layout}
+use Rattle.net_event_map.specs.EventMap.{Apart, Mapped}
+use Rattle.grow_ends.proofs.Kept.{ends-same, flags-same}
+use Rattle.grow_waiting.specs.declared.Rooms.{Rooms}
+use Rattle.grow_waiting.proofs.Kept.{Undisturbed, saved-same}
+use Rattle.grow_rules.specs.Run.{Net, Run}
+use Rattle.grow_events.specs.declared.Counts.{Counts}
+use Rattle.grow_events.specs.Held.{NetIn, endsAt}
+use Rattle.grow_events.proofs.Kept.{valid-more}
+use Rattle.grow_state.specs.declared.Plan.{Plan}
+use Rattle.grow_state.specs.declared.State.{State}
+use Rattle.grow_state.specs.Held.{PlanIn, WaitIn, RunsIn, AllSound, DriveIn}
+
+-- ---- the plan
+
+module _ {b : List ℕ} {p : Plan} {n : ℕ} (a : PlanIn b p n) where
+  pub plan-legs : legs b ≤ 65535
+  plan-legs = limits b (a .readable .counted .counts) .legs-most
+
+  -- the legs' units stand before the nodes'
+  pub plan-room : (p .r .legs + 1) * 8 ≤ p .r .«nodes_at»
+  plan-room = omega (arith, a .all-legs, a .nodes-at, a .same-nodes)
+
+-- ---- the network
+
+pub apart-same : {c c′ : List ℕ} {w : Layout} → length c′ ≡ length c → Apart c w → Apart c′ w
+apart-same e a = record { links-inside = omega (arith, e, a .links-inside); nodes-inside = omega (arith, e, a .nodes-inside); apart = a .apart }
+
+module _ {w : Layout} {start : List ℕ} {fs : List Float} {us cells : List ℕ} {c : Counts} {net : Net} (v : NetIn w start fs us cells c net) where
+  -- the map is there still, and so are the marks of the ends
+  pub net-same : (cells′ : List ℕ) → length cells′ ≡ length cells → Mapped cells′ w (nodeAt fs us) (c .nodes)
+      → ((i : ℕ) → i < w .places → getD cells′ (endsAt w + i * 8) 0 ≡ getD cells (endsAt w + i * 8) 0) → NetIn w cells′ fs us cells′ c net
+  net-same cells′ l m h = record {
+    table = v .table;
+    nodes = v .nodes;
+    added = v .added;
+    splits = v .splits;
+    joined = v .joined;
+    sum = v .sum;
+    room = v .room;
+    within = v .within;
+    woven = v .woven;
+    apart = apart-same l (v .apart);
+    mapped = m;
+    ends = ends-same cells (endsAt w) cells′ (c .«last_end») (c .nodes) (net .ends) (v .ends-below) (λ i k. h i (omega (arith, v .within))) (v .ends);
+    ends-below = v .ends-below;
+    ended = λ i k. flags-same cells (endsAt w) cells′ i (h i k) ∙ v .ended i k;
+    elsewhere = λ q k f. refl;
+  }
+
+-- ---- the chains: all cells of the legs' units but the path's
+
+pub chained-same : {b c c′ : List ℕ} → length c′ ≡ length c → ((q : ℕ) → q < (legs b + 1) * 8 → ((j : ℕ) → q ≢ j * 8 + 3) → getD c′ q 0 ≡ getD c q 0) → Chained b c → Chained b c′
+chained-same {b} {c} {c′} l h v = record {
+  room = omega (arith, v .room);
+  first = λ p k. h (p * 8) (omega arith) (λ j d. omega arith) ∙ v .first p k;
+  before = λ i k. h ((i + 1) * 8 + 1) (omega arith) (λ j d. omega arith) ∙ v .before i k;
+  ends = λ j k. h (j * 8 + 2) (omega arith) (λ i d. omega arith) ∙ v .ends j k;
+}
+
+-- ---- the runs that wait
+
+pub wait-same : {b : List ℕ} {r : Rooms} {reals reals′ : List Float} {cells cells′ : List ℕ} {top used : ℕ} {runs : List Run} → Undisturbed cells cells′ reals reals′ r → WaitIn b r reals cells top used runs → WaitIn b r reals′ cells′ top used runs
+wait-same {b} {r} {reals} {reals′} {cells} {cells′} {top} {used} u w = record { runs = w .runs; kept = saved-same cells reals r top used (w .runs) u (w .kept); same = w .same }
+
+-- of a state with no run at the front all runs wait
+pub idle-waits : {b : List ℕ} {p : Plan} {fs : List Float} {us : List ℕ} {reals : List Float} {cells joins path : List ℕ} {g : State} {net : Net} {runs : List Run} → DriveIn b p fs us reals cells joins path g net runs → g .front .moves ≡ false
+    → WaitIn b (p .r) reals cells (g .top) (g .used) runs
+idle-waits {b} {p} {fs} {us} {reals} {cells} {joins} {path} {g} {net} {runs} d idle = subst (λ (t : Bool). RunsIn t b (p .r) reals cells joins g runs) idle (d .waiting)
+
+-- ---- more nodes
+
+pub sound-more : (b : List ℕ) (n n′ : ℕ) (runs : List Run) → n ≤ n′ → AllSound b n runs → AllSound b n′ runs
+sound-more b n n′ [] h s = tt
+sound-more b n n′ (r ∷ rs) h s = (
+  record { some = s .0 .some; within = s .0 .within; stands = omega (arith, s .0 .stands); few = s .0 .few; valid = valid-more h (s .0 .valid) },
+  sound-more b n n′ rs h (s .1),
+)

@@ -1,0 +1,149 @@
+-- What growth keeps between two legs, in the lent slices: the network, the runs that wait, the path of the last leg taken, and the run at the front, which takes its leg next.
+-- The definitions of growth are grow_rules' specs/; these are the words of the contracts.
+use mathlib.Core.Path.{_≡_}
+use mathlib.Core.Bool.{Bool, true, false}
+use mathlib.Core.List.{List, [], _∷_, _++_}
+use Prim.Native.Nat.{ℕ, _+_, _-_, _*_, _≤_, _<_}
+use lib.ListN.{length}
+use lib.Ieee.{Float}
+use Rattle.book_format.specs.Format.{links, legs, legParent, lengthBits, floatOf}
+use Rattle.book_format.specs.Chains.{Readable, Chained}
+use Rattle.grow_path.specs.Path.{pathOf}
+use Rattle.grow_path.specs.Kept.{PathIn}
+use Rattle.net_strands.specs.Entries.{Valid}
+use Rattle.grow_waiting.specs.Saved.{Waiting, SavedIn}
+use Rattle.grow_waiting.specs.declared.Rooms.{Rooms}
+use Rattle.grow_rules.specs.Run.{Answer, refused, given, Net, Run, memberOf}
+use Rattle.grow_rules.specs.Growth.{Growth, joinGap, departure}
+use Rattle.grow_events.specs.Held.{NetIn, RunIn}
+use Rattle.grow_state.specs.declared.Plan.{Plan}
+use Rattle.grow_state.specs.declared.Front.{Front}
+use Rattle.grow_state.specs.declared.State.{State}
+use Rattle.grow_state.specs.declared.Turned.{Turned}
+use Rattle.grow_state.specs.declared.Turned.the-variants.{On, Refused}
+
+-- ---- the plan
+
+-- What a plan says of a book, and of the room in reals: the path's points stand before the pairs of the runs that wait. The legs' units of cells stand before the nodes', and those before the links'.
+pub record PlanIn (b : List ℕ) (p : Plan) (reals : ℕ) : Type 0 where
+  pub readable : Readable b (p .s)
+  pub join : p .join ≡ joinGap b
+  pub departs : p .departure ≡ departure b
+  pub train : p .length ≡ floatOf (lengthBits b)
+  pub all-links : p .w .links ≡ links b
+  pub all-legs : p .r .legs ≡ legs b
+  pub nodes-at : p .w .«nodes_at» ≡ (legs b + 1) * 8
+  pub same-nodes : p .r .«nodes_at» ≡ p .w .«nodes_at»
+  pub same-places : p .r .places ≡ p .w .places
+  pub pairs-at : p .r .«pairs_at» ≡ legs b + 2
+  pub pairs : p .r .«pairs_at» + p .r .legs * 2 + 2 ≤ reals
+
+-- ---- the runs
+
+-- the path of a run before its leg, and how many legs that has
+unfoldable pub pathBefore : List ℕ → ℕ → List ℕ
+pathBefore b j = pathOf b (legParent b (j - 1))
+
+-- one path begins with another
+pub record Begins (path start : List ℕ) : Type 0 where
+  pub rest : List ℕ
+  pub is : path ≡ start ++ rest
+
+-- Each run's path before its leg is the beginning of that of the run before it, and the first one's of the path that is kept: "last saved run first".
+abbrev pub Beneath : List ℕ → List ℕ → List Run → Type 0
+Beneath b path [] = Unit
+Beneath b path (r ∷ rs) = Begins path (pathBefore b (r .leg)) × Beneath b (pathBefore b (r .leg)) rs
+
+-- No run is to take a leg of another's path: so no two take one leg.
+pub record Clear (b : List ℕ) (i j : ℕ) : Type 0 where
+  pub no-there : memberOf (pathOf b j) i ≡ false
+  pub no-back : memberOf (pathOf b i) j ≡ false
+
+abbrev pub ClearOf : List ℕ → ℕ → List Run → Type 0
+ClearOf b i [] = Unit
+ClearOf b i (r ∷ rs) = Clear b i (r .leg) × ClearOf b i rs
+
+abbrev pub AllClear : List ℕ → List Run → Type 0
+AllClear b [] = Unit
+AllClear b (r ∷ rs) = ClearOf b (r .leg) rs × AllClear b rs
+
+-- a run in a network of n nodes: its leg is the book's, its place and its entries the network's
+pub record RunSound (b : List ℕ) (n : ℕ) (r : Run) : Type 0 where
+  pub some : 0 < r .leg
+  pub within : r .leg ≤ legs b
+  pub stands : r .place .«idx_prev» < n
+  pub few : length (r .joins) ≤ 1024
+  pub valid : Valid (r .joins) n
+
+abbrev pub AllSound : List ℕ → ℕ → List Run → Type 0
+AllSound b n [] = Unit
+AllSound b n (r ∷ rs) = RunSound b n r × AllSound b n rs
+
+-- a run of the definition, as it waits: it has not added since its pop
+pub record SameRun (b : List ℕ) (w : Waiting) (r : Run) : Type 0 where
+  pub place : w .place ≡ r .place
+  pub leg : w .leg ≡ r .leg
+  pub depth : w .depth ≡ length (pathBefore b (r .leg))
+  pub joins : w .joins ≡ r .joins
+  pub added : r .added ≡ false
+
+abbrev pub SameRuns : List ℕ → List Waiting → List Run → Type 0
+SameRuns b [] [] = Unit
+SameRuns b [] (r ∷ rs) = ⊥
+SameRuns b (w ∷ ws) [] = ⊥
+SameRuns b (w ∷ ws) (r ∷ rs) = SameRun b w r × SameRuns b ws rs
+
+pub record WaitIn (b : List ℕ) (r : Rooms) (reals : List Float) (cells : List ℕ) (top used : ℕ) (saved : List Run) : Type 0 where
+  pub runs : List Waiting
+  pub kept : SavedIn cells reals r top used runs
+  pub same : SameRuns b runs saved
+
+-- the run at the front
+pub record FrontIn (b joins : List ℕ) (n : ℕ) (f : Front) (run : Run) : Type 0 where
+  pub moves : RunIn n (f .leg) joins (f .mover) run
+  pub depth : f .depth ≡ length (pathBefore b (run .leg))
+
+-- all runs, by whether there is one at the front
+abbrev pub RunsIn : Bool → List ℕ → Rooms → List Float → List ℕ → List ℕ → State → List Run → Type 0
+RunsIn false b r reals cells joins g runs = WaitIn b r reals cells (g .top) (g .used) runs
+RunsIn true b r reals cells joins g [] = ⊥
+RunsIn true b r reals cells joins g (run ∷ saved) = FrontIn b joins (g .counts .nodes) (g .front) run × WaitIn b r reals cells (g .top) (g .used) saved
+
+-- ---- the whole
+
+-- Between two legs: the network, the legs' chains, the path that is kept, and the runs, the one at the front first.
+pub record DriveIn (b : List ℕ) (p : Plan) (fs : List Float) (us : List ℕ) (reals : List Float) (cells joins path : List ℕ) (g : State) (net : Net) (runs : List Run) : Type 0 where
+  pub grown : NetIn (p .w) cells fs us cells (g .counts) net
+  pub chained : Chained b cells
+  pub kept : PathIn b reals cells path
+  pub short : length path ≤ legs b
+  pub waiting : RunsIn (g .front .moves) b (p .r) reals cells joins g runs
+  pub sound : AllSound b (g .counts .nodes) runs
+  pub beneath : Beneath b path runs
+  pub clear : AllClear b runs
+
+-- some network and runs are
+pub record Driving (b : List ℕ) (p : Plan) (fs : List Float) (us : List ℕ) (reals : List Float) (cells joins : List ℕ) (g : State) : Type 0 where
+  pub path : List ℕ
+  pub net : Net
+  pub runs : List Run
+  pub holds : DriveIn b p fs us reals cells joins path g net runs
+
+-- the same of some book and table: what the runs that wait need
+pub record SomeDrive (p : Plan) (reals : List Float) (cells joins : List ℕ) (g : State) : Type 0 where
+  pub b : List ℕ
+  pub fs : List Float
+  pub us : List ℕ
+  pub plan : PlanIn b p (length reals)
+  pub driving : Driving b p fs us reals cells joins g
+
+-- what the code answers: the state then, or a refusal
+pub record GivesAs (answer : Answer Growth) (b : List ℕ) (p : Plan) (fs : List Float) (us : List ℕ) (reals : List Float) (cells joins : List ℕ) (g : State) : Type 0 where
+  pub growth : Growth
+  pub is : answer ≡ given growth
+  pub path : List ℕ
+  pub holds : DriveIn b p fs us reals cells joins path g (growth .net) (growth .saved)
+
+abbrev pub TurnedAs : Answer Growth → List ℕ → Plan → List Float → List ℕ → List Float → List ℕ → List ℕ → Turned → Type 0
+TurnedAs answer b p fs us reals cells joins (On g) = GivesAs answer b p fs us reals cells joins g
+TurnedAs answer b p fs us reals cells joins (Refused k) = answer ≡ refused k

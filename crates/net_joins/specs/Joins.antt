@@ -1,0 +1,171 @@
+-- `perform_speed_join` and `add_new_join_paths`: the choice among the entries, the join, and the entries that a failed join at an Arrive appends.
+use mathlib.Core.Path.{_≡_}
+use mathlib.Core.Bool.{Bool, true, false, not, _&&_, _||_, cond}
+use mathlib.Core.List.{List, [], _∷_, _++_}
+use mathlib.Core.Option.{Option, none, some}
+use Prim.Native.Nat.{ℕ, zero, suc, _+_, _-_, _≤_}
+use lib.Dec.{eqb, ltb}
+use lib.Ieee.{Float, lt}
+use Rattle.floats.specs.Floats.{gap}
+use Rattle.net_node.specs.declared.LinkEvent.{LinkEvent}
+use Rattle.net_node.specs.declared.EstTime.{EstTime}
+use Rattle.net_node.specs.declared.TimedEvent.{TimedEvent}
+use Rattle.net_node.specs.Table.{sameEvent, blank}
+use Rattle.net_insertion.specs.Insertion.{Table, put, at, linkedTo}
+use Rattle.net_event_map.specs.EventMap.{seenIn, eventNodes}
+use Rattle.net_strands.specs.declared.EstJoinPath.{EstJoinPath}
+use Rattle.net_strands.specs.Entries.{entry, push, andThen, entriesIn}
+use Rattle.net_strands.specs.Space.{isArrive, extendedAll}
+use Rattle.net_joins.specs.declared.Closest.{Closest}
+use Rattle.net_joins.specs.declared.Step.{Step}
+use Rattle.net_joins.specs.declared.Step.the-variants.{Joined, Waits, Refused}
+
+-- ---- "Of entries with m = 0 the first with the smallest gap, strictly below J, is joined"
+
+abbrev pub closerAs : Bool → Closest → Float → ℕ → Closest
+closerAs true best g e = record { gap = g; node = e }
+closerAs false best g e = best
+
+-- the better of the best so far and one more entry
+unfoldable pub closer : (ℕ → EstTime) → Float → Closest → EstJoinPath → Closest
+closer node speed best x =
+    let g = gap (node (x .«est_idx_next») .speed) speed in
+    closerAs (eqb (x .«link_idx_match») 0 && lt g (best .gap)) best g (x .«est_idx_next»)
+
+unfoldable pub closestOf : (ℕ → EstTime) → Float → Closest → List EstJoinPath → Closest
+unfolding closer
+closestOf node speed best [] = best
+closestOf node speed best (x ∷ xs) = closestOf node speed (closer node speed best x) xs
+
+-- the source begins with J and no node
+unfoldable pub closest : (ℕ → EstTime) → Float → Float → List EstJoinPath → Closest
+unfolding closestOf
+closest node join speed es = closestOf node speed (record { gap = join; node = 0 }) es
+
+-- ---- "the last node links through a new Fake at the end of the target's previous-alternative chain"
+
+abbrev pub endedAs : ℕ → ℕ → (ℕ → ℕ) → ℕ
+endedAs zero i f = i
+endedAs (suc j) i f = f (suc j)
+
+-- from node i along the previous alternatives, for so many of them
+unfoldable pub chainEnd : ℕ → (ℕ → EstTime) → ℕ → ℕ
+chainEnd zero node i = i
+chainEnd (suc k) node i = endedAs (node i .«idx_prev_alt») i (chainEnd k node)
+
+-- a node whose previous alternative is set
+unfoldable pub joinedBy : EstTime → ℕ → EstTime
+joinedBy n alt = record {
+  «time_sched» = n .«time_sched»;
+  «time_to_next» = n .«time_to_next»;
+  «dist_to_next» = n .«dist_to_next»;
+  speed = n .speed;
+  «idx_next» = n .«idx_next»;
+  «idx_next_alt» = n .«idx_next_alt»;
+  «idx_prev» = n .«idx_prev»;
+  «idx_prev_alt» = alt;
+  «link_event» = n .«link_event»;
+}
+
+-- a join's Fake, between the last node and the end of the chain
+unfoldable pub joinFake : ℕ → ℕ → EstTime
+unfolding blank
+joinFake next prev = record {
+  «time_sched» = blank .«time_sched»;
+  «time_to_next» = blank .«time_to_next»;
+  «dist_to_next» = blank .«dist_to_next»;
+  speed = blank .speed;
+  «idx_next» = next;
+  «idx_next_alt» = 0;
+  «idx_prev» = prev;
+  «idx_prev_alt» = 0;
+  «link_event» = blank .«link_event»;
+}
+
+-- The table of n nodes after a join: the chain's end gets the Fake as node n, and the last node gets it as its next. The end of the chain may be the last node itself.
+unfoldable pub joinAt : Table → ℕ → ℕ → TimedEvent → Table
+unfolding put at
+joinAt t n end e =
+    let t1 = put t end (joinedBy (at t end) n) in
+    let t2 = put t1 n (joinFake end (n - 1)) in
+    put t2 (n - 1) (linkedTo (at t2 (n - 1)) n e)
+
+unfoldable pub joinedTable : Table → ℕ → ℕ → TimedEvent → Table
+unfolding joinAt chainEnd
+joinedTable t n target e = joinAt t n (chainEnd n (at t) target) e
+
+-- ---- "After a failed join an Arrive appends, rising, all nodes of that event that no entry names."
+
+unfoldable pub names : List EstJoinPath → ℕ → Bool
+names [] i = false
+names (x ∷ xs) i = eqb (x .«est_idx_next») i || names xs i
+
+abbrev pub appendedIf : Bool → ℕ → ℕ → List EstJoinPath → Option (List EstJoinPath)
+appendedIf true m i es = some es
+appendedIf false m i es = push es (entry m i)
+
+-- these nodes, except those that the old list names, each with the event's link as its m
+unfoldable pub appendedAll : List EstJoinPath → ℕ → List ℕ → List EstJoinPath → Option (List EstJoinPath)
+unfolding names
+appendedAll old m [] es = some es
+appendedAll old m (i ∷ is) es = andThen (appendedIf (names old i) m i es) (appendedAll old m is)
+
+unfoldable pub appended : (ℕ → EstTime) → ℕ → LinkEvent → List EstJoinPath → Option (List EstJoinPath)
+unfolding appendedAll eventNodes
+appended node n e es = cond (isArrive (e .«est_type»)) (appendedAll es (e .«link_idx») (eventNodes node e n) es) (some es)
+
+-- ---- the three together, for an event of a run that has added since its pop
+
+-- `update_join_paths_space` in a network of n nodes: the list rebuilt for an event
+unfoldable pub rebuilt : (ℕ → EstTime) → ℕ → LinkEvent → List EstJoinPath → Option (List EstJoinPath)
+rebuilt node n e old = extendedAll node n e (seenIn node n e) old []
+
+-- What becomes of the run: it joins a node, it goes on with a list, or refusal 12.
+pub data JoinStep : Type 0 where
+  JoinsTo : ℕ → JoinStep
+  GoesOn : List EstJoinPath → JoinStep
+  Beyond : JoinStep
+
+abbrev pub goesOn : Option (List EstJoinPath) → JoinStep
+goesOn none = Beyond
+goesOn (some es) = GoesOn es
+
+-- a join needs a place for its Fake
+abbrev pub joinsIf : Bool → ℕ → JoinStep
+joinsIf true target = JoinsTo target
+joinsIf false target = Beyond
+
+-- by whether the smallest gap is below J and whether there is room
+abbrev pub chosenAs : Bool → Bool → ℕ → Option (List EstJoinPath) → JoinStep
+chosenAs true room target list = joinsIf room target
+chosenAs false room target list = goesOn list
+
+abbrev pub chosen : (ℕ → EstTime) → ℕ → ℕ → Float → TimedEvent → Option (List EstJoinPath) → JoinStep
+chosen node n places join e none = Beyond
+chosen node n places join e (some es) =
+    let best = closest node join (e .speed) es in
+    chosenAs (lt (best .gap) join) (ltb n places) (best .node) (appended node n (e .«link_event») es)
+
+unfoldable pub joinStep : (ℕ → EstTime) → ℕ → ℕ → Float → TimedEvent → List EstJoinPath → JoinStep
+unfolding closest appended rebuilt
+joinStep node n places join e old = chosen node n places join e (rebuilt node n (e .«link_event») old)
+
+-- ---- what the code answers
+
+-- a step of the code is that of the definition; the list that the run goes on with lies in a slice
+abbrev pub StepAs : JoinStep → List ℕ → Step → Type 0
+StepAs d slice (Joined target) = d ≡ JoinsTo target
+StepAs d slice (Waits n) = (d ≡ GoesOn (entriesIn slice n)) × (n ≤ 1024)
+StepAs d slice (Refused n) = (d ≡ Beyond) × (n ≡ 12)
+
+-- the table's lists, which were t before, after a step
+abbrev pub SteppedInto : Table → ℕ → TimedEvent → List Float → List ℕ → Step → Type 0
+SteppedInto t n e floats numbers (Joined target) = (floats ≡ joinedTable t n target e .floats) × (numbers ≡ joinedTable t n target e .numbers)
+SteppedInto t n e floats numbers (Waits k) = (floats ≡ t .floats) × (numbers ≡ t .numbers)
+SteppedInto t n e floats numbers (Refused k) = Unit
+
+-- the work space is left as it was, but at a refusal
+abbrev pub CellsAs : List ℕ → List ℕ → Step → Type 0
+CellsAs before after (Joined target) = after ≡ before
+CellsAs before after (Waits k) = after ≡ before
+CellsAs before after (Refused k) = Unit

@@ -1,0 +1,371 @@
+// A run's joins: the choice among its entries, the join, the entries appended, and the three together for one event. Contracts: specs/Joins.antt.
+use net_event_map::Layout;
+use net_node::EstTime;
+use net_node::LinkEvent;
+use net_node::TimedEvent;
+use net_strands::Count;
+use net_strands::EstJoinPath;
+ghost use mathlib.Core.Path.{_≡_};
+ghost use mathlib.Core.List.{List};
+ghost use Prim.Native.Nat.{ℕ, _+_, _*_, _≤_, _<_};
+ghost use lib.Dec.{ltb};
+ghost use lib.ListN.{length, getD};
+ghost use Rattle.net_node.specs.declared.EstTime.{EstTime};
+ghost use Rattle.net_node.specs.Table.{nodeAt, Room, Woven};
+ghost use Rattle.net_insertion.specs.Insertion.{Table};
+ghost use Rattle.net_event_map.specs.EventMap.{Apart, Mapped, Real};
+ghost use Rattle.net_strands.specs.Entries.{entriesIn, Listed, Valid};
+ghost use Rattle.net_joins.specs.Joins.{closer, closest, chainEnd, joinedBy, joinFake, joinAt, joinedTable, appendedIf, appendedAll, appended, joinsIf, goesOn, joinStep, StepAs, SteppedInto, CellsAs};
+ghost use Rattle.net_joins.specs.Marks.{marks, Marked, Chain, Ending, Walkable};
+
+// The smallest gap of speeds so far, and its node.
+pub struct Closest {
+    pub gap: f64,
+    pub node: u32,
+}
+
+// What becomes of a run at an event: it has joined a node, it goes on with so many entries, or a refusal's number.
+pub enum Step {
+    Joined(u32),
+    Waits(usize),
+    Refused(u32),
+}
+
+// The better of the best so far and one more entry, whose node is given.
+pub fn closer_of(best: Closest, x: EstJoinPath, node: EstTime, speed: f64) -> Closest
+    ensures { λ r. ⌜ ((nodes : ℕ → EstTime) → node ≡ nodes (x .«est_idx_next») → r ≡ closer nodes speed best x) ⌝ }
+{
+    let gap = floats::speed_gap(node.speed, speed);
+    if (x.link_idx_match == 0) & (gap < best.gap) {
+        return Closest {
+            gap,
+            node: x.est_idx_next,
+        };
+    }
+    best
+}
+
+// "Of entries with m = 0 the first with the smallest gap, strictly below J".
+fn closest_entry(
+    floats: &[f64],
+    numbers: &[u32],
+    nodes: usize,
+    list: &[u32],
+    count: usize,
+    join: f64,
+    speed: f64,
+) -> Closest
+    requires { ⌜ Room (now floats) (now numbers) nodes ⌝ }
+    requires { ⌜ Valid (entriesIn (now list) count) nodes ⌝ }
+    requires { ⌜ count ≤ 1024 ⌝ }
+    requires { ⌜ 2048 ≤ length (now list) ⌝ }
+    ensures { λ r. ⌜ r ≡ closest (nodeAt (now (floats .entry)) (now (numbers .entry))) join speed (entriesIn (now (list .entry)) count) ⌝ }
+{
+    let mut best = Closest { gap: join, node: 0 };
+    let mut k = 0;
+    while k < count {
+        let x = net_strands::entry_at(list, k);
+        let node = net_node::load(floats, numbers, x.est_idx_next as usize);
+        best = closer_of(best, x, node, speed);
+        k += 1;
+    }
+    best
+}
+
+// From a node along the previous alternatives to the last of them.
+fn chain_end(floats: &[f64], numbers: &[u32], nodes: usize, start: u32) -> u32
+    requires { ⌜ Room (now floats) (now numbers) nodes ⌝ }
+    requires { ⌜ Woven (nodeAt (now floats) (now numbers)) nodes ⌝ }
+    requires { ⌜ start < nodes ⌝ }
+    ensures { λ r. ⌜ r ≡ chainEnd nodes (nodeAt (now (floats .entry)) (now (numbers .entry))) start ⌝ }
+{
+    let mut i = start;
+    loop {
+        let node = net_node::load(floats, numbers, i as usize);
+        if node.idx_prev_alt == 0 {
+            return i;
+        }
+        i = node.idx_prev_alt;
+    }
+}
+
+// A node whose previous alternative is set.
+fn join_by(node: EstTime, alt: u32) -> EstTime
+    ensures { λ r. ⌜ r ≡ joinedBy node alt ⌝ }
+{
+    let link_event = node.link_event;
+    EstTime {
+        time_sched: node.time_sched,
+        time_to_next: node.time_to_next,
+        dist_to_next: node.dist_to_next,
+        speed: node.speed,
+        idx_next: node.idx_next,
+        idx_next_alt: node.idx_next_alt,
+        idx_prev: node.idx_prev,
+        idx_prev_alt: alt,
+        link_event,
+    }
+}
+
+// A join's Fake, between the last node and the end of the chain.
+fn join_fake(next: u32, prev: u32) -> EstTime
+    ensures { λ r. ⌜ r ≡ joinFake next prev ⌝ }
+{
+    let blank = net_node::blank_node();
+    let link_event = blank.link_event;
+    EstTime {
+        time_sched: blank.time_sched,
+        time_to_next: blank.time_to_next,
+        dist_to_next: blank.dist_to_next,
+        speed: blank.speed,
+        idx_next: next,
+        idx_next_alt: 0,
+        idx_prev: prev,
+        idx_prev_alt: 0,
+        link_event,
+    }
+}
+
+// The last of n nodes is linked to the end of a chain through a new Fake. The end may be the last node itself.
+fn join_at(floats: &mut [f64], numbers: &mut [u32], n: u32, end: u32, e: TimedEvent)
+    requires { ⌜ end < n ⌝ }
+    requires { ⌜ n * 4 + 4 ≤ length (now floats) ⌝ }
+    requires { ⌜ n * 6 + 6 ≤ length (now numbers) ⌝ }
+    ensures floats { λ _. ⌜ now (floats .exit) ≡ joinAt (record { floats = now (floats .entry); numbers = now (numbers .entry) }) n end e .floats ⌝ }
+    ensures numbers { λ _. ⌜ now (numbers .exit) ≡ joinAt (record { floats = now (floats .entry); numbers = now (numbers .entry) }) n end e .numbers ⌝ }
+{
+    let node = net_node::load(floats, numbers, end as usize);
+    let joined = join_by(node, n);
+    net_node::store(floats, numbers, end as usize, joined);
+    let last = n - 1;
+    let fake = join_fake(end, last);
+    net_node::store(floats, numbers, n as usize, fake);
+    let before = net_node::load(floats, numbers, last as usize);
+    let linked = net_insertion::link_to(before, n, e);
+    net_node::store(floats, numbers, last as usize, linked);
+}
+
+// The last of n nodes is linked to a target through a new Fake.
+fn perform_speed_join(
+    floats: &mut [f64],
+    numbers: &mut [u32],
+    n: usize,
+    places: usize,
+    target: u32,
+    est_time_add: TimedEvent,
+)
+    requires { ⌜ Room (now floats) (now numbers) places ⌝ }
+    requires { ⌜ n < places ⌝ }
+    requires { ⌜ Woven (nodeAt (now floats) (now numbers)) n ⌝ }
+    requires { ⌜ target < n ⌝ }
+    ensures floats { λ _. ⌜ now (floats .exit) ≡ joinedTable (record { floats = now (floats .entry); numbers = now (numbers .entry) }) n target «est_time_add» .floats ⌝ }
+    ensures numbers { λ _. ⌜ now (numbers .exit) ≡ joinedTable (record { floats = now (floats .entry); numbers = now (numbers .entry) }) n target «est_time_add» .numbers ⌝ }
+{
+    let end = chain_end(floats, numbers, n, target);
+    join_at(floats, numbers, n as u32, end, est_time_add);
+}
+
+// Sets the mark of each node that a list names.
+fn set_marks(cells: &mut [u32], w: Layout, list: &[u32], count: usize, mark: u32)
+    requires { ⌜ Apart (now cells) w ⌝ }
+    requires { ⌜ count ≤ 1024 ⌝ }
+    requires { ⌜ 2048 ≤ length (now list) ⌝ }
+    requires { ⌜ Valid (entriesIn (now list) count) (w .places) ⌝ }
+    ensures { λ _. ⌜ now (cells .exit) ≡ marks (w .«nodes_at») mark (entriesIn (now (list .entry)) count) (now (cells .entry)) ⌝ }
+{
+    let mut k = 0;
+    while k < count {
+        let x = net_strands::entry_at(list, k);
+        cells[w.nodes_at + x.est_idx_next as usize * 8 + 1] = mark;
+        k += 1;
+    }
+}
+
+// Puts a node behind the n entries of a list, unless the list names it. Those entries stay, also where it does not fit: `push_entry` doesn't promise that, so the room is tested here.
+fn append_unless(named: bool, list: &mut [u32], n: usize, link_idx: u32, i: u32) -> Count
+    requires { ⌜ 2048 ≤ length (now list) ⌝ }
+    requires { ⌜ n ≤ 1024 ⌝ }
+    ensures list { λ r. ⌜ Listed (appendedIf named «link_idx» i (entriesIn (now (list .entry)) n)) (now (list .exit)) r ⌝ }
+    ensures kept { λ _. ⌜ ((k : ℕ) → k ≤ n → entriesIn (now (list .exit)) k ≡ entriesIn (now (list .entry)) k) ⌝ }
+{
+    if named {
+        return Count::Entries(n);
+    }
+    if n == 1024 {
+        return Count::Over;
+    }
+    let x = EstJoinPath {
+        link_idx_match: link_idx,
+        est_idx_next: i,
+    };
+    net_strands::push_entry(list, n, x)
+}
+
+// Appends the nodes of a link's Arrive that are not marked. The entries that were there stay.
+fn append_unmarked(cells: &[u32], w: Layout, link_idx: u32, list: &mut [u32], count: usize) -> Count
+    requires { ⌜ Apart (now cells) w ⌝ }
+    requires { ⌜ «link_idx» < w .links ⌝ }
+    requires { ⌜ Ending (now cells) w (getD (now cells) (w .«links_at» + «link_idx» * 8) 0) ⌝ }
+    requires { ⌜ Marked (now cells) w (entriesIn (now list) count) ⌝ }
+    requires { ⌜ 2048 ≤ length (now list) ⌝ }
+    requires { ⌜ count ≤ 1024 ⌝ }
+    ensures list { λ r. ⌜ ((is : List ℕ) → Chain (now (cells .entry)) w (getD (now (cells .entry)) (w .«links_at» + «link_idx» * 8) 0) is → Listed (appendedAll (entriesIn (now (list .entry)) count) «link_idx» is (entriesIn (now (list .entry)) count)) (now (list .exit)) r) ⌝ }
+    ensures kept { λ _. ⌜ entriesIn (now (list .exit)) count ≡ entriesIn (now (list .entry)) count ⌝ }
+{
+    let mut i = net_event_map::first_node(cells, w, link_idx);
+    let mut at = count;
+    while i != 0 {
+        let named = cells[w.nodes_at + i as usize * 8 + 1] != 0;
+        let Count::Entries(more) = append_unless(named, list, at, link_idx, i) else {
+            return Count::Over;
+        };
+        at = more;
+        i = net_event_map::next_node(cells, w, i);
+    }
+    Count::Entries(at)
+}
+
+// Appends to a list all nodes of the event that it doesn't name, if the event is an Arrive.
+fn add_new_join_paths(
+    cells: &mut [u32],
+    w: Layout,
+    event: LinkEvent,
+    list: &mut [u32],
+    count: usize,
+) -> Count
+    requires { ⌜ Apart (now cells) w ⌝ }
+    requires { ⌜ Real event (w .links) ⌝ }
+    requires { ⌜ count ≤ 1024 ⌝ }
+    requires { ⌜ 2048 ≤ length (now list) ⌝ }
+    requires { ⌜ Valid (entriesIn (now list) count) (w .places) ⌝ }
+    requires { ⌜ Walkable (now cells) w ⌝ }
+    ensures list { λ r. ⌜ ((node : ℕ → EstTime) (n : ℕ) → n ≤ w .places → Mapped (now (cells .entry)) w node n → Listed (appended node n event (entriesIn (now (list .entry)) count)) (now (list .exit)) r) ⌝ }
+    ensures cells { λ _. ⌜ ((node : ℕ → EstTime) (n : ℕ) → Mapped (now (cells .entry)) w node n → now (cells .exit) ≡ now (cells .entry)) ⌝ }
+{
+    let kind = event.est_type;
+    let arrive = net_strands::is_arrive(kind);
+    if !arrive {
+        return Count::Entries(count);
+    }
+    set_marks(cells, w, list, count, 1);
+    let appended = append_unmarked(cells, w, event.link_idx, list, count);
+    set_marks(cells, w, list, count, 0);
+    appended
+}
+
+// Copies the entries of a list.
+fn copy_entries(from: &[u32], to: &mut [u32], count: usize)
+    requires { ⌜ count ≤ 1024 ⌝ }
+    requires { ⌜ 2048 ≤ length (now from) ⌝ }
+    requires { ⌜ 2048 ≤ length (now to) ⌝ }
+    ensures { λ _. ⌜ entriesIn (now (to .exit)) count ≡ entriesIn (now (from .entry)) count ⌝ }
+{
+    let cells = count * 2;
+    let mut i = 0;
+    while i < cells {
+        to[i] = from[i];
+        i += 1;
+    }
+}
+
+// The run joins a node, if there is a place for the Fake.
+fn join_target(
+    floats: &mut [f64],
+    numbers: &mut [u32],
+    n: usize,
+    places: usize,
+    target: u32,
+    est_time_add: TimedEvent,
+) -> Step
+    requires { ⌜ Room (now floats) (now numbers) places ⌝ }
+    requires { ⌜ Woven (nodeAt (now floats) (now numbers)) n ⌝ }
+    requires { ⌜ target < n ⌝ }
+    ensures answer { λ r. ⌜ ((slice : List ℕ) → StepAs (joinsIf (ltb n places) target) slice r) ⌝ }
+    ensures table { λ r. ⌜ SteppedInto (record { floats = now (floats .entry); numbers = now (numbers .entry) }) n «est_time_add» (now (floats .exit)) (now (numbers .exit)) r ⌝ }
+{
+    if places <= n {
+        return Step::Refused(12);
+    }
+    perform_speed_join(floats, numbers, n, places, target, est_time_add);
+    Step::Joined(target)
+}
+
+// The run goes on: what no entry names is appended to the list in `scratch`, and the list is left in `joins`.
+fn go_on(
+    cells: &mut [u32],
+    w: Layout,
+    event: LinkEvent,
+    scratch: &mut [u32],
+    count: usize,
+    joins: &mut [u32],
+) -> Step
+    requires { ⌜ Apart (now cells) w ⌝ }
+    requires { ⌜ Real event (w .links) ⌝ }
+    requires { ⌜ count ≤ 1024 ⌝ }
+    requires { ⌜ 2048 ≤ length (now scratch) ⌝ }
+    requires { ⌜ 2048 ≤ length (now joins) ⌝ }
+    requires { ⌜ Valid (entriesIn (now scratch) count) (w .places) ⌝ }
+    requires { ⌜ Walkable (now cells) w ⌝ }
+    ensures answer { λ r. ⌜ ((node : ℕ → EstTime) (n : ℕ) → n ≤ w .places → Mapped (now (cells .entry)) w node n → StepAs (goesOn (appended node n event (entriesIn (now (scratch .entry)) count))) (now (joins .exit)) r) ⌝ }
+    ensures cells { λ _. ⌜ ((node : ℕ → EstTime) (n : ℕ) → Mapped (now (cells .entry)) w node n → now (cells .exit) ≡ now (cells .entry)) ⌝ }
+{
+    let appended = add_new_join_paths(cells, w, event, scratch, count);
+    let Count::Entries(more) = appended else {
+        return Step::Refused(12);
+    };
+    copy_entries(scratch, joins, more);
+    Step::Waits(more)
+}
+
+// One event of a run that has added since its pop: its list of `count` entries is rebuilt, the run joins, or goes on with what is appended. The list is left in `joins`.
+pub fn join_step(
+    floats: &mut [f64],
+    numbers: &mut [u32],
+    n: usize,
+    cells: &mut [u32],
+    w: Layout,
+    join: f64,
+    joins: &mut [u32],
+    count: usize,
+    scratch: &mut [u32],
+    stack: &mut [u32],
+    est_time_add: TimedEvent,
+) -> Step
+    requires { ⌜ Room (now floats) (now numbers) (w .places) ⌝ }
+    requires { ⌜ n ≤ w .places ⌝ }
+    requires { ⌜ 1 ≤ n ⌝ }
+    requires { ⌜ Woven (nodeAt (now floats) (now numbers)) n ⌝ }
+    requires { ⌜ Apart (now cells) w ⌝ }
+    requires { ⌜ Mapped (now cells) w (nodeAt (now floats) (now numbers)) n ⌝ }
+    requires { ⌜ Real («est_time_add» .«link_event») (w .links) ⌝ }
+    requires { ⌜ count ≤ 1024 ⌝ }
+    requires { ⌜ 2048 ≤ length (now joins) ⌝ }
+    requires { ⌜ 2048 ≤ length (now scratch) ⌝ }
+    requires { ⌜ 4096 ≤ length (now stack) ⌝ }
+    requires { ⌜ Valid (entriesIn (now joins) count) n ⌝ }
+    ensures answer { λ r. ⌜ StepAs (joinStep (nodeAt (now (floats .entry)) (now (numbers .entry))) n (w .places) join «est_time_add» (entriesIn (now (joins .entry)) count)) (now (joins .exit)) r ⌝ }
+    ensures table { λ r. ⌜ SteppedInto (record { floats = now (floats .entry); numbers = now (numbers .entry) }) n «est_time_add» (now (floats .exit)) (now (numbers .exit)) r ⌝ }
+    ensures cells { λ r. ⌜ CellsAs (now (cells .entry)) (now (cells .exit)) r ⌝ }
+{
+    let event = est_time_add.link_event;
+    let seen = net_event_map::contains(cells, w, event);
+    let rebuilt = net_strands::update_join_paths_space(
+        floats,
+        numbers,
+        n,
+        event,
+        seen,
+        joins,
+        count,
+        stack,
+        scratch,
+    );
+    let Count::Entries(k) = rebuilt else {
+        return Step::Refused(12);
+    };
+    let best = closest_entry(floats, numbers, n, scratch, k, join, est_time_add.speed);
+    if best.gap < join {
+        return join_target(floats, numbers, n, w.places, best.node, est_time_add);
+    }
+    go_on(cells, w, event, scratch, k, joins)
+}

@@ -1,0 +1,42 @@
+// The choice among join entries that are lent as a list of entries. Contracts: net_joins' specs/Joins.antt.
+use net_joins::Closest;
+use net_strands::EstJoinPath;
+ghost use mathlib.Core.Path.{_≡_};
+ghost use Prim.Native.Nat.{_+_, _*_, _≤_};
+ghost use lib.ListN.{length};
+ghost use Rattle.net_node.specs.Table.{nodeAt, Room};
+ghost use Rattle.net_strands.specs.Entries.{Valid};
+ghost use Rattle.net_joins.specs.Joins.{closer, closest};
+
+// The better of the best so far and one more entry.
+fn closer_at(floats: &[f64], numbers: &[u32], best: Closest, x: EstJoinPath, speed: f64) -> Closest
+    requires { ⌜ x .«est_idx_next» * 4 + 4 ≤ length (now floats) ⌝ }
+    requires { ⌜ x .«est_idx_next» * 6 + 6 ≤ length (now numbers) ⌝ }
+    ensures { λ r. ⌜ r ≡ closer (nodeAt (now (floats .entry)) (now (numbers .entry))) speed best x ⌝ }
+{
+    let node = net_node::load(floats, numbers, x.est_idx_next as usize);
+    net_joins::closer_of(best, x, node, speed)
+}
+
+// "Of entries with m = 0 the first with the smallest gap, strictly below J": its gap and its node, or J and 0 if there is none.
+pub fn closest_of(
+    floats: &[f64],
+    numbers: &[u32],
+    nodes: usize,
+    entries: &[EstJoinPath],
+    join: f64,
+    speed: f64,
+) -> Closest
+    requires { ⌜ Room (now floats) (now numbers) nodes ⌝ }
+    requires { ⌜ Valid (now entries) nodes ⌝ }
+    ensures { λ r. ⌜ r ≡ closest (nodeAt (now (floats .entry)) (now (numbers .entry))) join speed (now (entries .entry)) ⌝ }
+{
+    let mut best = Closest { gap: join, node: 0 };
+    let mut k = 0;
+    while k < entries.len() {
+        let x = entries[k];
+        best = closer_at(floats, numbers, best, x, speed);
+        k += 1;
+    }
+    best
+}

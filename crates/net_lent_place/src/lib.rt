@@ -1,0 +1,58 @@
+// Insertion at a run's place that is lent and moved in place, as the source's `insert_est_time` has it. Contracts: specs/LentPlace.antt and net_insertion's specs/Insertion.antt.
+use net_insertion::Inserted;
+use net_insertion::Place;
+use net_node::TimedEvent;
+ghost use mathlib.Core.Path.{_≡_};
+ghost use Prim.Native.Nat.{_+_, _*_, _≤_, _<_};
+ghost use lib.ListN.{length};
+ghost use Rattle.net_node.specs.Table.{nodeAt, Room, Woven};
+ghost use Rattle.net_insertion.specs.Insertion.{inserted, InsertedInto, flagged};
+ghost use Rattle.net_lent_place.specs.LentPlace.{placeAfter};
+
+// Where a run stands after an answer.
+fn place_after(answer: Inserted, old: Place) -> Place
+    ensures { λ r. ⌜ r ≡ placeAfter answer old ⌝ }
+{
+    match answer {
+        Inserted::Added(place, _) => place,
+        Inserted::Moved(place) => place,
+        Inserted::Refused(_) => old,
+    }
+}
+
+// Inserts an event at a run's place into a network of n nodes, and moves the place. A node whose cell is set ends a finished run.
+pub fn insert_est_time(
+    floats: &mut [f64],
+    numbers: &mut [u32],
+    n: usize,
+    places: usize,
+    cells: &[u32],
+    ends_at: usize,
+    join: f64,
+    est_alt: &mut Place,
+    est_insert: TimedEvent,
+) -> Inserted
+    requires { ⌜ Room (now floats) (now numbers) places ⌝ }
+    requires { ⌜ n ≤ places ⌝ }
+    requires { ⌜ Woven (nodeAt (now floats) (now numbers)) n ⌝ }
+    requires { ⌜ now «est_alt» .«idx_prev» < n ⌝ }
+    requires { ⌜ «ends_at» + n * 8 ≤ length (now cells) + 7 ⌝ }
+    ensures answer { λ r. ⌜ r ≡ inserted (record { floats = now (floats .entry); numbers = now (numbers .entry) }) n places (flagged (now (cells .entry)) «ends_at») join (now («est_alt» .entry)) «est_insert» ⌝ }
+    ensures table { λ r. ⌜ InsertedInto (record { floats = now (floats .entry); numbers = now (numbers .entry) }) n join (now («est_alt» .entry)) «est_insert» (now (floats .exit)) (now (numbers .exit)) r ⌝ }
+    ensures place { λ r. ⌜ now («est_alt» .exit) ≡ placeAfter r (now («est_alt» .entry)) ⌝ }
+{
+    let old = *est_alt;
+    let answer = net_insertion::insert_est_time(
+        floats,
+        numbers,
+        n,
+        places,
+        cells,
+        ends_at,
+        join,
+        old,
+        est_insert,
+    );
+    *est_alt = place_after(answer, old);
+    answer
+}

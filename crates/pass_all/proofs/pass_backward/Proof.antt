@@ -1,0 +1,52 @@
+-- `pass_all::pass_backward` meets its contract.
+use native.Mathlib.Omega.{arith}
+use borrow.Author.Needs.{needs}
+use Rattle.pass_all.proofs.Stages.{ended, failed, told-backward, told-unpassed, told-times}
+use Rattle.pass_all.proofs.pass_backward.Statement.{statement}
+use Rattle.pass_all.proofs.pass_backward.Tie as tie
+
+update-times-backward-requires : tie.Need-update-times-backward-requires
+update-times-backward-requires c κs =
+    let p = c .before .before .before .before .before .before .before .before .before .before .pre in (p .0, (p .1 .0, (p .1 .1 .0, (omega (arith, p .1 .1 .1 .1 .0), (p .1 .1 .1 .1 .1 .1, (p .1 .1 .1 .0, p .1 .1 .1 .1 .1 .0))))))
+
+returns : tie.Need-returns
+returns c = told-backward _ _ _ _ _ (failed _ _ _ _ _ _ _ (c .before .before .before .before .before .before .before .before .before .before .before .update-times-backward .result) (c .before .before .before .before .before .before .before .before .before .before .before .update-times-backward .ensures) (c .if1 .taken))
+
+some-left-requires : tie.Need-some-left-requires
+some-left-requires c κs = omega (arith, c .before .before .before .before .before .before .before .before .before .before .before .before .before .before .before .before .before .before .before .before .before .before .before .pre .1 .1 .1 .1 .0, c .before .before .before .before .before .before .before .before .before .before .before .before .update-times-backward .kept)
+
+returns-2 : tie.Need-returns-2
+returns-2 c = told-unpassed _ _ _ (ended _ _ _ _ _ _ _ (c .before .before .before .before .before .before .before .before .before .before .before .before .before .before .update-times-backward .result) (c .before .before .before .before .before .before .before .before .before .before .before .before .before .before .update-times-backward .ensures) (c .before .before .before .if1 .left)) _ (c .before .some-left .ensures) (c .if2 .taken)
+
+all-zero-requires : tie.Need-all-zero-requires
+all-zero-requires c κs = omega (arith, c .before .before .before .before .before .before .before .before .before .before .before .before .before .before .before .before .before .before .before .before .before .before .before .before .before .before .pre .0 .floats, c .before .before .before .before .before .before .before .before .before .before .before .before .before .before .before .update-times-backward .kept)
+
+returns-3 : tie.Need-returns-3
+returns-3 c = told-times _ _ _ (ended _ _ _ _ _ _ _ (c .before .before .before .before .before .before .before .before .before .before .before .before .before .before .before .before .before .update-times-backward .result) (c .before .before .before .before .before .before .before .before .before .before .before .before .before .before .before .before .before .update-times-backward .ensures) (c .before .before .before .before .before .before .if1 .left)) _ (c .before .before .before .before .some-left .ensures) (c .before .before .before .if2 .left) _ (c .before .all-zero .ensures) _ (c .sixteen-if .ensures)
+
+pub pass-backward-spec : {M : Type 1} → statement M
+pass-backward-spec =
+    tie.close
+    (tie.spec
+    update-times-backward-requires
+    (λ c. search needs)
+    (λ c. search needs)
+    (λ c. search needs)
+    (λ c. search needs)
+    (λ c. search needs)
+    returns
+    some-left-requires
+    (λ c. search needs)
+    (λ c. search needs)
+    (λ c. search needs)
+    (λ c. search needs)
+    (λ c. search needs)
+    returns-2
+    all-zero-requires
+    (λ c κs. search needs)
+    (λ c. search needs)
+    (λ c. search needs)
+    (λ c. search needs)
+    (λ c. search needs)
+    (λ c. search needs)
+    returns-3)

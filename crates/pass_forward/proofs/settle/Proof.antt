@@ -1,0 +1,42 @@
+-- `pass_forward::settle` meets its contract.
+use borrow.Author.Needs.{needs}
+use native.Mathlib.Omega.{arith}
+use Rattle.pass_state.proofs.Left.{left-kept}
+use Rattle.pass_state.proofs.Settles.{settle-joined, settle-fails, settle-end, settle-fake, settle-queued}
+use Rattle.pass_forward.proofs.Entries.{reaches-in}
+use Rattle.pass_forward.proofs.Parts.{settler, last-in}
+use Rattle.pass_forward.proofs.settle.Statement.{statement}
+use Rattle.pass_forward.proofs.settle.Tie as tie
+
+is-done-requires : tie.Need-is-done-requires
+is-done-requires c κs = omega (arith, c .before .before .before .before .before .before .before .before .before .before .before .before .before .before .pre .1 .1, c .before .before .before .before .before .before .before .before .before .before .before .before .before .before .pre .0 .holds .flags)
+
+returns : tie.Need-returns
+returns c = λ p start v. settle-joined (settler (c .before .before .before .before .before .before .before .before .before .before .before .before .before .before .before .before .before .before .args .n)) v _ _ _ _ (c .before .before .before .before .before .before .before .before .before .before .load .ensures) (c .before .before .before .before .before .before .before .load2 .ensures) _ (c .before .before .before .before .before .is-fake .ensures) _ (c .before .before .before .is-done .ensures) (c .before .before .if1 .taken) (c .if2 .taken)
+
+returns-2 : tie.Need-returns-2
+returns-2 c = λ p start v. settle-fails (settler (c .before .before .before .before .before .before .before .before .before .before .before .before .before .before .before .before .before .before .args .n)) v _ _ _ _ (c .before .before .before .before .before .before .before .before .before .before .load .ensures) (c .before .before .before .before .before .before .before .load2 .ensures) _ (c .before .before .before .before .before .is-fake .ensures) _ (c .before .before .before .is-done .ensures) (c .before .before .if1 .taken) (c .if2 .left)
+
+set-done-requires : tie.Need-set-done-requires
+set-done-requires c κs =
+    let v = c .before .before .before .before .before .before .before .before .before .before .before .before .before .before .before .before .before .before .before .before .before .pre .0 .holds in
+    let h = c .before .before .before .before .before .before .before .before .before .before .before .before .before .before .before .before .before .before .before .before .before .pre .1 .1 in
+    (omega (arith, h, v .room .floats), (omega (arith, h, v .room .numbers), omega (arith, h, v .flags)))
+
+returns-3 : tie.Need-returns-3
+returns-3 c = λ p start v. settle-end (settler (c .before .before .before .before .before .before .before .before .before .before .before .before .before .before .before .before .before .before .before .before .before .before .before .before .before .before .before .before .args .n)) v _ _ _ _ (c .before .before .before .before .before .before .before .before .before .before .before .before .before .before .before .before .before .before .before .before .load .ensures) (c .before .before .before .before .before .before .before .before .before .before .before .before .before .before .before .before .before .load2 .ensures) _ (c .before .before .before .before .before .before .before .before .before .before .before .before .before .before .before .is-fake .ensures) _ (c .before .before .before .before .before .before .before .before .before .before .before .before .before .is-done .ensures) (c .before .before .before .before .before .before .before .before .before .before .before .before .if1 .left) (c .before .before .before .before .before .before .before .before .before .before .if3 .taken) (last-in v _ _ (c .before .before .before .before .before .before .before .before .before .before .before .before .before .before .before .before .before .before .before .before .before .before .before .before .before .before .before .before .pre .1 .1) _ (c .before .before .before .before .before .before .before .before .before .before .before .before .before .before .before .before .before .before .before .before .load .ensures) (c .before .before .before .before .before .before .set-done .ensures)) (left-kept (p .done) _ _)
+
+returns-4 : tie.Need-returns-4
+returns-4 c = λ p start v. settle-fake (settler (c .before .before .before .before .before .before .before .before .before .before .before .before .before .before .before .before .before .before .before .args .n)) v _ _ _ _ (c .before .before .before .before .before .before .before .before .before .before .before .load .ensures) (c .before .before .before .before .before .before .before .before .load2 .ensures) _ (c .before .before .before .before .before .before .is-fake .ensures) _ (c .before .before .before .before .is-done .ensures) (c .before .before .before .if1 .left) (c .before .if3 .left) (c .if4 .taken)
+
+enqueue-node-requires : tie.Need-enqueue-node-requires
+enqueue-node-requires c κs =
+    let v = c .before .before .before .before .before .before .before .before .before .before .before .before .before .before .before .before .before .before .before .before .before .before .before .pre .0 .holds in
+    let h = c .before .before .before .before .before .before .before .before .before .before .before .before .before .before .before .before .before .before .before .before .before .before .before .pre .1 .0 in
+    (omega (arith, h, v .room .floats), (omega (arith, h, v .room .numbers), (omega (arith, h, v .few, v .times), omega (arith, h, v .few, v .nodes))))
+
+returns-5 : tie.Need-returns-5
+returns-5 c = λ p start v. settle-queued (settler (c .before .before .before .before .before .before .before .before .before .before .before .before .before .before .before .before .before .before .before .before .before .before .before .before .before .before .before .before .args .n)) v _ _ _ _ (c .before .before .before .before .before .before .before .before .before .before .before .before .before .before .before .before .before .before .before .before .load .ensures) (c .before .before .before .before .before .before .before .before .before .before .before .before .before .before .before .before .before .load2 .ensures) _ (c .before .before .before .before .before .before .before .before .before .before .before .before .before .before .before .is-fake .ensures) _ (c .before .before .before .before .before .before .before .before .before .before .before .before .before .is-done .ensures) (c .before .before .before .before .before .before .before .before .before .before .before .before .if1 .left) (c .before .before .before .before .before .before .before .before .before .before .if3 .left) (c .before .before .before .before .before .before .before .before .before .if4 .left) (c .before .before .before .before .before .before .before .before .before .before .before .before .before .before .before .before .before .before .before .before .before .before .before .before .before .before .before .before .pre .1 .0) (c .before .before .before .before .before .before .before .before .before .before .before .before .before .before .before .before .before .before .before .before .before .before .before .before .before .before .before .before .pre .1 .1) (reaches-in (p .table) _ (v .table) (c .before .before .before .before .enqueue-node .ensures)) (omega (arith, c .before .before .before .before .enqueue-node .kept)) (omega (arith, c .before .before .before .before .enqueue-node .kept))
+
+pub settle-spec : {M : Type 1} → statement M
+settle-spec = tie.close (tie.spec (λ c κs. search needs) (λ c κs. search needs) (λ c κs. search needs) is-done-requires (λ c. search needs) (λ c. search needs) (λ c. search needs) returns (λ c. search needs) (λ c. search needs) (λ c. search needs) returns-2 set-done-requires (λ c. search needs) (λ c. search needs) (λ c. search needs) returns-3 (λ c. search needs) (λ c. search needs) (λ c. search needs) returns-4 enqueue-node-requires (λ c. search needs) (λ c. search needs) (λ c. search needs) (λ c. search needs) (λ c. search needs) returns-5)

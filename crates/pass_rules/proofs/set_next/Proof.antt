@@ -1,0 +1,13 @@
+-- `pass_rules::set_next` meets its contract.
+use mathlib.Core.Path.{refl}
+use borrow.Author.Needs.{needs}
+use Rattle.pass_rules.specs.Net.{setNext}
+use Rattle.pass_rules.proofs.set_next.Statement.{statement}
+use Rattle.pass_rules.proofs.set_next.Tie as tie
+
+returns : tie.Need-returns
+unfolding setNext
+returns c = (refl, refl)
+
+pub set-next-spec : {M : Type 1} → statement M
+set-next-spec = tie.close (tie.spec (λ c. search needs) (λ c. search needs) (λ c. search needs) (λ c. search needs) returns)

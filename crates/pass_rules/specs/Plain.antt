@@ -1,0 +1,14 @@
+-- Most nodes by one short test: an event that is neither first nor last, with a node on either side that leads to it, and no next alternative. Every check of row 14 holds of it.
+use mathlib.Core.Bool.{Bool, not, _&&_}
+use Prim.Native.Nat.{ℕ, _-_}
+use lib.Dec.{eqb, ltb}
+use Rattle.net_node.specs.declared.EstTime.{EstTime}
+use Rattle.pass_rules.specs.Checks.{isFake}
+
+-- of the node numbered i among n, the one before it and the one after it
+unfoldable pub plain : EstTime → EstTime → EstTime → ℕ → ℕ → Bool
+plain here before after n i =
+    ltb 1 i
+    && (ltb i (n - 1)
+    && (not (eqb (here .«idx_prev») 0)
+    && (not (eqb (here .«idx_next») 0) && (eqb (before .«idx_next») i && (eqb (after .«idx_prev») i && (not (eqb (before .«idx_next_alt») i) && not (isFake here)))))))

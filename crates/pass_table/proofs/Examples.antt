@@ -1,0 +1,71 @@
+-- Small tables through the definition, computed: rows 3 to 5, which of them wins, and document 01's example of row 14.
+use mathlib.Core.Path.{_≡_, refl}
+use mathlib.Core.List.{List, [], _∷_}
+use Prim.Native.Nat.{ℕ}
+use lib.Ieee.{Float, nan, binary64, ofBits, ofInt, le, lt, eq, round}
+use Rattle.fields.specs.Below.{someBelow}
+use Rattle.floats.specs.Floats.{billion, tableFloat}
+use Rattle.book_format.specs.Rows.{lowest}
+use Rattle.net_node.specs.Table.{nodeAt}
+use Rattle.net_insertion.specs.Insertion.{Table, at}
+use Rattle.pass_rules.specs.Checks.{prevHolds, nextHolds, fakeHolds, prevLeads, nextLeads, notBothAlternates, nodeHolds, row14}
+use Rattle.pass_rules.specs.Passes.{passes}
+use Rattle.pass_all.specs.Timing.{timedNumber}
+use Rattle.pass_table.specs.TableEntry.{nodesIn, row3, badFloats, badNode, row4, strayNode, row5, tableTimes}
+
+-- a float 0 and a float 1, and the floats of a node
+abbrev o : Float
+o = ofBits binary64 0
+
+abbrev i : Float
+i = ofBits binary64 4607182418800017408
+
+abbrev floats : Float → List Float → List Float
+floats x rest = x ∷ o ∷ i ∷ i ∷ rest
+
+-- the numbers of a node: next, link, kind
+abbrev numbers : ℕ → ℕ → ℕ → List ℕ → List ℕ
+numbers next link kind rest = next ∷ 0 ∷ 0 ∷ 0 ∷ link ∷ kind ∷ rest
+
+-- three nodes: the first one's time, next, link and kind
+abbrev three : Float → ℕ → ℕ → ℕ → Table
+three time next link kind = record { floats = floats time (floats o (floats o [])); numbers = numbers next link kind (numbers 0 0 2 (numbers 0 0 2 [])) }
+
+-- "36,864 + 64 times 3"
+abbrev asked : ℕ
+asked = 37056
+
+abbrev answer : Table → Float → ℕ → ℕ
+answer t departure bytes = timedNumber (tableTimes t departure bytes)
+
+-- 14: "3 nodes, all indices 0". An event's link may be any number.
+all-zero : answer (three o 0 99 2) o asked ≡ 14
+unfolding tableTimes nodesIn row3 row4 row5 badNode badFloats strayNode lowest someBelow tableFloat billion ofBits ofInt round le lt eq at nodeAt passes row14 nodeHolds prevHolds nextHolds fakeHolds prevLeads nextLeads notBothAlternates
+all-zero = refl
+
+-- 3: two nodes and a part of a third; a byte less work space
+two-nodes : answer (record { floats = floats o (floats o (o ∷ o ∷ o ∷ [])); numbers = numbers 0 0 2 (numbers 0 0 2 (numbers 0 0 2 [])) }) o asked ≡ 3
+unfolding tableTimes nodesIn row3 row4 row5 badNode badFloats strayNode lowest someBelow tableFloat billion ofBits ofInt round le lt eq at nodeAt
+two-nodes = refl
+
+less-space : answer (three o 0 0 2) o 37055 ≡ 3
+unfolding tableTimes nodesIn row3 row4 row5 badNode badFloats strayNode lowest someBelow tableFloat billion ofBits ofInt round le lt eq at nodeAt
+less-space = refl
+
+-- 4: a time that is no number, though times are read as untimed; a departure above the limit; an unknown kind. It wins over 5.
+time-nan : answer (three nan 0 0 2) o asked ≡ 4
+unfolding tableTimes nodesIn row3 row4 row5 badNode badFloats strayNode lowest someBelow tableFloat billion ofBits ofInt round le lt eq at nodeAt
+time-nan = refl
+
+late-departure : answer (three o 0 0 2) (ofBits binary64 4741671816366391297) asked ≡ 4
+unfolding tableTimes nodesIn row3 row4 row5 badNode badFloats strayNode lowest someBelow tableFloat billion ofBits ofInt round le lt eq at nodeAt
+late-departure = refl
+
+kind-three : answer (three o 3 0 3) o asked ≡ 4
+unfolding tableTimes nodesIn row3 row4 row5 badNode badFloats strayNode lowest someBelow tableFloat billion ofBits ofInt round le lt eq at nodeAt
+kind-three = refl
+
+-- 5: an index that is the number of nodes; 4 takes either sign
+index-three : answer (three (ofBits binary64 13830554455654793216) 3 0 2) o asked ≡ 5
+unfolding tableTimes nodesIn row3 row4 row5 badNode badFloats strayNode lowest someBelow tableFloat billion ofBits ofInt round le lt eq at nodeAt
+index-three = refl
