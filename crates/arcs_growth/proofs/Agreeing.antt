@@ -13,14 +13,14 @@ use Rattle.fields.proofs.Below.{some-same}
 use Rattle.net_node.specs.declared.LinkEvent.{LinkEvent}
 use Rattle.net_node.specs.declared.EstTime.{EstTime}
 use Rattle.net_node.specs.declared.TimedEvent.{TimedEvent}
-use Rattle.net_node.specs.Table.{sameEvent, Woven}
+use Rattle.net_node.specs.Table.{sameEvent, Indexed}
 use Rattle.net_insertion.specs.Insertion.{matches, found, seek}
 use Rattle.net_event_map.specs.EventMap.{seenIn, nodesFrom, eventNodes}
 use Rattle.net_strands.specs.declared.EstJoinPath.{EstJoinPath}
 use Rattle.net_strands.specs.Entries.{entry, andThen}
-use Rattle.net_strands.specs.Space.{isArrive, pushedIf, onward, alternatives, Strand, strandFrom, Turn, Whole, Over, More, stacked, turnAs, turn, goOn, strands, followed, extendedAs, extended, extendedAll}
-use Rattle.net_joins.specs.declared.Closest.{Closest}
-use Rattle.net_joins.specs.Joins.{closer, closerAs, closestOf, endedAs, chainEnd, appendedAll, appended, rebuilt}
+use Rattle.net_strands.specs.Space.{isArrive, pushedIf, onward, alternatives, Strand, strandFrom, Turn, Whole, Over, More, alternativeStacked, turnAs, turn, strandsOn, strands, followed, extendedAs, extended, extendedAll}
+use Rattle.net_joins.specs.declared.SpeedJoin.{SpeedJoin}
+use Rattle.net_joins.specs.Joins.{closer, closerAs, closestOf, chainEndAs, chainEnd, appendedAll, appended, rebuilt}
 use Rattle.arcs_growth.proofs.Invariant.{Listed}
 use Rattle.arcs_growth.proofs.Entries.{Right, RightTurn, turn-right, Given, GoodAll, extended-good}
 
@@ -28,7 +28,7 @@ use Rattle.arcs_growth.proofs.Entries.{Right, RightTurn, turn-right, Gi
 abbrev pub Agree : ℕ → (ℕ → EstTime) → (ℕ → EstTime) → Type 0
 Agree n node other = (i : ℕ) → i < n → other i ≡ node i
 
-module _ (node other : ℕ → EstTime) (n : ℕ) (ag : Agree n node other) (w : Woven node n) where
+module _ (node other : ℕ → EstTime) (n : ℕ) (ag : Agree n node other) (w : Indexed node n) where
   -- ---- insertion's search
 
   pub seek-same : (k : ℕ) (limit : Float) (e : TimedEvent) (i : ℕ) → i < n → seek k other limit e i ≡ seek k node limit e i
@@ -44,9 +44,9 @@ module _ (node other : ℕ → EstTime) (n : ℕ) (ag : Agree n node other) (w :
   pub chain-same : (k i : ℕ) → i < n → chainEnd k other i ≡ chainEnd k node i
   unfolding chainEnd
   chain-same zero i h = refl
-  chain-same (suc k) i h = ap (λ (x : EstTime). endedAs (x .«idx_prev_alt») i (chainEnd k other)) (ag i h) ∙ go (node i .«idx_prev_alt») (w .prev-alt i h) (chain-same k)
+  chain-same (suc k) i h = ap (λ (x : EstTime). chainEndAs (x .«idx_prev_alt») i (chainEnd k other)) (ag i h) ∙ go (node i .«idx_prev_alt») (w .prev-alt i h) (chain-same k)
     where
-      go : (a : ℕ) → a < n → ((j : ℕ) → j < n → chainEnd k other j ≡ chainEnd k node j) → endedAs a i (chainEnd k other) ≡ endedAs a i (chainEnd k node)
+      go : (a : ℕ) → a < n → ((j : ℕ) → j < n → chainEnd k other j ≡ chainEnd k node j) → chainEndAs a i (chainEnd k other) ≡ chainEndAs a i (chainEnd k node)
       go zero l ih = refl
       go (suc a) l ih = ih (suc a) l
 
@@ -69,7 +69,7 @@ module _ (node other : ℕ → EstTime) (n : ℕ) (ag : Agree n node other) (w :
 
   -- ---- the closest
 
-  pub closest-same : (speed : Float) (c : Closest) (es : List EstJoinPath) → Listed n es → closestOf other speed c es ≡ closestOf node speed c es
+  pub closest-same : (speed : Float) (c : SpeedJoin) (es : List EstJoinPath) → Listed n es → closestOf other speed c es ≡ closestOf node speed c es
   unfolding closestOf closer
   closest-same speed c [] l = refl
   closest-same speed c (x ∷ es) l =
@@ -100,15 +100,15 @@ module _ (node other : ℕ → EstTime) (n : ℕ) (ag : Agree n node other) (w :
     turn-same : (m : ℕ) (s : Strand) → s .here < n → turn other e m s ≡ turn node e m s
     unfolding turn
     turn-same m s h =
-        ap (λ (x : EstTime). turnAs (sameEvent (other (x .«idx_next») .«link_event») e) (isArrive (other (x .«idx_next») .«link_event» .«est_type») || eqb (other (x .«idx_next») .«idx_next») 0) m (x .«idx_next») (stacked (x .«idx_next_alt») (s .stack)) (s .entries)) (ag (s .here) h)
-        ∙ ap (λ (x : EstTime). turnAs (sameEvent (x .«link_event») e) (isArrive (x .«link_event» .«est_type») || eqb (x .«idx_next») 0) m (node (s .here) .«idx_next») (stacked (node (s .here) .«idx_next_alt») (s .stack)) (s .entries)) (ag (node (s .here) .«idx_next») (w .next (s .here) h))
+        ap (λ (x : EstTime). turnAs (sameEvent (other (x .«idx_next») .«link_event») e) (isArrive (other (x .«idx_next») .«link_event» .«est_type») || eqb (other (x .«idx_next») .«idx_next») 0) m (x .«idx_next») (alternativeStacked (x .«idx_next_alt») (s .stack)) (s .entries)) (ag (s .here) h)
+        ∙ ap (λ (x : EstTime). turnAs (sameEvent (x .«link_event») e) (isArrive (x .«link_event» .«est_type») || eqb (x .«idx_next») 0) m (node (s .here) .«idx_next») (alternativeStacked (node (s .here) .«idx_next_alt») (s .stack)) (s .entries)) (ag (node (s .here) .«idx_next») (w .next (s .here) h))
 
     strands-same : (k m : ℕ) (s : Strand) → Right node n e w s → strands k other e m s ≡ strands k node e m s
     unfolding strands
     strands-same zero m s r = refl
-    strands-same (suc k) m s r = ap (λ (t : Turn). goOn t (strands k other e m)) (turn-same m s (r .here)) ∙ go (turn node e m s) (turn-right node n e w m s r) (strands-same k m)
+    strands-same (suc k) m s r = ap (λ (t : Turn). strandsOn t (strands k other e m)) (turn-same m s (r .here)) ∙ go (turn node e m s) (turn-right node n e w m s r) (strands-same k m)
       where
-        go : (t : Turn) → RightTurn node n e w t → ((u : Strand) → Right node n e w u → strands k other e m u ≡ strands k node e m u) → goOn t (strands k other e m) ≡ goOn t (strands k node e m)
+        go : (t : Turn) → RightTurn node n e w t → ((u : Strand) → Right node n e w u → strands k other e m u ≡ strands k node e m u) → strandsOn t (strands k other e m) ≡ strandsOn t (strands k node e m)
         go (Whole es) d ih = refl
         go Over d ih = refl
         go (More u) d ih = ih u d

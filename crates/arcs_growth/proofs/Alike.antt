@@ -17,7 +17,7 @@ use Rattle.net_insertion.specs.Insertion.{Table, put, at, linkedTo, eventNode, 
 use Rattle.net_insertion.proofs.Seeking.{seek-turn}
 use Rattle.net_insertion.proofs.Puts.{RoomIn, put-room, add-room, split-room}
 use Rattle.net_joins.specs.Joins.{joinedBy, joinFake, joinAt}
-use Rattle.grow_rules.specs.Run.{Net, Run, After, addedTo, movedTo, memberOf, insertedAs, insertEvent}
+use Rattle.grow_rules.specs.Run.{Net, Run, After, addedTo, movedTo, memberOf, insertedRun, insertEvent}
 use Rattle.arcs_growth.proofs.Answers.{Both, both-refused}
 use Rattle.arcs_growth.proofs.Labels.{Labels}
 use Rattle.arcs_growth.proofs.Seeks.{search-reaches}
@@ -87,19 +87,19 @@ module _ {L : Labels} {places : ℕ} {net : Net} (others : ℕ) (g : Grows L pla
   ends = memberOf (net .ends)
 
   behind : (i : ℕ) → i < n → (a b c : Bool) → ltb n places ≡ a → ltb n others ≡ b
-      → Both (AlikeAfter others) (insertedAs net run e (addBehind t i n e) (addedAs a c (Added (placeAt n e) false))) (insertedAs (withTable net u) run e (addBehind u i n e) (addedAs b c (Added (placeAt n e) false)))
+      → Both (AlikeAfter others) (insertedRun net run e (addBehind t i n e) (addedAs a c (Added (placeAt n e) false))) (insertedRun (withTable net u) run e (addBehind u i n e) (addedAs b c (Added (placeAt n e) false)))
   unfolding addedTo movedTo placeAt
   behind i h false b c p q = tt
-  behind i h true false c p q = both-refused (AlikeAfter others) (insertedAs net run e (addBehind t i n e) (addedAs true c (Added (placeAt n e) false))) 12
+  behind i h true false c p q = both-refused (AlikeAfter others) (insertedRun net run e (addBehind t i n e) (addedAs true c (Added (placeAt n e) false))) 12
   behind i h true true true p q = tt
   behind i h true true false p q = (record { table = addBehind u i n e; is = refl; agree = add-agree t u places others n (g .body .room) room ag (ltb-true n places p) (ltb-true n others q) i e h; room = add-room u i n e others room }, refl)
 
   divided : (i : ℕ) → i < n → (a b : Bool) → ltb (n + 1) places ≡ a → ltb (n + 1) others ≡ b
-      → Both (AlikeAfter others) (insertedAs net run e (addBehind (splitAt t i n (run .place)) n (n + 1) e) (addedAs a false (Added (placeAt (n + 1) e) true)))
-      (insertedAs (withTable net u) run e (addBehind (splitAt u i n (run .place)) n (n + 1) e) (addedAs b false (Added (placeAt (n + 1) e) true)))
+      → Both (AlikeAfter others) (insertedRun net run e (addBehind (splitAt t i n (run .place)) n (n + 1) e) (addedAs a false (Added (placeAt (n + 1) e) true)))
+      (insertedRun (withTable net u) run e (addBehind (splitAt u i n (run .place)) n (n + 1) e) (addedAs b false (Added (placeAt (n + 1) e) true)))
   unfolding addedTo movedTo placeAt
   divided i h false b p q = tt
-  divided i h true false p q = both-refused (AlikeAfter others) (insertedAs net run e (addBehind (splitAt t i n (run .place)) n (n + 1) e) (addedAs true false (Added (placeAt (n + 1) e) true))) 12
+  divided i h true false p q = both-refused (AlikeAfter others) (insertedRun net run e (addBehind (splitAt t i n (run .place)) n (n + 1) e) (addedAs true false (Added (placeAt (n + 1) e) true))) 12
   divided i h true true p q =
       let k = ltb-true (n + 1) places p in
       let l = ltb-true (n + 1) others q in
@@ -118,10 +118,10 @@ module _ {L : Labels} {places : ℕ} {net : Net} (others : ℕ) (g : Grows L pla
   pub insert-alike : Both (AlikeAfter others) (insertEvent places limit net run e) (insertEvent others limit (withTable net u) run e)
   unfolding insertEvent inserted insertedTable soughtIn
   insert-alike =
-      subst (λ s. Both (AlikeAfter others) (insertedAs net run e (tableAs (seek n (at t) limit e p) t n (run .place) e) (Insertion.insertedAs (seek n (at t) limit e p) n places ends e))
-      (insertedAs (withTable net u) run e (tableAs s u n (run .place) e) (Insertion.insertedAs s n others ends e))) (sym (seek-same (at t) (at u) n ag (g .body .woven) n limit e p (s .within)))
+      subst (λ s. Both (AlikeAfter others) (insertedRun net run e (tableAs (seek n (at t) limit e p) t n (run .place) e) (Insertion.insertedRun (seek n (at t) limit e p) n places ends e))
+      (insertedRun (withTable net u) run e (tableAs s u n (run .place) e) (Insertion.insertedRun s n others ends e))) (sym (seek-same (at t) (at u) n ag (g .body .indexed) n limit e p (s .within)))
       (search-reaches (λ (k i : ℕ). seek k (at t) limit e i) found
-      (λ s. Both (AlikeAfter others) (insertedAs net run e (tableAs s t n (run .place) e) (Insertion.insertedAs s n places ends e)) (insertedAs (withTable net u) run e (tableAs s u n (run .place) e) (Insertion.insertedAs s n others ends e)))
+      (λ s. Both (AlikeAfter others) (insertedRun net run e (tableAs s t n (run .place) e) (Insertion.insertedRun s n places ends e)) (insertedRun (withTable net u) run e (tableAs s u n (run .place) e) (Insertion.insertedRun s n others ends e)))
       (g .body .graph .laid) limit e p
       (λ k i. seek-turn k (at t) limit e i)
       (λ i b c later r q. behind i (r .within) (ltb n places) (ltb n others) (ends i) refl refl)

@@ -14,12 +14,12 @@ use Rattle.net_insertion.specs.Insertion.{Table, at}
 use Rattle.net_insertion.proofs.Puts.{RoomIn}
 use Rattle.grow_path.specs.Path.{linkOf, legCourse, legEvents}
 use Rattle.grow_rules.specs.Run.{given, andThen, Net, Run, After, memberOf, insertEvent, Outcome, Ended, On, runEvents}
-use Rattle.grow_rules.specs.Growth.{Growth, joinGap, originRun, takes, seekLeg, saves, originAt, originsOf, badFinish, finishedAt, finishAs, waiting, onOver, fitsIn, saveOver, onAs, goOn, finishes, endedAs, legDone, legAs, takeLeg, drive}
+use Rattle.grow_rules.specs.Growth.{Growth, joinGap, originRun, takes, seekLeg, saves, growOrigin, growOrigins, badFinish, finishedAt, finishAs, waiting, onOver, fitsIn, saveOver, onAs, goOn, finishes, legEndAs, legDone, legAs, takeLeg, drive}
 use Rattle.arcs_growth.specs.Read.{Read}
 use Rattle.arcs_growth.proofs.Answers.{Both, both-then, both-with, All}
 use Rattle.arcs_growth.proofs.Insertions.{Inserts}
 use Rattle.arcs_growth.proofs.Paths.{events-real}
-use Rattle.arcs_growth.proofs.Faring.{Driven, Running}
+use Rattle.arcs_growth.proofs.AtEvents.{Driven, Running}
 use Rattle.arcs_growth.proofs.Running.{Came, events-run}
 use Rattle.arcs_growth.proofs.Driving.{LegIn, Turned, takes-leg}
 use Rattle.arcs_growth.proofs.Books.{Other, Apart}
@@ -58,8 +58,8 @@ module _ (b : List ℕ) (places others : ℕ) (net : Net) (run : Run) (u : Table
   unfolding onOver seekLeg
   over-alike link saved = go (legBelow b (legs b) (run .leg) link)
     where
-      go : (j : ℕ) → Both (AlikeGrowth others) (andThen (takes run j) (λ (r : Run). given (record { net = net; saved = record { place = r .place; leg = r .leg; added = run .added; joins = r .joins } ∷ saved })))
-          (andThen (takes run j) (λ (r : Run). given (record { net = other; saved = record { place = r .place; leg = r .leg; added = run .added; joins = r .joins } ∷ saved })))
+      go : (j : ℕ) → Both (AlikeGrowth others) (andThen (takes run j) (λ (r : Run). given (record { net = net; saved = record { place = r .place; leg = r .leg; «has_split» = run .«has_split»; joins = r .joins } ∷ saved })))
+          (andThen (takes run j) (λ (r : Run). given (record { net = other; saved = record { place = r .place; leg = r .leg; «has_split» = run .«has_split»; joins = r .joins } ∷ saved })))
       go zero = tt
       go (suc i) = (here, refl)
 
@@ -75,7 +75,7 @@ module _ (b : List ℕ) (places others : ℕ) (net : Net) (run : Run) (u : Table
       go : (j : ℕ) → Both (λ (x y : List Run). y ≡ x) (andThen (takes run j) (λ (r : Run). fitsIn (ltb places (waiting (r ∷ saved))) (r ∷ saved))) (andThen (takes run j) (λ (r : Run). fitsIn (ltb others (waiting (r ∷ saved))) (r ∷ saved)))
       go zero = tt
       go (suc i) =
-          let r : Run = record { place = run .place; leg = suc i; added = false; joins = run .joins } in
+          let r : Run = record { place = run .place; leg = suc i; «has_split» = false; joins = run .joins } in
           fits (ltb places (waiting (r ∷ saved))) (ltb others (waiting (r ∷ saved))) (r ∷ saved)
 
   on-alike : (saved : List Run) → Both (AlikeGrowth others) (goOn b places net run saved) (goOn b others other run saved)
@@ -104,11 +104,11 @@ leg-done-alike b places others saved leg (Ended net) (Ended other) d h = (h, ref
 leg-done-alike b places others saved leg (Ended net) (On c) d h = absurd h
 leg-done-alike b places others saved leg (On a) (Ended other) d h = absurd h
 leg-done-alike b places others saved leg (On a) (On c) d h =
-    after-is a c h (λ (z : After). Both (AlikeGrowth others) (endedAs (finishes b (a .run .leg)) b places a saved) (endedAs (finishes b (z .run .leg)) b others z saved))
+    after-is a c h (λ (z : After). Both (AlikeGrowth others) (legEndAs (finishes b (a .run .leg)) b places a saved) (legEndAs (finishes b (z .run .leg)) b others z saved))
     (λ u ag room. go u ag room (finishes b (a .run .leg)))
   where
     go : (u : Table) → Agree (a .net .nodes) (at (a .net .table)) (at u) → RoomIn u others → (t : Bool)
-        → Both (AlikeGrowth others) (endedAs t b places a saved) (endedAs t b others (record { net = withTable (a .net) u; run = a .run }) saved)
+        → Both (AlikeGrowth others) (legEndAs t b places a saved) (legEndAs t b others (record { net = withTable (a .net) u; run = a .run }) saved)
     go u ag room true = finish-alike b places others (a .net) (a .run) u ag room saved (omega (arith, d .0 .grows .body .graph .laid .two))
     go u ag room false = on-alike b places others (a .net) (a .run) u ag room saved
 
@@ -118,7 +118,7 @@ unfolding takeLeg
 take-alike {b} {places} others net run saved d u ag room = go (row11 (legCourse b (run .leg)))
   where
     running : Running b places net run saved (legEvents b (run .leg))
-    running = record { labels = d .labels; grows = d .grows; waits = d .waits; fares = d .fares .0; others = d .fares .1; notes = d .notes }
+    running = record { labels = d .labels; grows = d .grows; waits = d .waits; at-event = d .at-event .0; others = d .at-event .1; notes = d .notes }
 
     go : (t : Bool) → Both (AlikeGrowth others) (legAs t b places net run saved) (legAs t b others (withTable net u) run saved)
     go true = tt
@@ -145,18 +145,18 @@ drive-alike {b} r {places} others (suc k) net (run ∷ saved) d ls u ag room =
 
 -- ---- the origins
 
-origin-alike : {b : List ℕ} → Read b → (places others : ℕ) (row : ℕ) → memberOf (keptOrigins b) row ≡ true → (g : Growth) → Rooted b places g → (rows : List ℕ) → Unused b (g .saved) (row ∷ rows) → Other b row rows
+origin-alike : {b : List ℕ} → Read b → (places others : ℕ) (idx : ℕ) → memberOf (keptOrigins b) idx ≡ true → (g : Growth) → Rooted b places g → (idxs : List ℕ) → Unused b (g .saved) (idx ∷ idxs) → Other b idx idxs
     → (u : Table) → Agree (g .net .nodes) (at (g .net .table)) (at u) → RoomIn u others
-    → Both (AlikeGrowth others) (originAt b places (originLink b row) g) (originAt b others (originLink b row) (record { net = withTable (g .net) u; saved = g .saved }))
-unfolding originAt seekLeg
-origin-alike {b} r places others row kept g d rows unused other u ag room =
+    → Both (AlikeGrowth others) (growOrigin b places (originLink b idx) g) (growOrigin b others (originLink b idx) (record { net = withTable (g .net) u; saved = g .saved }))
+unfolding growOrigin seekLeg
+origin-alike {b} r places others idx kept g d idxs unused other u ag room =
     both-then (λ (a c : After). Inserts (d .labels) places (g .net) (originRun b) (g .saved) (arrive b link) a × AlikeAfter others a c) (AlikeGrowth others)
     (insertEvent places (joinGap b) (g .net) (originRun b) (arrive b link)) (insertEvent others (joinGap b) (withTable (g .net) u) (originRun b) (arrive b link))
     (λ (a : After). andThen (insertEvent places (joinGap b) (a .net) (a .run) (clear b link)) (λ (c : After). andThen (seekLeg b (c .run) 0 link) (λ (run : Run). given (saves g (c .net) run))))
     (λ (a : After). andThen (insertEvent others (joinGap b) (a .net) (a .run) (clear b link)) (λ (c : After). andThen (seekLeg b (c .run) 0 link) (λ (run : Run). given (saves h (c .net) run))))
     (both-with (Inserts (d .labels) places (g .net) (originRun b) (g .saved) (arrive b link)) (AlikeAfter others)
     (insertEvent places (joinGap b) (g .net) (originRun b) (arrive b link)) (insertEvent others (joinGap b) (withTable (g .net) u) (originRun b) (arrive b link))
-    (arrive-keeps r places row kept g d rows unused other) (insert-alike others (d .grows) (originRun b) (d .waits .stand .0) u ag room (joinGap b) (arrive b link)))
+    (arrive-keeps r places idx kept g d idxs unused other) (insert-alike others (d .grows) (originRun b) (d .waits .stand .0) u ag room (joinGap b) (arrive b link)))
     (λ a c q. after-is a c (q .1)
     (λ (z : After). Both (AlikeGrowth others) (andThen (insertEvent places (joinGap b) (a .net) (a .run) (clear b link)) (λ (x : After). andThen (seekLeg b (x .run) 0 link) (λ (run : Run). given (saves g (x .net) run))))
     (andThen (insertEvent others (joinGap b) (z .net) (z .run) (clear b link)) (λ (x : After). andThen (seekLeg b (x .run) 0 link) (λ (run : Run). given (saves h (x .net) run)))))
@@ -167,7 +167,7 @@ origin-alike {b} r places others row kept g d rows unused other u ag room =
     (λ w f k. last m w f k (legBelow b (legs b) 0 link)))))
   where
     link : ℕ
-    link = originLink b row
+    link = originLink b idx
 
     h : Growth
     h = record { net = withTable (g .net) u; saved = g .saved }
@@ -178,18 +178,18 @@ origin-alike {b} r places others row kept g d rows unused other u ag room =
     last m w f k (suc i) = (record { table = w; is = refl; agree = f; room = k }, refl)
 
 -- the start needs no next yet
-pub record RootedFor (b : List ℕ) (places : ℕ) (rows : List ℕ) (g : Growth) : Type 0 where
+pub record RootedFor (b : List ℕ) (places : ℕ) (idxs : List ℕ) (g : Growth) : Type 0 where
   pub rooted : Rooted b places g
-  pub unused : Unused b (g .saved) rows
+  pub unused : Unused b (g .saved) idxs
 
-pub origins-alike : {b : List ℕ} → Read b → (places others : ℕ) (rows : List ℕ) (g : Growth) → RootedFor b places rows g → Apart b rows → KeptAll b rows → (u : Table) → Agree (g .net .nodes) (at (g .net .table)) (at u) → RoomIn u others
-    → Both (AlikeGrowth others) (originsOf b places rows g) (originsOf b others rows (record { net = withTable (g .net) u; saved = g .saved }))
-unfolding originsOf
+pub origins-alike : {b : List ℕ} → Read b → (places others : ℕ) (idxs : List ℕ) (g : Growth) → RootedFor b places idxs g → Apart b idxs → KeptAll b idxs → (u : Table) → Agree (g .net .nodes) (at (g .net .table)) (at u) → RoomIn u others
+    → Both (AlikeGrowth others) (growOrigins b places idxs g) (growOrigins b others idxs (record { net = withTable (g .net) u; saved = g .saved }))
+unfolding growOrigins
 origins-alike r places others [] g d a k u ag room = (record { table = u; is = refl; agree = ag; room = room }, refl)
-origins-alike {b} r places others (row ∷ rows) g d a k u ag room =
-    both-then (λ (x y : Growth). RootedWith b places rows x × AlikeGrowth others x y) (AlikeGrowth others)
-    (originAt b places (originLink b row) g) (originAt b others (originLink b row) (record { net = withTable (g .net) u; saved = g .saved })) (originsOf b places rows) (originsOf b others rows)
-    (both-with (RootedWith b places rows) (AlikeGrowth others) (originAt b places (originLink b row) g) (originAt b others (originLink b row) (record { net = withTable (g .net) u; saved = g .saved }))
-    (origin-keeps r places row (k .0) g (d .rooted) rows (d .unused) (a .0)) (origin-alike r places others row (k .0) g (d .rooted) rows (d .unused) (a .0) u ag room))
-    (λ x y q. growth-is x y (q .1) (λ (z : Growth). Both (AlikeGrowth others) (originsOf b places rows x) (originsOf b others rows z))
-    (λ v f l. origins-alike r places others rows x (record { rooted = q .0 .rooted; unused = q .0 .unused }) (a .1) (k .1) v f l))
+origins-alike {b} r places others (idx ∷ idxs) g d a k u ag room =
+    both-then (λ (x y : Growth). RootedWith b places idxs x × AlikeGrowth others x y) (AlikeGrowth others)
+    (growOrigin b places (originLink b idx) g) (growOrigin b others (originLink b idx) (record { net = withTable (g .net) u; saved = g .saved })) (growOrigins b places idxs) (growOrigins b others idxs)
+    (both-with (RootedWith b places idxs) (AlikeGrowth others) (growOrigin b places (originLink b idx) g) (growOrigin b others (originLink b idx) (record { net = withTable (g .net) u; saved = g .saved }))
+    (origin-keeps r places idx (k .0) g (d .rooted) idxs (d .unused) (a .0)) (origin-alike r places others idx (k .0) g (d .rooted) idxs (d .unused) (a .0) u ag room))
+    (λ x y q. growth-is x y (q .1) (λ (z : Growth). Both (AlikeGrowth others) (growOrigins b places idxs x) (growOrigins b others idxs z))
+    (λ v f l. origins-alike r places others idxs x (record { rooted = q .0 .rooted; unused = q .0 .unused }) (a .1) (k .1) v f l))

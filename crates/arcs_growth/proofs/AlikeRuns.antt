@@ -9,20 +9,20 @@ use lib.Dec.{ltb}
 use lib.Ieee.{Float, lt}
 use Rattle.net_node.specs.declared.EstTime.{EstTime}
 use Rattle.net_node.specs.declared.TimedEvent.{TimedEvent}
-use Rattle.net_node.specs.Table.{Woven}
+use Rattle.net_node.specs.Table.{Indexed}
 use Rattle.net_insertion.specs.Insertion.{Table, at}
 use Rattle.net_insertion.proofs.Puts.{RoomIn}
 use Rattle.net_strands.specs.declared.EstJoinPath.{EstJoinPath}
-use Rattle.net_joins.specs.declared.Closest.{Closest}
+use Rattle.net_joins.specs.declared.SpeedJoin.{SpeedJoin}
 use Rattle.net_joins.specs.Joins as Joins
-use Rattle.net_joins.specs.Joins.{endedAs, chainEnd, joinAt, joinedTable, closest, closestOf, appended, rebuilt, chosenAs, chosen, joinStep}
-use Rattle.grow_rules.specs.Run.{Answer, refused, given, Net, Run, After, insertEvent, joinedTo, Outcome, Ended, On, goesOn, listed, joinedAs, eventAs, runEvent, nextEvent, runEvents}
+use Rattle.net_joins.specs.Joins.{chainEndAs, chainEnd, joinAt, joinedTable, closest, closestOf, appended, rebuilt, chosenAs, chosen, joinStep}
+use Rattle.grow_rules.specs.Run.{Answer, refused, given, Net, Run, After, insertEvent, joinedTo, Outcome, Ended, On, goesOn, withJoins, joinedAs, eventAs, runEvent, nextEvent, runEvents}
 use Rattle.arcs_growth.proofs.Answers.{Both, both-then, both-with, All, all-so}
 use Rattle.arcs_growth.proofs.Labels.{Labels}
 use Rattle.arcs_growth.proofs.Invariant.{Grows, Listed, Stands}
 use Rattle.arcs_growth.proofs.Entries.{Stepped, step-right, Given, Good, GoodAll, rebuilt-good}
 use Rattle.arcs_growth.proofs.Paths.{Real}
-use Rattle.arcs_growth.proofs.Faring.{Running}
+use Rattle.arcs_growth.proofs.AtEvents.{Running}
 use Rattle.arcs_growth.proofs.Running.{Came, event-runs}
 use Rattle.arcs_growth.proofs.Agreeing.{Agree, chain-same, appended-same, closest-same, rebuilt-same}
 use Rattle.arcs_growth.proofs.Alike.{withTable, Alike, AlikeAfter, join-agree, insert-alike}
@@ -33,12 +33,12 @@ AlikeOutcome others (Ended net) (On c) = ⊥
 AlikeOutcome others (On a) (Ended other) = ⊥
 AlikeOutcome others (On a) (On c) = AlikeAfter others a c
 
-chain-within : {node : ℕ → EstTime} {n : ℕ} → Woven node n → (k i : ℕ) → i < n → chainEnd k node i < n
+chain-within : {node : ℕ → EstTime} {n : ℕ} → Indexed node n → (k i : ℕ) → i < n → chainEnd k node i < n
 unfolding chainEnd
 chain-within w zero i h = h
 chain-within {node} {n} w (suc k) i h = go (node i .«idx_prev_alt») (w .prev-alt i h) (chain-within w k)
   where
-    go : (a : ℕ) → a < n → ((j : ℕ) → j < n → chainEnd k node j < n) → endedAs a i (chainEnd k node) < n
+    go : (a : ℕ) → a < n → ((j : ℕ) → j < n → chainEnd k node j < n) → chainEndAs a i (chainEnd k node) < n
     go zero l ih = h
     go (suc a) l ih = ih (suc a) l
 
@@ -58,8 +58,8 @@ module _ {L : Labels} {places : ℕ} {net : Net} (others : ℕ) (g : Grows L pla
   unfolding joinedTo joinedTable
   join-alike target h p q =
       let c : ℕ = chainEnd n (at t) target in
-      let same : chainEnd n (at u) target ≡ c = chain-same (at t) (at u) n ag (g .body .woven) n target h in
-      let a = join-agree t u places others n (g .body .room) room ag p q c e (chain-within (g .body .woven) n target h) in
+      let same : chainEnd n (at u) target ≡ c = chain-same (at t) (at u) n ag (g .body .indexed) n target h in
+      let a = join-agree t u places others n (g .body .room) room ag p q c e (chain-within (g .body .indexed) n target h) in
       record {
         table = joinAt u n (chainEnd n (at u) target) e;
         is = refl;
@@ -67,9 +67,9 @@ module _ {L : Labels} {places : ℕ} {net : Net} (others : ℕ) (g : Grows L pla
         room = subst (λ (k : ℕ). RoomIn (joinAt u n k e) others) (sym same) (a .0);
       }
 
-  relisted : (es : List EstJoinPath) → Listed n es → Stands L net (listed run es)
-  unfolding listed
-  relisted es l = record { within = s .within; self = s .self; holds = s .holds; listed = l }
+  relisted : (es : List EstJoinPath) → Listed n es → Stands L net (withJoins run es)
+  unfolding withJoins
+  relisted es l = record { within = s .within; self = s .self; holds = s .holds; withJoins = l }
 
   -- by what is chosen, which is the same for both but for the room
   chosen-alike : (a r q : Bool) (target : ℕ) (list : Option (List EstJoinPath)) → ltb n others ≡ q → Stepped (at t) n places (e .«link_event») (chosenAs a r target list)
@@ -79,31 +79,31 @@ module _ {L : Labels} {places : ℕ} {net : Net} (others : ℕ) (g : Grows L pla
   chosen-alike true false q target list p h = tt
   chosen-alike false r q target none p h = tt
   chosen-alike false r q target (some es) p h =
-      goes-alike others (insertEvent places limit net (listed run es) e) (insertEvent others limit (withTable net u) (listed run es) e) (insert-alike others g (listed run es) (relisted es h) u ag room limit e)
+      goes-alike others (insertEvent places limit net (withJoins run es) e) (insertEvent others limit (withTable net u) (withJoins run es) e) (insert-alike others g (withJoins run es) (relisted es h) u ag room limit e)
 
   step-alike : Both (AlikeOutcome others) (joinedAs places limit net run e (joinStep (at t) n places limit e (run .joins))) (joinedAs others limit (withTable net u) run e (joinStep (at u) n others limit e (run .joins)))
   unfolding joinStep closest
   step-alike =
       subst (λ (x : Option (List EstJoinPath)). Both (AlikeOutcome others) (joinedAs places limit net run e (chosen (at t) n places limit e (rebuilt (at t) n (e .«link_event») (run .joins)))) (joinedAs others limit (withTable net u) run e (chosen (at u) n others limit e x)))
-      (sym (rebuilt-same (at t) (at u) n ag (g .body .woven) (e .«link_event») (run .joins) (s .listed)))
-      (go (rebuilt (at t) n (e .«link_event») (run .joins)) (rebuilt-good (at t) n (e .«link_event») (g .body .woven) (run .joins) (s .listed)) (step-right (at t) n places limit e (run .joins) (g .body .woven) (s .listed)))
+      (sym (rebuilt-same (at t) (at u) n ag (g .body .indexed) (e .«link_event») (run .joins) (s .withJoins)))
+      (go (rebuilt (at t) n (e .«link_event») (run .joins)) (rebuilt-good (at t) n (e .«link_event») (g .body .indexed) (run .joins) (s .withJoins)) (step-right (at t) n places limit e (run .joins) (g .body .indexed) (s .withJoins)))
     where
       go : (x : Option (List EstJoinPath)) → Given (GoodAll (at t) n (e .«link_event»)) x → Stepped (at t) n places (e .«link_event») (chosen (at t) n places limit e x)
           → Both (AlikeOutcome others) (joinedAs places limit net run e (chosen (at t) n places limit e x)) (joinedAs others limit (withTable net u) run e (chosen (at u) n others limit e x))
       go none h k = tt
       go (some es) h k =
-          let c : Closest = record { gap = limit; node = 0 } in
+          let c : SpeedJoin = record { gap = limit; node = 0 } in
           let l : Listed n es = all-so (Good (at t) n (e .«link_event»)) (λ (x : EstJoinPath). x .«est_idx_next» < n) (λ x o. o .0) es h in
-          subst (λ (z : Closest). Both (AlikeOutcome others) (joinedAs places limit net run e (chosen (at t) n places limit e (some es))) (joinedAs others limit (withTable net u) run e (chosenAs (lt (z .gap) limit) (ltb n others) (z .node) (appended (at u) n (e .«link_event») es))))
-          (sym (closest-same (at t) (at u) n ag (g .body .woven) (e .speed) c es l))
+          subst (λ (z : SpeedJoin). Both (AlikeOutcome others) (joinedAs places limit net run e (chosen (at t) n places limit e (some es))) (joinedAs others limit (withTable net u) run e (chosenAs (lt (z .gap) limit) (ltb n others) (z .node) (appended (at u) n (e .«link_event») es))))
+          (sym (closest-same (at t) (at u) n ag (g .body .indexed) (e .speed) c es l))
           (subst (λ (z : Option (List EstJoinPath)). Both (AlikeOutcome others) (joinedAs places limit net run e (chosen (at t) n places limit e (some es)))
           (joinedAs others limit (withTable net u) run e (chosenAs (lt (closestOf (at t) (e .speed) c es .gap) limit) (ltb n others) (closestOf (at t) (e .speed) c es .node) z)))
-          (sym (appended-same (at t) (at u) n ag (g .body .woven) (e .«link_event») es))
+          (sym (appended-same (at t) (at u) n ag (g .body .indexed) (e .«link_event») es))
           (chosen-alike (lt (closestOf (at t) (e .speed) c es .gap) limit) (ltb n places) (ltb n others) (closestOf (at t) (e .speed) c es .node) (appended (at t) n (e .«link_event») es) refl k))
 
   event-alike : Both (AlikeOutcome others) (runEvent places limit net run e) (runEvent others limit (withTable net u) run e)
   unfolding runEvent
-  event-alike = go (run .added)
+  event-alike = go (run .«has_split»)
     where
       go : (a : Bool) → Both (AlikeOutcome others) (eventAs a places limit net run e) (eventAs a others limit (withTable net u) run e)
       go true = step-alike

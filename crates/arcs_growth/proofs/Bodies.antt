@@ -9,15 +9,15 @@ use native.Mathlib.Omega.{arith}
 use lib.Ieee.{binary64, sub}
 use Rattle.net_node.specs.declared.EstTime.{EstTime}
 use Rattle.net_node.specs.declared.TimedEvent.{TimedEvent}
-use Rattle.net_node.specs.Table.{Woven, blank, noLink}
+use Rattle.net_node.specs.Table.{Indexed, blank, noLinkEvent}
 use Rattle.net_insertion.specs.declared.Place.{Place}
 use Rattle.net_insertion.specs.Insertion.{Table, at, linkedTo, eventNode, splitFake, alternating, addBehind, splitAt}
-use Rattle.net_insertion.proofs.Puts.{RoomIn, add-found, add-new, add-woven, add-other, add-room, split-found, split-new, split-woven, split-other, split-room}
+use Rattle.net_insertion.proofs.Puts.{RoomIn, add-found, add-new, add-indexed, add-other, add-room, split-found, split-new, split-indexed, split-other, split-room}
 use Rattle.grow_rules.specs.Run.{Arc, memberOf}
 use Rattle.arcs_growth.specs.Arcs.{isFake, fakeKind}
 use Rattle.arcs_growth.proofs.Answers.{clash, below, either}
 use Rattle.arcs_growth.proofs.Labels.{Role, nought, start, event, split, join, stop, baseRole, lands, itself, Labels, Extends, labelled, labelled-old, new-role, new-goal}
-use Rattle.arcs_growth.proofs.News.{Attached, Alternated, NoStops, apart}
+use Rattle.arcs_growth.proofs.NewNodes.{Attached, Alternated, NoStops, apart}
 use Rattle.arcs_growth.proofs.Weights.{arcThere}
 use Rattle.arcs_growth.proofs.Graphs.{Graph, Timed, event-graph, split-graph}
 
@@ -33,7 +33,7 @@ pub record EndAt (L : Labels) (node : ℕ → EstTime) (n i : ℕ) : Type 0 wher
 
 pub record Body (L : Labels) (places : ℕ) (t : Table) (n : ℕ) (ends : List ℕ) (arcs : List Arc) (k : ℕ) : Type 0 where
   pub room : RoomIn t places
-  pub woven : Woven (at t) n
+  pub indexed : Indexed (at t) n
   pub graph : Graph L (at t) n ends arcs k
   pub no-stops : NoStops L n
   pub chains : Chains L (at t) n
@@ -63,10 +63,10 @@ module _ {L : Labels} {places : ℕ} {t : Table} {n : ℕ} {ends : List ℕ} {ar
   after = at (addBehind t i n e)
 
   found : after i ≡ linkedTo (at t i) n e
-  found = add-found t i n places (v .room) (v .woven) h g e
+  found = add-found t i n places (v .room) (v .indexed) h g e
 
   added : after n ≡ eventNode e i
-  added = add-new t i n places (v .room) (v .woven) h g e
+  added = add-new t i n places (v .room) (v .indexed) h g e
 
   other : (j : ℕ) → j < n → (j ≡ i → ⊥) → after j ≡ at t j
   other j l d = add-other t i n e j d (λ (q : j ≡ n). omega arith)
@@ -114,7 +114,7 @@ module _ {L : Labels} {places : ℕ} {t : Table} {n : ℕ} {ends : List ℕ} {ar
   unfolding linkedTo eventNode arcThere
   event-body base empty out real arc from to time distance = record {
     room = add-room t i n e places (v .room);
-    woven = subst (Woven after) (add-one n) (add-woven t i n places (v .room) (v .woven) h g e);
+    indexed = subst (Indexed after) (add-one n) (add-indexed t i n places (v .room) (v .indexed) h g e);
     graph = event-graph (v .graph) add-attached add-timed base empty (λ c q r. absurd (fresh c q r)) (v .no-stops) out (new-end v n (omega arith)) (ap (λ (x : EstTime). isFake x) added ∙ real) add-empty arc same;
     no-stops = λ j l q. stops j q (below j n l);
     chains = λ j a l p q r. chain j a p q r (below j n l);
@@ -149,7 +149,7 @@ module _ {L : Labels} {places : ℕ} {t : Table} {n : ℕ} {ends : List ℕ} {ar
       chain : (j a : ℕ) → after j .«idx_prev_alt» ≡ a → 0 < a → lands (M .role j) ≡ true → (j < n) ⊎ (j ≡ n) → (lands (M .role a) ≡ true) × (M .goal a ≡ M .goal j)
       chain j a p q r (inl l) =
           let o : at t j .«idx_prev_alt» ≡ a = sym (column (λ (x : EstTime). x .«idx_prev_alt») refl j l) ∙ p in
-          let w : a < n = subst (λ (m : ℕ). m < n) o (v .woven .prev-alt j l) in
+          let w : a < n = subst (λ (m : ℕ). m < n) o (v .indexed .prev-alt j l) in
           let c = v .chains j a l o q (ap lands (sym (x .role j l)) ∙ r) in
           (ap lands (x .role a w) ∙ c .0, x .goal a w ∙ c .1 ∙ sym (x .goal j l))
       chain j a p q r (inr s) =
@@ -168,10 +168,10 @@ module _ {L : Labels} {places : ℕ} {t : Table} {n : ℕ} {ends : List ℕ} {ar
   half = at (splitAt t i n p)
 
   divided : half i ≡ alternating (at t i) n
-  divided = split-found t i n places (v .room) (v .woven) h g p
+  divided = split-found t i n places (v .room) (v .indexed) h g p
 
   fake : half n ≡ splitFake p i
-  fake = split-new t i n places (v .room) (v .woven) h g p
+  fake = split-new t i n places (v .room) (v .indexed) h g p
 
   beside : (j : ℕ) → j < n → (j ≡ i → ⊥) → half j ≡ at t j
   beside j l d = split-other t i n p j d (λ (q : j ≡ n). omega arith)
@@ -192,10 +192,10 @@ module _ {L : Labels} {places : ℕ} {t : Table} {n : ℕ} {ends : List ℕ} {ar
   split-held = (ap (λ (x : EstTime). x .«time_to_next») fake, ap (λ (x : EstTime). x .«dist_to_next») fake)
 
   pub split-body : baseRole (L .role i) ≡ true → at t i .«idx_next_alt» ≡ 0 → Body (labelled L n split (L .owner i) 0 0) places (splitAt t i n p) (suc n) ends arcs (k + 1)
-  unfolding alternating splitFake blank noLink
+  unfolding alternating splitFake blank noLinkEvent
   split-body base empty = record {
     room = split-room t i n p places (v .room);
-    woven = subst (Woven half) (add-one n) (split-woven t i n places (v .room) (v .woven) h g p);
+    indexed = subst (Indexed half) (add-one n) (split-indexed t i n places (v .room) (v .indexed) h g p);
     graph = split-graph (v .graph) alternated (split-column (λ (x : EstTime). x .«time_to_next») refl) (split-column (λ (x : EstTime). x .«dist_to_next») refl) base empty (v .no-stops)
         (ap (λ (x : EstTime). isFake x) fake) (new-end v n (omega arith));
     no-stops = λ j l q. stops j q (below j n l);
@@ -232,7 +232,7 @@ module _ {L : Labels} {places : ℕ} {t : Table} {n : ℕ} {ends : List ℕ} {ar
       chain : (j a : ℕ) → half j .«idx_prev_alt» ≡ a → 0 < a → lands (M .role j) ≡ true → (j < n) ⊎ (j ≡ n) → (lands (M .role a) ≡ true) × (M .goal a ≡ M .goal j)
       chain j a q r s (inl l) =
           let o : at t j .«idx_prev_alt» ≡ a = sym (split-column (λ (x : EstTime). x .«idx_prev_alt») refl j l) ∙ q in
-          let w : a < n = subst (λ (m : ℕ). m < n) o (v .woven .prev-alt j l) in
+          let w : a < n = subst (λ (m : ℕ). m < n) o (v .indexed .prev-alt j l) in
           let c = v .chains j a l o r (ap lands (sym (x .role j l)) ∙ s) in
           (ap lands (x .role a w) ∙ c .0, x .goal a w ∙ c .1 ∙ sym (x .goal j l))
       chain j a q r s (inr y) = clash s (ap lands (ap (M .role) y ∙ new-role L n split (L .owner i) 0 0))

@@ -9,21 +9,21 @@ use lib.Dec.{eqb, ltb}
 use Rattle.fields.specs.Below.{someBelow}
 use Rattle.fields.proofs.Below.{none-left, none-right, none-at, or-right}
 use Rattle.book_format.specs.Format.{links, origins, destinations, legs, linkLength, linkNext, linkNextAlt, linkPrev, linkPrevAlt, originLink, destinationLink, legLink, legParent}
-use Rattle.book_format.specs.Rows.{noLink, linkZero, badLink, badLegIndex, row5, badLeg}
+use Rattle.book_format.specs.Rows.{noSuchLink, linkZero, badLink, badLegIndex, row5, badLeg}
 use Rattle.book_options.specs.Options.{member, originBelow, stacked, enter, search, optionsOf, keptOrigins, none, row8}
-use Rattle.arcs_growth.specs.Read.{Kept, Read}
+use Rattle.arcs_growth.specs.Read.{SomeKept, Read}
 use Rattle.arcs_growth.proofs.Answers.{All, all-so, clash}
 
 -- ---- kept origins
 
 -- no two of these rows of origins have one link
 abbrev pub Other : List ℕ → ℕ → List ℕ → Type 0
-Other b row [] = Unit
-Other b row (x ∷ rows) = (originLink b row ≡ originLink b x → ⊥) × Other b row rows
+Other b idx [] = Unit
+Other b idx (x ∷ idxs) = (originLink b idx ≡ originLink b x → ⊥) × Other b idx idxs
 
 abbrev pub Apart : List ℕ → List ℕ → Type 0
 Apart b [] = Unit
-Apart b (row ∷ rows) = Other b row rows × Apart b rows
+Apart b (idx ∷ idxs) = Other b idx idxs × Apart b idxs
 
 origin-found : (b : List ℕ) (n l o : ℕ) → originBelow b n l ≡ suc o → originLink b o ≡ l
 unfolding originBelow
@@ -34,20 +34,20 @@ origin-found b (suc n) l o e = go (eqb (originLink b n) l) refl e (origin-found 
     go true q p ih = let d : o ≡ n = omega arith in ap (originLink b) d ∙ eqb-true (originLink b n) l q
     go false q p ih = ih p
 
-other-more : (b : List ℕ) (row : ℕ) (rows : List ℕ) (x : ℕ) → Other b row rows → (originLink b row ≡ originLink b x → ⊥) → Other b row (rows ++ (x ∷ []))
-other-more b row [] x o d = (d, tt)
-other-more b row (y ∷ rows) x o d = (o .0, other-more b row rows x (o .1) d)
+other-more : (b : List ℕ) (idx : ℕ) (idxs : List ℕ) (x : ℕ) → Other b idx idxs → (originLink b idx ≡ originLink b x → ⊥) → Other b idx (idxs ++ (x ∷ []))
+other-more b idx [] x o d = (d, tt)
+other-more b idx (y ∷ idxs) x o d = (o .0, other-more b idx idxs x (o .1) d)
 
-apart-more : (b rows : List ℕ) (x : ℕ) → Apart b rows → All (λ (row : ℕ). originLink b row ≡ originLink b x → ⊥) rows → Apart b (rows ++ (x ∷ []))
+apart-more : (b idxs : List ℕ) (x : ℕ) → Apart b idxs → All (λ (idx : ℕ). originLink b idx ≡ originLink b x → ⊥) idxs → Apart b (idxs ++ (x ∷ []))
 apart-more b [] x a d = (tt, tt)
-apart-more b (row ∷ rows) x a d = (other-more b row rows x (a .0) (d .0), apart-more b rows x (a .1) (d .1))
+apart-more b (idx ∷ idxs) x a d = (other-more b idx idxs x (a .0) (d .0), apart-more b idxs x (a .1) (d .1))
 
 abbrev Entered : List ℕ → List ℕ → List ℕ → Type 0
-Entered b set rows = All (λ (row : ℕ). member (originLink b row) set ≡ true) rows
+Entered b set idxs = All (λ (idx : ℕ). member (originLink b idx) set ≡ true) idxs
 
-entered-append : (b set rows : List ℕ) (x : ℕ) → Entered b set rows → member (originLink b x) set ≡ true → Entered b set (rows ++ (x ∷ []))
+entered-append : (b set idxs : List ℕ) (x : ℕ) → Entered b set idxs → member (originLink b x) set ≡ true → Entered b set (idxs ++ (x ∷ []))
 entered-append b set [] x e m = (m, tt)
-entered-append b set (row ∷ rows) x e m = (e .0, entered-append b set rows x (e .1) m)
+entered-append b set (idx ∷ idxs) x e m = (e .0, entered-append b set idxs x (e .1) m)
 
 member-more : (l x : ℕ) (set : List ℕ) → member l set ≡ true → member l (x ∷ set) ≡ true
 unfolding member
@@ -65,12 +65,12 @@ record Sorted (b set kept : List ℕ) : Type 0 where
 sorted-enter : (b : List ℕ) (l : ℕ) (t : Bool) (o : ℕ) (stack set kept : List ℕ) → member l set ≡ t → originBelow b (origins b) l ≡ o → Sorted b set kept → Sorted b (enter b l t o stack set kept .set) (enter b l t o stack set kept .kept)
 unfolding enter
 sorted-enter b l true o stack set kept m q s = s
-sorted-enter b l false zero stack set kept m q s = record { apart = s .apart; entered = all-so (λ (row : ℕ). member (originLink b row) set ≡ true) (λ (row : ℕ). member (originLink b row) (l ∷ set) ≡ true) (λ row e. member-more (originLink b row) l set e) kept (s .entered) }
+sorted-enter b l false zero stack set kept m q s = record { apart = s .apart; entered = all-so (λ (idx : ℕ). member (originLink b idx) set ≡ true) (λ (idx : ℕ). member (originLink b idx) (l ∷ set) ≡ true) (λ idx e. member-more (originLink b idx) l set e) kept (s .entered) }
 sorted-enter b l false (suc o) stack set kept m q s =
     let f : originLink b o ≡ l = origin-found b (origins b) l o q in
     record {
-      apart = apart-more b kept o (s .apart) (all-so (λ (row : ℕ). member (originLink b row) set ≡ true) (λ (row : ℕ). originLink b row ≡ originLink b o → ⊥) (λ row e p. clash e (ap (λ (k : ℕ). member k set) (p ∙ f) ∙ m)) kept (s .entered));
-      entered = entered-append b (l ∷ set) kept o (all-so (λ (row : ℕ). member (originLink b row) set ≡ true) (λ (row : ℕ). member (originLink b row) (l ∷ set) ≡ true) (λ row e. member-more (originLink b row) l set e) kept (s .entered))
+      apart = apart-more b kept o (s .apart) (all-so (λ (idx : ℕ). member (originLink b idx) set ≡ true) (λ (idx : ℕ). originLink b idx ≡ originLink b o → ⊥) (λ idx e p. clash e (ap (λ (k : ℕ). member k set) (p ∙ f) ∙ m)) kept (s .entered));
+      entered = entered-append b (l ∷ set) kept o (all-so (λ (idx : ℕ). member (originLink b idx) set ≡ true) (λ (idx : ℕ). member (originLink b idx) (l ∷ set) ≡ true) (λ idx e. member-more (originLink b idx) l set e) kept (s .entered))
           (member-here l (originLink b o) set f);
     }
 
@@ -96,9 +96,9 @@ read-rows b five seven eight = record {
   forks = λ i h e. fork i e (link-good (legLink b i) (leg-link i h));
 }
   where
-    some : (rows : List ℕ) → none rows ≡ false → Kept rows
+    some : (idxs : List ℕ) → none idxs ≡ false → SomeKept idxs
     some [] e = clash refl e
-    some (row ∷ rows) e = tt
+    some (idx ∷ idxs) e = tt
 
     a : Bool
     a = not (linkZero b)
@@ -107,16 +107,16 @@ read-rows b five seven eight = record {
     c = someBelow (links b) (badLink b)
 
     d : Bool
-    d = someBelow (origins b) (λ i. noLink b (originLink b i))
+    d = someBelow (origins b) (λ i. noSuchLink b (originLink b i))
 
     f : Bool
-    f = someBelow (destinations b) (λ i. noLink b (destinationLink b i))
+    f = someBelow (destinations b) (λ i. noSuchLink b (destinationLink b i))
 
     g : Bool
     g = someBelow (legs b) (badLegIndex b)
 
     leg-link : (i : ℕ) → i < legs b → legLink b i < links b
-    leg-link i h = leb-false (links b) (legLink b i) (none-left (noLink b (legLink b i)) (ltb (legs b) (legParent b i)) (none-at (legs b) (badLegIndex b) i h (none-right (((a || c) || d) || f) g five)))
+    leg-link i h = leb-false (links b) (legLink b i) (none-left (noSuchLink b (legLink b i)) (ltb (legs b) (legParent b i)) (none-at (legs b) (badLegIndex b) i h (none-right (((a || c) || d) || f) g five)))
 
     link-good : (l : ℕ) → l < links b → badLink b l ≡ false
     link-good l h = none-at (links b) (badLink b) l h (none-right a c (none-left (a || c) d (none-left ((a || c) || d) f (none-left (((a || c) || d) || f) g five))))
@@ -124,7 +124,7 @@ read-rows b five seven eight = record {
     fork : (i : ℕ) → linkNext b (legLink b i) ≡ linkNextAlt b (legLink b i) → badLink b (legLink b i) ≡ false → linkNext b (legLink b i) ≡ 0
     fork i e q =
         let l : ℕ = legLink b i in
-        let w : Bool = noLink b (linkNext b l) || noLink b (linkNextAlt b l) || noLink b (linkPrev b l) || noLink b (linkPrevAlt b l) || (ltb 0 l && eqb (linkLength b l) 0) in
+        let w : Bool = noSuchLink b (linkNext b l) || noSuchLink b (linkNextAlt b l) || noSuchLink b (linkPrev b l) || noSuchLink b (linkPrevAlt b l) || (ltb 0 l && eqb (linkLength b l) 0) in
         let x : (eqb (linkNext b l) (linkNextAlt b l) && ltb 0 (linkNext b l)) ≡ false = none-right w (eqb (linkNext b l) (linkNextAlt b l) && ltb 0 (linkNext b l)) q in
         let y : ltb 0 (linkNext b l) ≡ false = sym (ap (λ (t : Bool). t && ltb 0 (linkNext b l)) (eq-eqb (linkNext b l) (linkNextAlt b l) e)) ∙ x in
         let z : linkNext b l ≤ 0 = ltb-false 0 (linkNext b l) y in

@@ -15,7 +15,7 @@ use Rattle.net_node.specs.declared.EstTime.{EstTime}
 use Rattle.net_node.specs.declared.TimedEvent.{TimedEvent}
 use Rattle.grow_path.specs.Path.{linkOf, legCourse, legEvents}
 use Rattle.grow_rules.specs.Run.{given, andThen, Net, Run, arcToEnd, Outcome, Ended, On, runEvents}
-use Rattle.grow_rules.specs.Growth.{Growth, joinGap, takes, seekLeg, badFinish, finishedAt, finishAs, waiting, onOver, fitsIn, saveOver, onAs, goOn, finishes, endedAs, legDone, legAs, takeLeg, drive}
+use Rattle.grow_rules.specs.Growth.{Growth, joinGap, takes, seekLeg, badFinish, finishedAt, finishAs, waiting, onOver, fitsIn, saveOver, onAs, goOn, finishes, legEndAs, legDone, legAs, takeLeg, drive}
 use Rattle.arcs_growth.specs.Arcs.{one}
 use Rattle.arcs_growth.specs.Runs.{runEventsTo}
 use Rattle.arcs_growth.specs.Read.{Read}
@@ -24,13 +24,13 @@ use Rattle.arcs_growth.proofs.Labels.{Labels}
 use Rattle.arcs_growth.proofs.Invariant.{Stands, Waits, Owned}
 use Rattle.arcs_growth.proofs.Finishing.{finish-tip, finish-keeps}
 use Rattle.arcs_growth.proofs.Paths.{append-assoc, LegOf, leg-found, run-events-more, events-real}
-use Rattle.arcs_growth.proofs.Faring.{Fares, Driven, Running}
+use Rattle.arcs_growth.proofs.AtEvents.{AtEvent, Driven, Running}
 use Rattle.arcs_growth.proofs.Running.{Came, events-run}
 use Rattle.arcs_growth.proofs.Loads.{legCount, load, load-same, Kids, load-less}
 
 -- a run with another leg, and whether it has added
 abbrev pub withLeg : Run → ℕ → Bool → Run
-withLeg run j flag = record { place = run .place; leg = j; added = flag; joins = run .joins }
+withLeg run j flag = record { place = run .place; leg = j; «has_split» = flag; joins = run .joins }
 
 -- the number of a leg
 abbrev pub LegIn : List ℕ → Run → Type 0
@@ -38,7 +38,7 @@ LegIn b r = (0 < r .leg) × (r .leg ≤ legs b)
 
 -- ---- another leg, and a saved run
 
-pub waits-leg : {L : Labels} {net : Net} {run : Run} {saved : List Run} → Waits L net (run ∷ saved) → (j : ℕ) → Waits L net (withLeg run j (run .added) ∷ saved)
+pub waits-leg : {L : Labels} {net : Net} {run : Run} {saved : List Run} → Waits L net (run ∷ saved) → (j : ℕ) → Waits L net (withLeg run j (run .«has_split») ∷ saved)
 waits-leg {L} {net} {run} u j = record {
   owned = u .owned;
   stand = (record { within = s .within; self = s .self; holds = s .holds; listed = s .listed }, u .stand .1);
@@ -64,9 +64,9 @@ waits-saved {L} {net} {run} {saved} u j = record {
 
 module _ {b : List ℕ} (r : Read b) where
   -- a run at the end of its leg takes one of the leg's children
-  fares-leg : {L : Labels} {node : ℕ → EstTime} {n : ℕ} {run : Run} → Fares b L node n run [] → LegIn b run → {link : ℕ} (i : ℕ) → LegOf b (legs b) (run .leg) link i → (flag : Bool)
-      → Fares b L node n (withLeg run (suc i) flag) (legEvents b (suc i))
-  fares-leg {run = run} f l i o flag = record {
+  at-event-leg : {L : Labels} {node : ℕ → EstTime} {n : ℕ} {run : Run} → AtEvent b L node n run [] → LegIn b run → {link : ℕ} (i : ℕ) → LegOf b (legs b) (run .leg) link i → (flag : Bool)
+      → AtEvent b L node n (withLeg run (suc i) flag) (legEvents b (suc i))
+  at-event-leg {run = run} f l i o flag = record {
     within = f .within;
     deep = f .deep;
     past = f .past;
@@ -97,14 +97,14 @@ module _ {b : List ℕ} (r : Read b) where
     on-over {rest} d ls c counts kids = go (legBelow b (legs b) (run .leg) link) refl
       where
         go : (j : ℕ) → legBelow b (legs b) (run .leg) link ≡ j
-            → Holds (Turned places run saved) (andThen (takes run j) (λ (q : Run). given (record { net = net; saved = record { place = q .place; leg = q .leg; added = run .added; joins = q .joins } ∷ rest })))
+            → Holds (Turned places run saved) (andThen (takes run j) (λ (q : Run). given (record { net = net; saved = record { place = q .place; leg = q .leg; «has_split» = run .«has_split»; joins = q .joins } ∷ rest })))
         go zero e = tt
         go (suc i) e =
             let o = leg-found b (legs b) (run .leg) link i e in
             record {
-              driven = record { labels = d .labels; grows = d .grows; waits = waits-leg (d .waits) (suc i); fares = (fares-leg (d .fares) in-here i o (run .added), d .others); notes = d .notes };
+              driven = record { labels = d .labels; grows = d .grows; waits = waits-leg (d .waits) (suc i); at-event = (at-event-leg (d .at-event) in-here i o (run .«has_split»), d .others); notes = d .notes };
               legs-in = ((omega arith, omega (arith, o .within)), ls);
-              less = load-less r run saved (withLeg run (suc i) (run .added) ∷ rest) (λ (x : ℕ). one (eqb (suc i) x) + c x) (in-here .0) (in-here .1) (kids i o) (λ x. let q = counts x in omega arith);
+              less = load-less r run saved (withLeg run (suc i) (run .«has_split») ∷ rest) (λ (x : ℕ). one (eqb (suc i) x) + c x) (in-here .0) (in-here .1) (kids i o) (λ x. let q = counts x in omega arith);
             }
 
     -- an alternative's run is saved
@@ -128,7 +128,7 @@ module _ {b : List ℕ} (r : Read b) where
         go (suc i) e =
             let o = leg-found b (legs b) (run .leg) link i e in
             fits (ltb places (waiting (withLeg run (suc i) false ∷ saved))) (withLeg run (suc i) false ∷ saved) (record {
-              running = record { labels = d .labels; grows = d .grows; waits = waits-saved (d .waits) (suc i); fares = d .fares; others = (fares-leg (d .fares) in-here i o false, d .others); notes = d .notes };
+              running = record { labels = d .labels; grows = d .grows; waits = waits-saved (d .waits) (suc i); at-event = d .at-event; others = (at-event-leg (d .at-event) in-here i o false, d .others); notes = d .notes };
               legs-in = ((omega arith, omega (arith, o .within)), ls);
               child = i;
               is-child = o;
@@ -206,8 +206,8 @@ module _ {b : List ℕ} (r : Read b) where
           labels = d .labels;
           grows = f .grows;
           waits = f .waits;
-          fares = d .others;
-          notes = ((d .fares .within, (omega arith, inl (record { to = refl; time = refl; distance = refl }))), d .notes);
+          at-event = d .others;
+          notes = ((d .at-event .within, (omega arith, inl (record { to = refl; time = refl; distance = refl }))), d .notes);
         };
         legs-in = ls;
         less = load-less r run saved saved (λ (x : ℕ). 0) (l .0) (l .1) (record { once = λ i h. omega arith; parent = λ i h q. absurd (omega arith) }) (λ x. omega arith);
@@ -220,7 +220,7 @@ module _ {b : List ℕ} (r : Read b) where
     less = load-less r run saved saved (λ (x : ℕ). 0) (l .0) (l .1) (record { once = λ i h. omega arith; parent = λ i h q. absurd (omega arith) }) (λ x. omega arith);
   }
   leg-done places run saved (On a) d l ls =
-      holds-so (Turned places (a .run) saved) (Turned places run saved) (endedAs (finishes b (a .run .leg)) b places a saved) (go (finishes b (a .run .leg)))
+      holds-so (Turned places (a .run) saved) (Turned places run saved) (legEndAs (finishes b (a .run .leg)) b places a saved) (go (finishes b (a .run .leg)))
       (λ g t. record { driven = t .driven; legs-in = t .legs-in; less = subst (λ (k : ℕ). load b (g .saved) + 1 ≤ k) same (t .less) })
     where
       in-here : LegIn b (a .run)
@@ -229,7 +229,7 @@ module _ {b : List ℕ} (r : Read b) where
       same : load b (a .run ∷ saved) ≡ load b (run ∷ saved)
       same = load-same b (legCount (a .run ∷ saved)) (legCount (run ∷ saved)) (λ x. ap (λ (k : ℕ). one (eqb k x) + legCount saved x) (d .1))
 
-      go : (t : Bool) → Holds (Turned places (a .run) saved) (endedAs t b places a saved)
+      go : (t : Bool) → Holds (Turned places (a .run) saved) (legEndAs t b places a saved)
       go true = finishes-here (d .0) in-here ls (badFinish (a .net) (a .run)) refl
       go false = goes-on (d .0) in-here ls
 
@@ -238,7 +238,7 @@ module _ {b : List ℕ} (r : Read b) where
   takes-leg {places} {net} {run} {saved} d ls = go (row11 (legCourse b (run .leg)))
     where
       running : Running b places net run saved (legEvents b (run .leg))
-      running = record { labels = d .labels; grows = d .grows; waits = d .waits; fares = d .fares .0; others = d .fares .1; notes = d .notes }
+      running = record { labels = d .labels; grows = d .grows; waits = d .waits; at-event = d .at-event .0; others = d .at-event .1; notes = d .notes }
 
       go : (t : Bool) → Holds (Turned places run saved) (legAs t b places net run saved)
       go true = tt

@@ -10,7 +10,7 @@ use lib.Dec.{eqb, ltb}
 use lib.Ieee.{binary64, ofBits}
 use Rattle.fields.proofs.Below.{or-right}
 use Rattle.net_node.specs.declared.EstTime.{EstTime}
-use Rattle.net_node.specs.Table.{blank, noLink}
+use Rattle.net_node.specs.Table.{blank, noLinkEvent}
 use Rattle.net_insertion.specs.Insertion.{Table, put, at}
 use Rattle.net_insertion.proofs.Puts.{RoomIn, put-room}
 use Rattle.grow_rules.specs.Run.{Arc, memberOf}
@@ -18,12 +18,12 @@ use Rattle.grow_rules.specs.Growth.{fakeNode, leadsToEnd, Tail, roomFor, endFak
 use Rattle.arcs_growth.specs.Arcs.{isFake}
 use Rattle.arcs_growth.proofs.Answers.{Holds, holds-then, All, either, clash, below}
 use Rattle.arcs_growth.proofs.Labels.{stop, baseRole, receives, itself, Labels, Extends, labelled, labelled-old, new-role, new-goal}
-use Rattle.arcs_growth.proofs.News.{Attached}
+use Rattle.arcs_growth.proofs.NewNodes.{Attached}
 use Rattle.arcs_growth.proofs.Weights.{arcThere, arcOut}
 use Rattle.arcs_growth.proofs.Graphs.{Graph, Timed, stop-graph}
 use Rattle.arcs_growth.proofs.Bodies.{EndAt, self-base}
 use Rattle.arcs_growth.proofs.Invariant.{Distinct}
-use Rattle.arcs_growth.proofs.Faring.{Notes, notes-more}
+use Rattle.arcs_growth.proofs.AtEvents.{Notes, notes-more}
 use Rattle.arcs_growth.proofs.Writes.{put-same, put-other}
 
 -- every index of the first n nodes names one of them, a next one of the first m
@@ -138,7 +138,7 @@ module _ {b : List ℕ} {places : ℕ} {arcs : List Arc} {k : ℕ} (i : ℕ) (is
   rest j q = sym (ap (λ (z : Bool). z || memberOf is j) (ne-eqb i j (λ (e : i ≡ j). q (sym e))))
 
   new-fake : (isFake (at two n) ≡ true) × (at two n .«idx_next» ≡ suc n)
-  unfolding fakeNode blank noLink
+  unfolding fakeNode blank noLinkEvent
   new-fake = (ap (λ (z : EstTime). isFake z) at-new, ap (λ (z : EstTime). z .«idx_next») at-new)
 
   -- each end Fake is the previous alternative of the one after it

@@ -16,13 +16,13 @@ use Rattle.fields.proofs.Below.{none-left}
 use Rattle.net_node.specs.declared.LinkEvent.{LinkEvent}
 use Rattle.net_node.specs.declared.EstTime.{EstTime}
 use Rattle.net_node.specs.declared.TimedEvent.{TimedEvent}
-use Rattle.net_node.specs.Table.{sameEvent, Woven}
+use Rattle.net_node.specs.Table.{sameEvent, Indexed}
 use Rattle.net_event_map.specs.EventMap.{seenIn, nodesFrom, eventNodes}
 use Rattle.net_strands.specs.declared.EstJoinPath.{EstJoinPath}
 use Rattle.net_strands.specs.Entries.{entry, push, pushedAs, andThen}
-use Rattle.net_strands.specs.Space.{isArrive, pushedIf, onward, alternatives, Strand, strandFrom, Turn, Whole, Over, More, popped, poppedAfter, stacked, turnAs, turn, goOn, strands, followed, extendedAs, extended, extendedAll}
-use Rattle.net_joins.specs.declared.Closest.{Closest}
-use Rattle.net_joins.specs.Joins.{closerAs, closer, closestOf, closest, names, appendedIf, appendedAll, appended, rebuilt, JoinStep, JoinsTo, GoesOn, Beyond, goesOn, chosenAs, chosen, joinStep}
+use Rattle.net_strands.specs.Space.{isArrive, pushedIf, onward, alternatives, Strand, strandFrom, Turn, Whole, Over, More, popped, poppedAfter, alternativeStacked, turnAs, turn, strandsOn, strands, followed, extendedAs, extended, extendedAll}
+use Rattle.net_joins.specs.declared.SpeedJoin.{SpeedJoin}
+use Rattle.net_joins.specs.Joins.{closerAs, closer, closestOf, closest, names, appendedIf, appendedAll, appended, rebuilt, JoinStep, JoinsTo, GoesOn, Beyond, stepWith, chosenAs, chosen, joinStep}
 use Rattle.arcs_growth.proofs.Answers.{All, all-so, clash}
 use Rattle.arcs_growth.proofs.Invariant.{Listed}
 
@@ -58,7 +58,7 @@ module _ (node : ℕ → EstTime) (n : ℕ) (e : LinkEvent) where
   unfolding entry
   has-event m i h q = (h, λ (z : m ≡ 0). q)
 
-  module _ (w : Woven node n) where
+  module _ (w : Indexed node n) where
     alternatives-good : (k m i : ℕ) (es : List EstJoinPath) → i < n → GoodAll es → Given GoodAll (alternatives k node e m i es)
     unfolding alternatives
     alternatives-good zero m i es h g = g
@@ -76,7 +76,7 @@ module _ (node : ℕ → EstTime) (n : ℕ) (e : LinkEvent) where
         on true fs f d = f
         on false fs f d = d
 
-    -- a strand stands on a node, and has stacked nodes
+    -- a strand stands on a node, and has alternativeStacked nodes
     pub record Right (s : Strand) : Type 0 where
       pub here : s .here < n
       pub stack : All (λ (i : ℕ). i < n) (s .stack)
@@ -95,7 +95,7 @@ module _ (node : ℕ → EstTime) (n : ℕ) (e : LinkEvent) where
     popped-after stack none h g = tt
     popped-after stack (some es) h g = popped-right stack es h g
 
-    stacked-right : (a : ℕ) (stack : List ℕ) → a < n → All (λ (i : ℕ). i < n) stack → All (λ (i : ℕ). i < n) (stacked a stack)
+    stacked-right : (a : ℕ) (stack : List ℕ) → a < n → All (λ (i : ℕ). i < n) stack → All (λ (i : ℕ). i < n) (alternativeStacked a stack)
     stacked-right zero stack h g = g
     stacked-right (suc a) stack h g = (h, g)
 
@@ -106,10 +106,10 @@ module _ (node : ℕ → EstTime) (n : ℕ) (e : LinkEvent) where
         (isArrive (node (node (s .here) .«idx_next») .«link_event» .«est_type») || eqb (node (node (s .here) .«idx_next») .«idx_next») 0) refl
         (stacked-right (node (s .here) .«idx_next_alt») (s .stack) (w .next-alt (s .here) (r .here)) (r .stack))
       where
-        go : (a b : Bool) → sameEvent (node (node (s .here) .«idx_next») .«link_event») e ≡ a → All (λ (i : ℕ). i < n) (stacked (node (s .here) .«idx_next_alt») (s .stack))
-            → RightTurn (turnAs a b m (node (s .here) .«idx_next») (stacked (node (s .here) .«idx_next_alt») (s .stack)) (s .entries))
-        go true b q h = popped-after (stacked (node (s .here) .«idx_next_alt») (s .stack)) (push (s .entries) (entry m (node (s .here) .«idx_next»))) h (pushed Good (s .entries) (entry m (node (s .here) .«idx_next»)) (r .entries) (has-event m (node (s .here) .«idx_next») (w .next (s .here) (r .here)) q))
-        go false true q h = popped-right (stacked (node (s .here) .«idx_next_alt») (s .stack)) (s .entries) h (r .entries)
+        go : (a b : Bool) → sameEvent (node (node (s .here) .«idx_next») .«link_event») e ≡ a → All (λ (i : ℕ). i < n) (alternativeStacked (node (s .here) .«idx_next_alt») (s .stack))
+            → RightTurn (turnAs a b m (node (s .here) .«idx_next») (alternativeStacked (node (s .here) .«idx_next_alt») (s .stack)) (s .entries))
+        go true b q h = popped-after (alternativeStacked (node (s .here) .«idx_next_alt») (s .stack)) (push (s .entries) (entry m (node (s .here) .«idx_next»))) h (pushed Good (s .entries) (entry m (node (s .here) .«idx_next»)) (r .entries) (has-event m (node (s .here) .«idx_next») (w .next (s .here) (r .here)) q))
+        go false true q h = popped-right (alternativeStacked (node (s .here) .«idx_next_alt») (s .stack)) (s .entries) h (r .entries)
         go false false q h = record { here = w .next (s .here) (r .here); stack = h; entries = r .entries }
 
     strands-good : (k m : ℕ) (s : Strand) → Right s → Given GoodAll (strands k node e m s)
@@ -117,7 +117,7 @@ module _ (node : ℕ → EstTime) (n : ℕ) (e : LinkEvent) where
     strands-good zero m s r = tt
     strands-good (suc k) m s r = go (turn node e m s) (turn-right m s r) (strands-good k m)
       where
-        go : (t : Turn) → RightTurn t → ((u : Strand) → Right u → Given GoodAll (strands k node e m u)) → Given GoodAll (goOn t (strands k node e m))
+        go : (t : Turn) → RightTurn t → ((u : Strand) → Right u → Given GoodAll (strands k node e m u)) → Given GoodAll (strandsOn t (strands k node e m))
         go (Whole es) d ih = d
         go Over d ih = tt
         go (More u) d ih = ih u d
@@ -153,10 +153,10 @@ module _ (node : ℕ → EstTime) (n : ℕ) (e : LinkEvent) where
   -- ---- the closest
 
   -- the best so far is the one that the source begins with, or has the event
-  abbrev Best : Float → Closest → Type 0
+  abbrev Best : Float → SpeedJoin → Type 0
   Best limit c = (c .gap ≡ limit) ⊎ ((c .node < n) × (sameEvent (node (c .node) .«link_event») e ≡ true))
 
-  closest-of : (limit speed : Float) (c : Closest) (es : List EstJoinPath) → Best limit c → GoodAll es → Best limit (closestOf node speed c es)
+  closest-of : (limit speed : Float) (c : SpeedJoin) (es : List EstJoinPath) → Best limit c → GoodAll es → Best limit (closestOf node speed c es)
   unfolding closestOf closer
   closest-of limit speed c [] b g = b
   closest-of limit speed c (x ∷ es) b g =
@@ -207,18 +207,18 @@ Stepped node n places e (JoinsTo target) = (target < n) × ((sameEvent (node tar
 Stepped node n places e (GoesOn es) = Listed n es
 Stepped node n places e Beyond = Unit
 
-pub step-right : (node : ℕ → EstTime) (n places : ℕ) (limit : Float) (e : TimedEvent) (old : List EstJoinPath) → Woven node n → Listed n old → Stepped node n places (e .«link_event») (joinStep node n places limit e old)
+pub step-right : (node : ℕ → EstTime) (n places : ℕ) (limit : Float) (e : TimedEvent) (old : List EstJoinPath) → Indexed node n → Listed n old → Stepped node n places (e .«link_event») (joinStep node n places limit e old)
 unfolding joinStep closest
 step-right node n places limit e old w l = go (rebuilt node n (e .«link_event») old) (rebuilt-good node n (e .«link_event») w old l)
   where
     good : (x : EstJoinPath) → Good node n (e .«link_event») x → x .«est_idx_next» < n
     good x g = g .0
 
-    list : (x : Option (List EstJoinPath)) → Given (Listed n) x → Stepped node n places (e .«link_event») (goesOn x)
+    list : (x : Option (List EstJoinPath)) → Given (Listed n) x → Stepped node n places (e .«link_event») (stepWith x)
     list none h = tt
     list (some es) h = h
 
-    choose : (es : List EstJoinPath) → GoodAll node n (e .«link_event») es → (c : Closest) → Best node n (e .«link_event») limit c → (a b : Bool) → lt (c .gap) limit ≡ a → ltb n places ≡ b
+    choose : (es : List EstJoinPath) → GoodAll node n (e .«link_event») es → (c : SpeedJoin) → Best node n (e .«link_event») limit c → (a b : Bool) → lt (c .gap) limit ≡ a → ltb n places ≡ b
         → Stepped node n places (e .«link_event») (chosenAs a b (c .node) (appended node n (e .«link_event») es))
     choose es g c (inl q) true b r s =
         let z : lt limit limit ≡ true = ap (λ (x : Float). lt x limit) (sym q) ∙ r in

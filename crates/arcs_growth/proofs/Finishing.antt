@@ -95,7 +95,7 @@ module _ {L : Labels} {places : ℕ} {net : Net} {run : Run} {saved : List Run} 
     grows = record {
       body = record {
         room = g .body .room;
-        woven = g .body .woven;
+        indexed = g .body .indexed;
         graph = record { laid = v; bases = g .body .graph .bases; noted = noted };
         no-stops = g .body .no-stops;
         chains = g .body .chains;

@@ -7,7 +7,7 @@ use Prim.Native.Nat.{ℕ, zero, suc, _<_}
 use native.Mathlib.Omega.{arith}
 use lib.Ieee.{binary64, ofBits}
 use Rattle.net_node.specs.declared.EstTime.{EstTime}
-use Rattle.net_node.specs.Table.{Woven, blank, noLink}
+use Rattle.net_node.specs.Table.{Indexed, blank, noLinkEvent}
 use Rattle.net_insertion.specs.Insertion.{Table, put, at}
 use Rattle.net_insertion.proofs.Puts.{RoomIn, put-room}
 use Rattle.fields.specs.Below.{sumBelow}
@@ -18,7 +18,7 @@ use Rattle.arcs_growth.proofs.Answers.{clash}
 use Rattle.arcs_growth.proofs.Sums.{total}
 use Rattle.arcs_growth.proofs.Labels.{Role, nought, start, event, split, join, stop, baseRole, lands, Labels}
 use Rattle.arcs_growth.proofs.Laid.{Each, Laid}
-use Rattle.arcs_growth.proofs.News.{apart}
+use Rattle.arcs_growth.proofs.NewNodes.{apart}
 use Rattle.arcs_growth.proofs.Weights.{weigh, weigh-none, weigh-empty}
 use Rattle.arcs_growth.proofs.Invariant.{Grows, Waits}
 use Rattle.arcs_growth.proofs.Writes.{put-same, put-other}
@@ -69,9 +69,9 @@ module _ (b : List ℕ) (t : Table) (places : ℕ) (room : RoomIn t places) (mor
   at-one : at after 1 ≡ first
   at-one = put-same (put t 0 zeroth) 1 first places (put-room t 0 zeroth places room) more
 
-  first-woven : Woven (at after) 2
+  first-indexed : Indexed (at after) 2
   unfolding fakeNode
-  first-woven = record {
+  first-indexed = record {
     next = both (λ (i : ℕ). at after i .«idx_next» < 2) (omega (arith, ap (λ (x : EstTime). x .«idx_next») at-zero)) (omega (arith, ap (λ (x : EstTime). x .«idx_next») at-one));
     next-alt = both (λ (i : ℕ). at after i .«idx_next_alt» < 2) (omega (arith, ap (λ (x : EstTime). x .«idx_next_alt») at-zero)) (omega (arith, ap (λ (x : EstTime). x .«idx_next_alt») at-one));
     prev = both (λ (i : ℕ). at after i .«idx_prev» < 2) (omega (arith, ap (λ (x : EstTime). x .«idx_prev») at-zero)) (omega (arith, ap (λ (x : EstTime). x .«idx_prev») at-one));
@@ -103,7 +103,7 @@ module _ (b : List ℕ) (t : Table) (places : ℕ) (room : RoomIn t places) (mor
   one-empty = ap (λ (x : EstTime). x .«idx_next») at-one
 
   first-laid : Laid firstLabels (at after) 2
-  unfolding fakeNode blank noLink
+  unfolding fakeNode blank noLinkEvent
   first-laid = record {
     two = omega arith;
     zeroth = refl;
@@ -154,7 +154,7 @@ module _ (b : List ℕ) (t : Table) (places : ℕ) (room : RoomIn t places) (mor
   first-grows = record {
     body = record {
       room = put-room (put t 0 zeroth) 1 first places (put-room t 0 zeroth places room);
-      woven = first-woven;
+      indexed = first-indexed;
       graph = record { laid = first-laid; bases = refl; noted = first-noted };
       no-stops = both (λ (i : ℕ). firstRole i ≡ stop → ⊥) (λ q. apart isNought {m = nought} refl q refl refl) (λ q. apart isStart {m = start} refl q refl refl);
       chains = λ i a h e p q. both (λ (j : ℕ). lands (firstRole j) ≡ true → (lands (firstRole a) ≡ true) × (_≡_ {A = ℕ} 0 0)) (λ z. clash z refl) (λ z. clash z refl) i h q;

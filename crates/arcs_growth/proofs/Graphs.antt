@@ -13,7 +13,7 @@ use Rattle.arcs_growth.proofs.Answers.{either}
 use Rattle.arcs_growth.proofs.Sums.{sum-same, sum-suc, total, total-more}
 use Rattle.arcs_growth.proofs.Labels.{Role, event, split, join, stop, baseRole, lands, Labels, Extends, labelled, labelled-old, new-role}
 use Rattle.arcs_growth.proofs.Laid.{Laid}
-use Rattle.arcs_growth.proofs.News.{Attached, Alternated, NewPrevAlt, NoStops, event-laid, join-laid, stop-laid, split-laid}
+use Rattle.arcs_growth.proofs.NewNodes.{Attached, Alternated, NewPrevAlt, NoStops, event-laid, join-laid, stop-laid, split-laid}
 use Rattle.arcs_growth.proofs.Weights.{arcThere, arcOut, weigh, weigh-none, weigh-next, weigh-empty, weigh-ended, weigh-same, sum-attached, sum-alternated}
 
 abbrev pub baseCount : Labels → ℕ → ℕ

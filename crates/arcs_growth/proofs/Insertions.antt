@@ -19,12 +19,12 @@ use Rattle.net_insertion.specs.declared.Place.{Place}
 use Rattle.net_insertion.specs.declared.Inserted.{Inserted}
 use Rattle.net_insertion.specs.declared.Inserted.the-variants.{Added, Moved, Refused}
 use Rattle.net_insertion.specs.Insertion.{Table, at, matches, placeAt, addBehind, splitAt, alternating, inserted, insertedTable}
-use Rattle.grow_rules.specs.Run.{Net, Run, After, arcTo, addedTo, movedTo, memberOf, insertedAs, insertEvent}
+use Rattle.grow_rules.specs.Run.{Net, Run, After, arcTo, addedTo, movedTo, memberOf, insertedRun, insertEvent}
 use Rattle.arcs_growth.specs.Arcs.{fakeKind}
 use Rattle.arcs_growth.proofs.Answers.{Holds, some-all, clash, below, either}
 use Rattle.arcs_growth.proofs.Labels.{Role, nought, start, event, split, join, stop, fakeRole, baseRole, itself, Labels, Extends, labelled, labelled-old, new-role, new-owner, new-depth}
 use Rattle.arcs_growth.proofs.Laid.{EventOf, NextOf, Laid}
-use Rattle.arcs_growth.proofs.News.{Attached}
+use Rattle.arcs_growth.proofs.NewNodes.{Attached}
 use Rattle.arcs_growth.proofs.Graphs.{Timed}
 use Rattle.arcs_growth.proofs.Seeks.{Reached, Came, insertion-came}
 use Rattle.arcs_growth.proofs.Bodies.{Body, self-base, new-end, event-body, split-body, add-attached, add-timed, add-event, add-empty, add-held, split-column, split-empty, split-held}
@@ -122,7 +122,7 @@ module _ {L : Labels} {places : ℕ} {net : Net} {run : Run} {saved : List Run} 
   -- ---- the run moves
 
   moved : Safe L net p limit e → (from : ℕ) → Reached L (at t) n p from → 0 < at t from .«idx_next» → 0 < at t p .«idx_next» → matches limit e (at t (at t from .«idx_next»)) ≡ true
-      → Inserts L places net run saved e (record { net = net; run = movedTo run (placeAt (at t from .«idx_next») e) (run .added) })
+      → Inserts L places net run saved e (record { net = net; run = movedTo run (placeAt (at t from .«idx_next») e) (run .«has_split») })
   unfolding movedTo placeAt
   moved safe from r some first same =
       let y : ℕ = at t from .«idx_next» in
@@ -152,7 +152,7 @@ module _ {L : Labels} {places : ℕ} {net : Net} {run : Run} {saved : List Run} 
       tipped : Tip net run → ⊥
       tipped w = let q = w .empty in omega arith
 
-      go : (i : ℕ) → at t i .«idx_next» ≡ 0 → Owned L i (run ∷ saved) → Owned L i (movedTo run (placeAt (at t from .«idx_next») e) (run .added) ∷ saved)
+      go : (i : ℕ) → at t i .«idx_next» ≡ 0 → Owned L i (run ∷ saved) → Owned L i (movedTo run (placeAt (at t from .«idx_next») e) (run .«has_split») ∷ saved)
       go i z (inl q) = let d : at t p .«idx_next» ≡ 0 = ap (λ (k : ℕ). at t k .«idx_next») (sym q) ∙ z in absurd (omega arith)
       go i z (inr q) = inr q
 
@@ -375,10 +375,10 @@ module _ {L : Labels} {places : ℕ} {net : Net} {run : Run} {saved : List Run} 
   unfolding insertEvent placeAt
   insert-keeps safe = go (insertedTable t n limit (run .place) e) (inserted t n places ends limit (run .place) e) (insertion-came t n places ends limit (run .place) e v (s .within) p-base)
     where
-      go : (after : Table) (a : Inserted) → Came L t n places ends limit (run .place) e after a → Holds (Inserts L places net run saved e) (insertedAs net run e after a)
+      go : (after : Table) (a : Inserted) → Came L t n places ends limit (run .place) e after a → Holds (Inserts L places net run saved e) (insertedRun net run e after a)
       go after (Refused r) c = tt
       go after (Moved q) c =
-          subst (λ (z : Place). Inserts L places net run saved e (record { net = net; run = movedTo run z (run .added) })) (sym (c .place)) (moved safe (c .from) (c .reached) (c .some) (c .first-some) (c .same))
+          subst (λ (z : Place). Inserts L places net run saved e (record { net = net; run = movedTo run z (run .«has_split») })) (sym (c .place)) (moved safe (c .from) (c .reached) (c .some) (c .first-some) (c .same))
       go after (Added q false) c =
           subst (λ (z : Place). Inserts L places net run saved e (record { net = addedTo net after z false (arcTo (run .place) (z .«idx_prev») e); run = movedTo run z true })) (sym (c .place))
           (subst (λ (z : Table). Inserts L places net run saved e (record { net = addedTo net z (placeAt n e) false (arcTo (run .place) (placeAt n e .«idx_prev») e); run = movedTo run (placeAt n e) true })) (sym (c .table))

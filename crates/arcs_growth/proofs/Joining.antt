@@ -9,16 +9,16 @@ use lib.Ieee.{binary64, sub}
 use Rattle.net_node.specs.declared.LinkEvent.{LinkEvent}
 use Rattle.net_node.specs.declared.EstTime.{EstTime}
 use Rattle.net_node.specs.declared.TimedEvent.{TimedEvent}
-use Rattle.net_node.specs.Table.{Woven, blank, noLink}
+use Rattle.net_node.specs.Table.{Indexed, blank, noLinkEvent}
 use Rattle.net_insertion.specs.Insertion.{Table, put, at, linkedTo}
 use Rattle.net_insertion.proofs.Puts.{RoomIn, put-room}
-use Rattle.net_joins.specs.Joins.{endedAs, chainEnd, joinedBy, joinFake, joinAt, joinedTable}
+use Rattle.net_joins.specs.Joins.{chainEndAs, chainEnd, joinedBy, joinFake, joinAt, joinedTable}
 use Rattle.grow_rules.specs.Run.{Net, Run, arcTo, memberOf, joinedTo}
 use Rattle.arcs_growth.specs.Arcs.{isFake, fakeKind}
 use Rattle.arcs_growth.proofs.Answers.{All, all-so, clash, below, either}
 use Rattle.arcs_growth.proofs.Labels.{event, join, stop, baseRole, lands, itself, Labels, Extends, labelled, labelled-old, new-role, new-goal}
 use Rattle.arcs_growth.proofs.Laid.{Laid}
-use Rattle.arcs_growth.proofs.News.{Attached, apart}
+use Rattle.arcs_growth.proofs.NewNodes.{Attached, apart}
 use Rattle.arcs_growth.proofs.Weights.{arcThere}
 use Rattle.arcs_growth.proofs.Graphs.{Graph, Timed, join-graph}
 use Rattle.arcs_growth.proofs.Bodies.{Chains, EndAt, self-base}
@@ -34,12 +34,12 @@ pub record ChainEnd (L : Labels) (node : ℕ → EstTime) (n i c : ℕ) : Type 0
   pub goal : L .goal c ≡ L .goal i
   pub empty : node c .«idx_prev_alt» ≡ 0
 
-chain-end : {L : Labels} {node : ℕ → EstTime} {n : ℕ} → Woven node n → Chains L node n → (k i : ℕ) → i < n → n ≤ k + i → lands (L .role i) ≡ true → ChainEnd L node n i (chainEnd k node i)
+chain-end : {L : Labels} {node : ℕ → EstTime} {n : ℕ} → Indexed node n → Chains L node n → (k i : ℕ) → i < n → n ≤ k + i → lands (L .role i) ≡ true → ChainEnd L node n i (chainEnd k node i)
 unfolding chainEnd
 chain-end w f zero i h l r = absurd (omega arith)
 chain-end {L} {node} {n} w f (suc k) i h l r = go (node i .«idx_prev_alt») refl (chain-end w f k)
   where
-    go : (a : ℕ) → node i .«idx_prev_alt» ≡ a → ((j : ℕ) → j < n → n ≤ k + j → lands (L .role j) ≡ true → ChainEnd L node n j (chainEnd k node j)) → ChainEnd L node n i (endedAs a i (chainEnd k node))
+    go : (a : ℕ) → node i .«idx_prev_alt» ≡ a → ((j : ℕ) → j < n → n ≤ k + j → lands (L .role j) ≡ true → ChainEnd L node n j (chainEnd k node j)) → ChainEnd L node n i (chainEndAs a i (chainEnd k node))
     go zero e ih = record { within = h; lands = r; goal = refl; empty = e }
     go (suc a) e ih =
         let c = f i (suc a) h e (omega arith) r in
@@ -141,11 +141,11 @@ module _ (t : Table) (n places c : ℕ) (e : TimedEvent) (room : RoomIn t places
   )
 
   join-new : (isFake (at three n) ≡ true) × ((at three n .«idx_next» ≡ c) × (at three n .«idx_prev_alt» ≡ 0))
-  unfolding joinFake blank noLink
+  unfolding joinFake blank noLinkEvent
   join-new = (ap (λ (x : EstTime). isFake x) three-new, (ap (λ (x : EstTime). x .«idx_next») three-new, ap (λ (x : EstTime). x .«idx_prev_alt») three-new))
 
-  join-woven : Woven (at t) n → Woven (at three) (suc n)
-  join-woven w = record {
+  join-indexed : Indexed (at t) n → Indexed (at three) (suc n)
+  join-indexed w = record {
     next = λ i l. next i (below i n l);
     next-alt = λ i l. alt i (below i n l);
     prev = λ i l. prev i (below i n l);
@@ -207,7 +207,7 @@ owned-with x h [] o = o
 owned-with x h (r ∷ runs) (inl q) = inl q
 owned-with {i = i} x h (r ∷ runs) (inr q) = inr (x .depth i h ∙ q .0, q .1)
 
-pub last-popped : (net : Net) (saved : List Run) → All (λ (s : Run). s .added ≡ false) saved → Last net saved
+pub last-popped : (net : Net) (saved : List Run) → All (λ (s : Run). s .«has_split» ≡ false) saved → Last net saved
 last-popped net [] h = tt
 last-popped net (s ∷ saved) h = (λ w. clash w (h .0), h .1)
 
@@ -235,7 +235,7 @@ module _ {L : Labels} {places : ℕ} {net : Net} {run : Run} {saved : List Run} 
   c = chainEnd n (at t) target
 
   chain : ChainEnd L (at t) n target c
-  chain = chain-end (g .body .woven) (g .body .chains) n target inside (omega arith) (ap lands role-is)
+  chain = chain-end (g .body .indexed) (g .body .chains) n target inside (omega arith) (ap lands role-is)
 
   some-nodes : 0 < n
   some-nodes = omega (arith, v .two)
@@ -295,7 +295,7 @@ module _ {L : Labels} {places : ℕ} {net : Net} {run : Run} {saved : List Run} 
           (ap (λ (k : ℕ). lands (M .role k)) d ∙ ap lands m, ap (M .goal) d ∙ new-goal L n join 0 (L .goal c) 0 ∙ sym (x .goal c (chain .within)) ∙ ap (M .goal) (sym z))
       go (inr z) =
           let o : at t j .«idx_prev_alt» ≡ a = sym (prev-alt-other t n places c e (g .body .room) some-nodes room (chain .within) j l z) ∙ q in
-          let w : a < n = subst (λ (k : ℕ). k < n) o (g .body .woven .prev-alt j l) in
+          let w : a < n = subst (λ (k : ℕ). k < n) o (g .body .indexed .prev-alt j l) in
           let d = g .body .chains j a l o r (ap lands (sym (x .role j l)) ∙ y) in
           (ap lands (x .role a w) ∙ d .0, x .goal a w ∙ d .1 ∙ sym (x .goal j l))
   chains j a q r y (inr z) =
@@ -325,7 +325,7 @@ module _ {L : Labels} {places : ℕ} {net : Net} {run : Run} {saved : List Run} 
     grows = record {
       body = record {
         room = three-room t n places c e (g .body .room) some-nodes room (chain .within);
-        woven = join-woven t n places c e (g .body .room) some-nodes room (chain .within) (g .body .woven);
+        indexed = join-indexed t n places c e (g .body .room) some-nodes room (chain .within) (g .body .indexed);
         graph = subst (Graph M (at after) (suc n) (net .ends) (arcTo (run .place) target e ∷ net .noted)) (omega arith)
             (join-graph (g .body .graph) attached timed last-base last-empty (λ a q r. absurd (unchained a q r)) (g .body .no-stops) last-out c (chain .within) (chain .lands) (fresh .0) (fresh .1 .0) (arcTo (run .place) target e) arc-is);
         no-stops = λ j l q. stops j q (below j n l);

@@ -2,7 +2,7 @@ pub mod Answers
 pub mod Sums
 pub mod Labels
 pub mod Laid
-pub mod News
+pub mod NewNodes
 pub mod Weights
 pub mod Graphs
 pub mod Seeks
@@ -14,7 +14,7 @@ pub mod Writes
 pub mod Joining
 pub mod Finishing
 pub mod Paths
-pub mod Faring
+pub mod AtEvents
 pub mod Running
 pub mod Loads
 pub mod Driving

@@ -14,11 +14,11 @@ use Rattle.net_node.specs.Table.{Room}
 use Rattle.net_insertion.specs.Insertion.{Table, put, at}
 use Rattle.net_insertion.proofs.Puts.{RoomIn, put-room}
 use Rattle.grow_rules.specs.Run.{Answer, given, andThen, Net, memberOf}
-use Rattle.grow_rules.specs.Growth.{Growth, departure, fakeNode, firstNodes, originsOf, drive, leadsToEnd, Tail, roomFor, endFakes, lastNode, Grown, startAs, grownWith, grow}
+use Rattle.grow_rules.specs.Growth.{Growth, departure, fakeNode, firstNodes, growOrigins, drive, leadsToEnd, Tail, roomFor, endFakes, lastNode, Grown, startAs, grownWith, grow}
 use Rattle.arcs_growth.specs.Read.{Read}
 use Rattle.arcs_growth.specs.Grown.{SameGrowth}
 use Rattle.arcs_growth.proofs.Answers.{Both, both-then, both-with, both-refused, both-given, All, all-so}
-use Rattle.arcs_growth.proofs.Faring.{Driven}
+use Rattle.arcs_growth.proofs.AtEvents.{Driven}
 use Rattle.arcs_growth.proofs.Driving.{drives}
 use Rattle.arcs_growth.proofs.Origins.{Ready, first-rooted, none-used, member-all, origins-ready}
 use Rattle.arcs_growth.proofs.Books.{kept-apart}
@@ -126,7 +126,7 @@ tail-alike {b} {places} {others} net other d l =
 module _ (b : List ℕ) (places others : ℕ) (t u : Table) (r : Read b) (room : RoomIn t places) (room-other : RoomIn u others) where
   -- what follows the first nodes
   rest : ℕ → Growth → Answer Grown
-  rest p s = andThen (originsOf b p (keptOrigins b) s)
+  rest p s = andThen (growOrigins b p (keptOrigins b) s)
       (λ (g : Growth). andThen (drive (legs b) b p (g .net) (g .saved))
       (λ (net : Net). andThen (endFakes p (net .ends) 0 (record { table = net .table; nodes = net .nodes })) (λ (v : Tail). andThen (lastNode p v) (λ (w : Tail). given (grownWith net w)))))
 
@@ -158,8 +158,8 @@ module _ (b : List ℕ) (places others : ℕ) (t u : Table) (r : Read b) (room :
       put-more (put t 0 zeroth) (put u 0 zeroth) places others (put-room t 0 zeroth places room) (put-room u 0 zeroth others room-other) 1 first first
       (put-more t u places others room room-other 0 zeroth zeroth (λ j h. absurd (omega arith)) (omega arith) (omega arith) refl) p q refl in
       both-then (λ (x y : Growth). Ready b places x × AlikeGrowth others x y) SameGrowth
-      (originsOf b places (keptOrigins b) (record { net = firstNodes b t; saved = [] })) (originsOf b others (keptOrigins b) (record { net = firstNodes b u; saved = [] })) (onward places) (onward others)
-      (both-with (Ready b places) (AlikeGrowth others) (originsOf b places (keptOrigins b) (record { net = firstNodes b t; saved = [] })) (originsOf b others (keptOrigins b) (record { net = firstNodes b u; saved = [] }))
+      (growOrigins b places (keptOrigins b) (record { net = firstNodes b t; saved = [] })) (growOrigins b others (keptOrigins b) (record { net = firstNodes b u; saved = [] })) (onward places) (onward others)
+      (both-with (Ready b places) (AlikeGrowth others) (growOrigins b places (keptOrigins b) (record { net = firstNodes b t; saved = [] })) (growOrigins b others (keptOrigins b) (record { net = firstNodes b u; saved = [] }))
       (origins-ready r places t room p)
       (origins-alike r places others (keptOrigins b) (record { net = firstNodes b t; saved = [] }) (record { rooted = first-rooted b places t room p; unused = none-used b (keptOrigins b) }) (kept-apart b) (member-all (keptOrigins b))
       (put (put u 0 zeroth) 1 first) agree (put-room (put u 0 zeroth) 1 first others (put-room u 0 zeroth others room-other))))

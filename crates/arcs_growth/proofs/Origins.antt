@@ -16,20 +16,20 @@ use Rattle.net_node.specs.declared.TimedEvent.{TimedEvent}
 use Rattle.net_insertion.specs.Insertion.{Table, at}
 use Rattle.grow_path.specs.Path.{legEvents}
 use Rattle.grow_rules.specs.Run.{given, andThen, Net, Run, After, arcTo, memberOf, insertEvent}
-use Rattle.grow_rules.specs.Growth.{Growth, joinGap, departure, firstNodes, originEvent, originRun, takes, seekLeg, saves, originAt, originsOf}
+use Rattle.grow_rules.specs.Growth.{Growth, joinGap, departure, firstNodes, originEvent, originRun, takes, seekLeg, saves, growOrigin, growOrigins}
 use Rattle.arcs_growth.specs.Arcs.{one}
-use Rattle.arcs_growth.specs.Runs.{runEventsTo, Next, Follows}
-use Rattle.arcs_growth.specs.Read.{Kept, Read}
+use Rattle.arcs_growth.specs.Runs.{runEventsTo, NextTo, Follows}
+use Rattle.arcs_growth.specs.Read.{SomeKept, Read}
 use Rattle.fields.proofs.Below.{or-right}
 use Rattle.net_insertion.proofs.Puts.{RoomIn}
 use Rattle.arcs_growth.proofs.Answers.{Holds, holds-then, holds-so, All, Some, all-so, either, clash}
 use Rattle.arcs_growth.proofs.Labels.{event, fakeRole, baseRole, Labels}
-use Rattle.arcs_growth.proofs.News.{apart}
+use Rattle.arcs_growth.proofs.NewNodes.{apart}
 use Rattle.arcs_growth.proofs.Invariant.{Grows, Stands, Owned, Waits, stands-more, owned-popped}
 use Rattle.arcs_growth.proofs.Insertions.{Inserts, Safe, insert-keeps}
 use Rattle.arcs_growth.proofs.Joining.{last-popped}
 use Rattle.arcs_growth.proofs.Paths.{LegOf, leg-found, run-events-first}
-use Rattle.arcs_growth.proofs.Faring.{Fares, Notes, waiting-more, notes-more, Driven}
+use Rattle.arcs_growth.proofs.AtEvents.{AtEvent, Notes, waiting-more, notes-more, Driven}
 use Rattle.arcs_growth.proofs.Running.{next-deeper}
 use Rattle.arcs_growth.proofs.Firsts.{firstLabels, first-grows, first-waits}
 use Rattle.arcs_growth.proofs.Driving.{withLeg, LegIn}
@@ -51,7 +51,7 @@ pub record Rooted (b : List ℕ) (places : ℕ) (g : Growth) : Type 0 where
   pub labels : Labels
   pub grows : Grows labels places (g .net)
   pub waits : Waits labels (g .net) (originRun b ∷ g .saved)
-  pub fares : All (λ (s : Run). Fares b labels (at (g .net .table)) (g .net .nodes) s (legEvents b (s .leg))) (g .saved)
+  pub at-event : All (λ (s : Run). AtEvent b labels (at (g .net .table)) (g .net .nodes) s (legEvents b (s .leg))) (g .saved)
   pub notes : All (Notes b (at (g .net .table)) (g .net .nodes)) (g .net .noted)
   pub numbers : All (λ (s : Run). (s .place .«time_to_next» ≡ departure b) × (s .place .«dist_to_next» ≡ trainEnd b)) (g .saved)
   pub legs-in : All (LegIn b) (g .saved)
@@ -59,17 +59,17 @@ pub record Rooted (b : List ℕ) (places : ℕ) (g : Growth) : Type 0 where
 
 -- no saved run's leg is over the link of one of these rows
 abbrev pub Unused : List ℕ → List Run → List ℕ → Type 0
-Unused b saved rows = All (λ (row : ℕ). (x : ℕ) → 0 < legCount saved x → legLink b (x - 1) ≡ originLink b row → ⊥) rows
+Unused b saved idxs = All (λ (idx : ℕ). (x : ℕ) → 0 < legCount saved x → legLink b (x - 1) ≡ originLink b idx → ⊥) idxs
 
 -- after an origin the start has a next; these rows are to come
-pub record RootedWith (b : List ℕ) (places : ℕ) (rows : List ℕ) (g : Growth) : Type 0 where
+pub record RootedWith (b : List ℕ) (places : ℕ) (idxs : List ℕ) (g : Growth) : Type 0 where
   pub rooted : Rooted b places g
   pub closed : 0 < at (g .net .table) 1 .«idx_next»
-  pub unused : Unused b (g .saved) rows
+  pub unused : Unused b (g .saved) idxs
 
-module _ {b : List ℕ} (r : Read b) (places : ℕ) (row : ℕ) (kept : memberOf (keptOrigins b) row ≡ true) (g : Growth) (d : Rooted b places g) (rows : List ℕ) (unused : Unused b (g .saved) (row ∷ rows)) (other : Other b row rows) where
+module _ {b : List ℕ} (r : Read b) (places : ℕ) (idx : ℕ) (kept : memberOf (keptOrigins b) idx ≡ true) (g : Growth) (d : Rooted b places g) (idxs : List ℕ) (unused : Unused b (g .saved) (idx ∷ idxs)) (other : Other b idx idxs) where
   abbrev link : ℕ
-  link = originLink b row
+  link = originLink b idx
 
   abbrev net : Net
   net = g .net
@@ -144,8 +144,8 @@ module _ {b : List ℕ} (r : Read b) (places : ℕ) (row : ℕ) (kept : memberOf
         events-are : runEventsTo b (suc k) ≡ arrive b link ∷ clear b link ∷ legEvents b (suc k)
         events-are = run-events-first r k (o .within) (o .parent) ∙ ap (λ (l : ℕ). arrive b l ∷ clear b l ∷ legEvents b (suc k)) (o .link)
 
-        origin-fares : Fares b (j .labels) (at (c .net .table)) (c .net .nodes) (withLeg (c .run) (suc k) false) (legEvents b (suc k))
-        origin-fares = record {
+        origin-at-event : AtEvent b (j .labels) (at (c .net .table)) (c .net .nodes) (withLeg (c .run) (suc k) false) (legEvents b (suc k))
+        origin-at-event = record {
           within = j .waits .stand .0 .within;
           deep = subst (λ (l : ℕ). 2 ≤ l) (sym deep-two) (omega arith);
           past = arrive b link ∷ [];
@@ -167,7 +167,7 @@ module _ {b : List ℕ} (r : Read b) (places : ℕ) (row : ℕ) (kept : memberOf
             go : (a .net .noted ≡ net .noted) ⊎ (a .net .noted ≡ arcTo (originRun b .place) (a .run .place .«idx_prev») (arrive b link) ∷ net .noted) → All (Notes b (at (a .net .table)) (a .net .nodes)) (a .net .noted)
             go (inl e) = subst (All (Notes b (at (a .net .table)) (a .net .nodes))) (sym e) old
             go (inr e) = subst (All (Notes b (at (a .net .table)) (a .net .nodes))) (sym e)
-                ((omega (arith, d .grows .body .graph .laid .two, i .later .nodes), (i .waits .stand .0 .within, inr (inl (record { row = row; kept = kept; from = refl; to-event = i .here; time = refl; distance = refl })))), old)
+                ((omega (arith, d .grows .body .graph .laid .two, i .later .nodes), (i .waits .stand .0 .within, inr (inl (record { idx = idx; kept = kept; from = refl; to-event = i .here; time = refl; distance = refl })))), old)
 
         clear-notes : All (Notes b (at (c .net .table)) (c .net .nodes)) (c .net .noted)
         unfolding arcTo
@@ -181,7 +181,7 @@ module _ {b : List ℕ} (r : Read b) (places : ℕ) (row : ℕ) (kept : memberOf
               leg = suc k;
               before = arrive b link;
               after = clear b link;
-              neighbours = subst (λ (xs : List TimedEvent). Next xs (arrive b link) (clear b link)) (sym events-are) (inl (refl, refl));
+              neighbours = subst (λ (xs : List TimedEvent). NextTo xs (arrive b link) (clear b link)) (sym events-are) (inl (refl, refl));
               from-event = j .happens (a .run .place .«idx_prev») (i .waits .stand .0 .within) ∙ i .here;
               to-event = j .here;
               time = ap (sub binary64 (clear b link .time)) (i .time);
@@ -223,10 +223,10 @@ module _ {b : List ℕ} (r : Read b) (places : ℕ) (row : ℕ) (kept : memberOf
           labels = j .labels;
           grows = j .grows;
           waits = origin-waits (suc k);
-          fares = (
-            origin-fares,
+          at-event = (
+            origin-at-event,
             waiting-more b (at (a .net .table)) (at (c .net .table)) (j .later .labels) (j .later .nodes) (j .happens) saved
-                (waiting-more b (at (net .table)) (at (a .net .table)) (i .later .labels) (i .later .nodes) (i .happens) saved (d .fares)),
+                (waiting-more b (at (net .table)) (at (a .net .table)) (i .later .labels) (i .later .nodes) (i .happens) saved (d .at-event)),
           );
           notes = clear-notes;
           numbers = ((j .time, j .distance), d .numbers);
@@ -234,10 +234,10 @@ module _ {b : List ℕ} (r : Read b) (places : ℕ) (row : ℕ) (kept : memberOf
           firsts = origin-kids;
         }
 
-        still-unused : Unused b (withLeg (c .run) (suc k) false ∷ saved) rows
-        still-unused = go rows other (unused .1)
+        still-unused : Unused b (withLeg (c .run) (suc k) false ∷ saved) idxs
+        still-unused = go idxs other (unused .1)
           where
-            one-row : (x : ℕ) → (originLink b row ≡ originLink b x → ⊥) → ((y : ℕ) → 0 < legCount saved y → legLink b (y - 1) ≡ originLink b x → ⊥)
+            one-row : (x : ℕ) → (originLink b idx ≡ originLink b x → ⊥) → ((y : ℕ) → 0 < legCount saved y → legLink b (y - 1) ≡ originLink b x → ⊥)
                 → (y : ℕ) (t : Bool) → eqb (suc k) y ≡ t → 0 < one t + legCount saved y → legLink b (y - 1) ≡ originLink b x → ⊥
             one-row x f u y true e p q =
                 let s : suc k ≡ y = eqb-true (suc k) y e in
@@ -245,23 +245,23 @@ module _ {b : List ℕ} (r : Read b) (places : ℕ) (row : ℕ) (kept : memberOf
                 f (sym (o .link) ∙ ap (legLink b) (sym w) ∙ q)
             one-row x f u y false e p q = u y (omega arith) q
 
-            go : (xs : List ℕ) → Other b row xs → Unused b saved xs → Unused b (withLeg (c .run) (suc k) false ∷ saved) xs
+            go : (xs : List ℕ) → Other b idx xs → Unused b saved xs → Unused b (withLeg (c .run) (suc k) false ∷ saved) xs
             go [] f u = tt
             go (x ∷ xs) f u = ((λ y. one-row x (f .0) (u .0) y (eqb (suc k) y) refl), go xs (f .1) (u .1))
 
-  pub origin-keeps : Holds (RootedWith b places rows) (originAt b places link g)
-  unfolding originAt seekLeg originRun originEvent
+  pub origin-keeps : Holds (RootedWith b places idxs) (growOrigin b places link g)
+  unfolding growOrigin seekLeg originRun originEvent
   origin-keeps =
-      holds-then (Inserts (d .labels) places net (originRun b) saved (arrive b link)) (RootedWith b places rows) (insertEvent places (joinGap b) net (originRun b) (arrive b link))
+      holds-then (Inserts (d .labels) places net (originRun b) saved (arrive b link)) (RootedWith b places idxs) (insertEvent places (joinGap b) net (originRun b) (arrive b link))
       (λ (a : After). andThen (insertEvent places (joinGap b) (a .net) (a .run) (clear b link)) (λ (c : After). andThen (seekLeg b (c .run) 0 link) (λ (run : Run). given (saves g (c .net) run))))
       arrive-keeps
-      (λ a i. holds-then (Inserts (i .labels) places (a .net) (a .run) saved (clear b link)) (RootedWith b places rows) (insertEvent places (joinGap b) (a .net) (a .run) (clear b link))
+      (λ a i. holds-then (Inserts (i .labels) places (a .net) (a .run) saved (clear b link)) (RootedWith b places idxs) (insertEvent places (joinGap b) (a .net) (a .run) (clear b link))
       (λ (c : After). andThen (seekLeg b (c .run) 0 link) (λ (run : Run). given (saves g (c .net) run)))
       (insert-keeps (i .grows) (i .waits) (joinGap b) (clear b link) refl (safe-clear a i))
       (λ c j. go a i c j (legBelow b (legs b) 0 link) refl))
     where
       go : (a : After) (i : Inserts (d .labels) places net (originRun b) saved (arrive b link) a) (c : After) (j : Inserts (i .labels) places (a .net) (a .run) saved (clear b link) c) (x : ℕ) → legBelow b (legs b) 0 link ≡ x
-          → Holds (RootedWith b places rows) (andThen (takes (c .run) x) (λ (run : Run). given (saves g (c .net) run)))
+          → Holds (RootedWith b places idxs) (andThen (takes (c .run) x) (λ (run : Run). given (saves g (c .net) run)))
       go a i c j zero e = tt
       go a i c j (suc k) e =
           let o = leg-found b (legs b) 0 link k e in
@@ -274,7 +274,7 @@ module _ {b : List ℕ} (r : Read b) (places : ℕ) (row : ℕ) (kept : memberOf
 -- ---- all of them
 
 abbrev pub KeptAll : List ℕ → List ℕ → Type 0
-KeptAll b rows = All (λ (row : ℕ). memberOf (keptOrigins b) row ≡ true) rows
+KeptAll b idxs = All (λ (idx : ℕ). memberOf (keptOrigins b) idx ≡ true) idxs
 
 pub member-all : (xs : List ℕ) → All (λ (x : ℕ). memberOf xs x ≡ true) xs
 member-all [] = tt
@@ -283,19 +283,19 @@ member-all (x ∷ xs) = (
   all-so (λ (y : ℕ). memberOf xs y ≡ true) (λ (y : ℕ). memberOf (x ∷ xs) y ≡ true) (λ y e. or-right (eqb x y) (memberOf xs y) e) xs (member-all xs),
 )
 
-origins-rest : {b : List ℕ} → Read b → (places : ℕ) (rows : List ℕ) (g : Growth) → RootedWith b places rows g → Apart b rows → KeptAll b rows → Holds (RootedWith b places []) (originsOf b places rows g)
-unfolding originsOf
+origins-rest : {b : List ℕ} → Read b → (places : ℕ) (idxs : List ℕ) (g : Growth) → RootedWith b places idxs g → Apart b idxs → KeptAll b idxs → Holds (RootedWith b places []) (growOrigins b places idxs g)
+unfolding growOrigins
 origins-rest r places [] g d a k = d
-origins-rest {b} r places (row ∷ rows) g d a k =
-    holds-then (RootedWith b places rows) (RootedWith b places []) (originAt b places (originLink b row) g) (originsOf b places rows)
-    (origin-keeps r places row (k .0) g (d .rooted) rows (d .unused) (a .0)) (λ h e. origins-rest r places rows h e (a .1) (k .1))
+origins-rest {b} r places (idx ∷ idxs) g d a k =
+    holds-then (RootedWith b places idxs) (RootedWith b places []) (growOrigin b places (originLink b idx) g) (growOrigins b places idxs)
+    (origin-keeps r places idx (k .0) g (d .rooted) idxs (d .unused) (a .0)) (λ h e. origins-rest r places idxs h e (a .1) (k .1))
 
-origins-all : {b : List ℕ} → Read b → (places : ℕ) (rows : List ℕ) (g : Growth) → Rooted b places g → Unused b (g .saved) rows → Kept rows → Apart b rows → KeptAll b rows → Holds (RootedWith b places []) (originsOf b places rows g)
-unfolding originsOf
+origins-all : {b : List ℕ} → Read b → (places : ℕ) (idxs : List ℕ) (g : Growth) → Rooted b places g → Unused b (g .saved) idxs → SomeKept idxs → Apart b idxs → KeptAll b idxs → Holds (RootedWith b places []) (growOrigins b places idxs g)
+unfolding growOrigins
 origins-all r places [] g d u s a k = absurd s
-origins-all {b} r places (row ∷ rows) g d u s a k =
-    holds-then (RootedWith b places rows) (RootedWith b places []) (originAt b places (originLink b row) g) (originsOf b places rows)
-    (origin-keeps r places row (k .0) g d rows u (a .0)) (λ h e. origins-rest r places rows h e (a .1) (k .1))
+origins-all {b} r places (idx ∷ idxs) g d u s a k =
+    holds-then (RootedWith b places idxs) (RootedWith b places []) (growOrigin b places (originLink b idx) g) (growOrigins b places idxs)
+    (origin-keeps r places idx (k .0) g d idxs u (a .0)) (λ h e. origins-rest r places idxs h e (a .1) (k .1))
 
 -- the driver's invariant, with the saved runs as light as the legs are many
 pub record Ready (b : List ℕ) (places : ℕ) (g : Growth) : Type 0 where
@@ -317,7 +317,7 @@ rooted-ready {b} r places g d =
           stand = o .waits .stand .1;
           last = last-popped (g .net) (g .saved) (o .waits .last .1);
         };
-        fares = o .fares;
+        at-event = o .at-event;
         notes = o .notes;
       };
       legs-in = o .legs-in;
@@ -330,19 +330,19 @@ first-rooted b places t room more = record {
   labels = firstLabels;
   grows = first-grows b t places room more;
   waits = first-waits b t places room more;
-  fares = tt;
+  at-event = tt;
   notes = tt;
   numbers = tt;
   legs-in = tt;
   firsts = record { once = λ i h. omega arith; parent = λ i h p. absurd (omega arith) };
 }
 
-pub none-used : (b rows : List ℕ) → Unused b [] rows
+pub none-used : (b idxs : List ℕ) → Unused b [] idxs
 none-used b [] = tt
-none-used b (row ∷ rows) = ((λ x h e. absurd (omega arith)), none-used b rows)
+none-used b (idx ∷ idxs) = ((λ x h e. absurd (omega arith)), none-used b idxs)
 
-pub origins-ready : {b : List ℕ} → Read b → (places : ℕ) (t : Table) → RoomIn t places → 1 < places → Holds (Ready b places) (originsOf b places (keptOrigins b) (record { net = firstNodes b t; saved = [] }))
+pub origins-ready : {b : List ℕ} → Read b → (places : ℕ) (t : Table) → RoomIn t places → 1 < places → Holds (Ready b places) (growOrigins b places (keptOrigins b) (record { net = firstNodes b t; saved = [] }))
 origins-ready {b} r places t room more =
-    holds-so (RootedWith b places []) (Ready b places) (originsOf b places (keptOrigins b) (record { net = firstNodes b t; saved = [] }))
+    holds-so (RootedWith b places []) (Ready b places) (growOrigins b places (keptOrigins b) (record { net = firstNodes b t; saved = [] }))
     (origins-all r places (keptOrigins b) (record { net = firstNodes b t; saved = [] }) (first-rooted b places t room more) (none-used b (keptOrigins b)) (r .kept) (kept-apart b) (member-all (keptOrigins b)))
     (rooted-ready r places)

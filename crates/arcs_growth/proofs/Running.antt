@@ -11,7 +11,7 @@ use Rattle.net_node.specs.declared.TimedEvent.{TimedEvent}
 use Rattle.net_insertion.specs.Insertion.{at, matches}
 use Rattle.net_strands.specs.declared.EstJoinPath.{EstJoinPath}
 use Rattle.net_joins.specs.Joins.{JoinStep, JoinsTo, GoesOn, Beyond, joinStep}
-use Rattle.grow_rules.specs.Run.{Answer, refused, given, Net, Run, After, arcTo, insertEvent, joinedTo, Outcome, Ended, On, goesOn, listed, joinedAs, eventAs, runEvent, nextEvent, runEvents}
+use Rattle.grow_rules.specs.Run.{Answer, refused, given, Net, Run, After, arcTo, insertEvent, joinedTo, Outcome, Ended, On, goesOn, withJoins, joinedAs, eventAs, runEvent, nextEvent, runEvents}
 use Rattle.arcs_growth.specs.Arcs.{fakeKind}
 use Rattle.arcs_growth.proofs.Answers.{Holds, holds-then, All}
 use Rattle.arcs_growth.proofs.Labels.{event, baseRole, itself, Labels}
@@ -22,7 +22,7 @@ use Rattle.arcs_growth.proofs.Insertions.{Inserts, Safe, insert-keeps, 
 use Rattle.arcs_growth.proofs.Entries.{Stepped, step-right}
 use Rattle.arcs_growth.proofs.Joining.{join-keeps}
 use Rattle.arcs_growth.proofs.Paths.{Real}
-use Rattle.arcs_growth.proofs.Faring.{Notes, waiting-more, notes-more, follows-next, fares-on, Driven, Running}
+use Rattle.arcs_growth.proofs.AtEvents.{Notes, waiting-more, notes-more, follows-next, at-event-on, Driven, Running}
 
 -- the next that insertion moves to lies one deeper than the place
 pub next-deeper : {L : Labels} {places : ℕ} {net : Net} → Grows L places net → (p : ℕ) → p < net .nodes → itself (L .role p) ≡ true → (limit : Float) (e : TimedEvent) → Real e
@@ -60,7 +60,7 @@ module _ {b : List ℕ} {places : ℕ} {net : Net} {run : Run} {saved : List Run
       labels = i .labels;
       grows = i .grows;
       waits = i .waits;
-      fares = fares-on (d .fares) (i .waits .stand .0 .within) (subst (λ (k : ℕ). 2 ≤ k) (sym (i .deeper)) deeper) (i .leg) (i .here) (i .time) (i .distance);
+      at-event = at-event-on (d .at-event) (i .waits .stand .0 .within) (subst (λ (k : ℕ). 2 ≤ k) (sym (i .deeper)) deeper) (i .leg) (i .here) (i .time) (i .distance);
       others = waiting-more b (at (net .table)) (at (a .net .table)) (i .later .labels) (i .later .nodes) (i .happens) saved (d .others);
       notes = noted (i .noted);
     },
@@ -68,7 +68,7 @@ module _ {b : List ℕ} {places : ℕ} {net : Net} {run : Run} {saved : List Run
   )
     where
       deeper : 2 ≤ suc (d .labels .depth (run .place .«idx_prev»))
-      deeper = let k = d .fares .deep in omega arith
+      deeper = let k = d .at-event .deep in omega arith
 
       old : All (Notes b (at (a .net .table)) (a .net .nodes)) (net .noted)
       old = notes-more b (at (net .table)) (at (a .net .table)) (i .later .labels) (i .later .nodes) (i .happens) (net .noted) (d .notes)
@@ -76,10 +76,10 @@ module _ {b : List ℕ} {places : ℕ} {net : Net} {run : Run} {saved : List Run
       noted : (a .net .noted ≡ net .noted) ⊎ (a .net .noted ≡ arcTo (run .place) (a .run .place .«idx_prev») e ∷ net .noted) → All (Notes b (at (a .net .table)) (a .net .nodes)) (a .net .noted)
       noted (inl q) = subst (All (Notes b (at (a .net .table)) (a .net .nodes))) (sym q) old
       noted (inr q) = subst (All (Notes b (at (a .net .table)) (a .net .nodes))) (sym q)
-          ((omega (arith, d .fares .within, i .later .nodes), (i .waits .stand .0 .within, inr (inr (follows-next (at (net .table)) (at (a .net .table)) (d .fares) (i .happens) (a .run .place .«idx_prev») (i .here))))), old)
+          ((omega (arith, d .at-event .within, i .later .nodes), (i .waits .stand .0 .within, inr (inr (follows-next (at (net .table)) (at (a .net .table)) (d .at-event) (i .happens) (a .run .place .«idx_prev») (i .here))))), old)
 
   inserting : Holds (Came b places (run .leg) saved es) (goesOn (insertEvent places limit net run e))
-  inserting = go (insertEvent places limit net run e) (insert-keeps (d .grows) (d .waits) limit e real (safe-deep (d .grows) (d .waits) (d .fares .deep) limit e real))
+  inserting = go (insertEvent places limit net run e) (insert-keeps (d .grows) (d .waits) limit e real (safe-deep (d .grows) (d .waits) (d .at-event .deep) limit e real))
     where
       go : (x : Answer After) → Holds (Inserts (d .labels) places net run saved e) x → Holds (Came b places (run .leg) saved es) (goesOn x)
       go (refused n) h = tt
@@ -95,33 +95,33 @@ module _ {b : List ℕ} {places : ℕ} {net : Net} {run : Run} {saved : List Run
         labels = j .labels;
         grows = j .grows;
         waits = j .waits;
-        fares = waiting-more b (at (net .table)) (at (joinedTo net run e target .table)) (j .later .labels) n f saved (d .others);
+        at-event = waiting-more b (at (net .table)) (at (joinedTo net run e target .table)) (j .later .labels) n f saved (d .others);
         notes = (
-          (omega (arith, d .fares .within, n), (omega (arith, h, n), inr (inr (follows-next (at (net .table)) (at (joinedTo net run e target .table)) (d .fares) f target (f target h ∙ q))))),
+          (omega (arith, d .at-event .within, n), (omega (arith, h, n), inr (inr (follows-next (at (net .table)) (at (joinedTo net run e target .table)) (d .at-event) f target (f target h ∙ q))))),
           notes-more b (at (net .table)) (at (joinedTo net run e target .table)) (j .later .labels) n f (net .noted) (d .notes),
         );
       }
 
 -- another list of join entries
-relisted : {b : List ℕ} {places : ℕ} {net : Net} {run : Run} {saved : List Run} {es : List TimedEvent} → Running b places net run saved es → (list : List EstJoinPath) → Listed (net .nodes) list → Running b places net (listed run list) saved es
-unfolding listed
+relisted : {b : List ℕ} {places : ℕ} {net : Net} {run : Run} {saved : List Run} {es : List TimedEvent} → Running b places net run saved es → (list : List EstJoinPath) → Listed (net .nodes) list → Running b places net (withJoins run list) saved es
+unfolding withJoins
 relisted {net = net} {run = run} d list l = record {
   labels = d .labels;
   grows = d .grows;
   waits = record {
     owned = d .waits .owned;
-    stand = (record { within = s .within; self = s .self; holds = s .holds; listed = l }, d .waits .stand .1);
+    stand = (record { within = s .within; self = s .self; holds = s .holds; withJoins = l }, d .waits .stand .1);
     last = ((λ w. let t = d .waits .last .0 w in record { last = t .last; empty = t .empty; no-end = t .no-end }), d .waits .last .1);
   };
-  fares = record {
-    within = d .fares .within;
-    deep = d .fares .deep;
-    past = d .fares .past;
-    last = d .fares .last;
-    events = d .fares .events;
-    here = d .fares .here;
-    time = d .fares .time;
-    distance = d .fares .distance;
+  at-event = record {
+    within = d .at-event .within;
+    deep = d .at-event .deep;
+    past = d .at-event .past;
+    last = d .at-event .last;
+    events = d .at-event .events;
+    here = d .at-event .here;
+    time = d .at-event .time;
+    distance = d .at-event .distance;
   };
   others = d .others;
   notes = d .notes;
@@ -132,16 +132,16 @@ relisted {net = net} {run = run} d list l = record {
 
 pub event-runs : {b : List ℕ} {places : ℕ} {net : Net} {run : Run} {saved : List Run} {e : TimedEvent} {es : List TimedEvent} → Running b places net run saved (e ∷ es) → Real e → (limit : Float)
     → Holds (Came b places (run .leg) saved es) (runEvent places limit net run e)
-unfolding runEvent listed
-event-runs {b} {places} {net} {run} {saved} {e} {es} d real limit = go (run .added) refl
+unfolding runEvent withJoins
+event-runs {b} {places} {net} {run} {saved} {e} {es} d real limit = go (run .«has_split») refl
   where
     steps : Tip net run → (s : JoinStep) → Stepped (at (net .table)) (net .nodes) places (e .«link_event») s → Holds (Came b places (run .leg) saved es) (joinedAs places limit net run e s)
     steps tip Beyond h = tt
     steps tip (JoinsTo target) h = joining d real limit tip target (h .0) (same-event (at (net .table) target .«link_event») (e .«link_event») (h .1 .0)) (h .1 .1)
     steps tip (GoesOn list) h = inserting (relisted d list h) real limit
 
-    go : (a : Bool) → run .added ≡ a → Holds (Came b places (run .leg) saved es) (eventAs a places limit net run e)
-    go true q = steps (d .waits .last .0 q) (joinStep (at (net .table)) (net .nodes) places limit e (run .joins)) (step-right (at (net .table)) (net .nodes) places limit e (run .joins) (d .grows .body .woven) (d .waits .stand .0 .listed))
+    go : (a : Bool) → run .«has_split» ≡ a → Holds (Came b places (run .leg) saved es) (eventAs a places limit net run e)
+    go true q = steps (d .waits .last .0 q) (joinStep (at (net .table)) (net .nodes) places limit e (run .joins)) (step-right (at (net .table)) (net .nodes) places limit e (run .joins) (d .grows .body .indexed) (d .waits .stand .0 .withJoins))
     go false q = inserting d real limit
 
 pub events-run : {b : List ℕ} {places : ℕ} {saved : List Run} (es : List TimedEvent) (a : After) → Running b places (a .net) (a .run) saved es → All Real es → (limit : Float)

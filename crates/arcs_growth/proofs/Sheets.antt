@@ -16,7 +16,7 @@ use Rattle.arcs_growth.specs.Shape.{isReceiver, Shape}
 use Rattle.arcs_growth.proofs.Answers.{either, clash, below}
 use Rattle.arcs_growth.proofs.Labels.{Role, nought, start, event, split, join, stop, fakeRole, baseRole, receives, lands, itself, Labels}
 use Rattle.arcs_growth.proofs.Laid.{AltOf, SplitOf, StopOf, laterRole, past-first}
-use Rattle.arcs_growth.proofs.News.{apart}
+use Rattle.arcs_growth.proofs.NewNodes.{apart}
 use Rattle.arcs_growth.proofs.Weights.{arcThere}
 use Rattle.arcs_growth.proofs.Wholes.{Whole}
 

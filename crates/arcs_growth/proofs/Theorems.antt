@@ -11,17 +11,17 @@ use lib.Dec.{ltb}
 use Rattle.book_format.specs.Format.{legs}
 use Rattle.book_options.specs.Options.{keptOrigins}
 use Rattle.net_node.specs.declared.EstTime.{EstTime}
-use Rattle.net_node.specs.Table.{Room, Woven}
+use Rattle.net_node.specs.Table.{Room, Indexed}
 use Rattle.net_insertion.specs.Insertion.{Table, at}
 use Rattle.grow_rules.specs.Run.{given, andThen, Arc, Net, memberOf}
-use Rattle.grow_rules.specs.Growth.{Growth, firstNodes, originsOf, drive, Tail, endFakes, lastNode, Grown, startAs, grownWith, grow}
+use Rattle.grow_rules.specs.Growth.{Growth, firstNodes, growOrigins, drive, Tail, endFakes, lastNode, Grown, startAs, grownWith, grow}
 use Rattle.arcs_growth.specs.Arcs.{arcsRead, SameArcs}
 use Rattle.arcs_growth.specs.Shape.{Shape}
-use Rattle.arcs_growth.specs.Noted.{AllHeard, EndsInside}
+use Rattle.arcs_growth.specs.Noted.{AllOfRuns, EndsInside}
 use Rattle.arcs_growth.specs.Read.{Read}
 use Rattle.arcs_growth.proofs.Answers.{Holds, holds-then, holds-given, All}
 use Rattle.arcs_growth.proofs.Labels.{baseRole}
-use Rattle.arcs_growth.proofs.Faring.{Notes, Driven}
+use Rattle.arcs_growth.proofs.AtEvents.{Notes, Driven}
 use Rattle.arcs_growth.proofs.Driving.{drives}
 use Rattle.arcs_growth.proofs.Origins.{Ready, origins-ready}
 use Rattle.arcs_growth.proofs.Ends.{Linked, Ending, Ended, ends-keep}
@@ -38,7 +38,7 @@ pub record GrownWell (b : List ℕ) (places : ℕ) (g : Grown) : Type 0 where
   pub arcs : SameArcs (g .noted) (arcsRead (at (g .table)) (g .nodes))
   pub counted : length (g .noted) ≡ g .added + g .joined + g .finished
   pub balanced : 1 + g .splits ≡ g .joined + g .finished
-  pub heard : AllHeard b (at (g .table)) (g .noted)
+  pub of-runs : AllOfRuns b (at (g .table)) (g .noted)
   pub ends-inside : EndsInside (g .nodes) (g .noted)
   -- of these nodes each index names one of them
   pub linked : Linked (at (g .table)) (g .nodes) (g .nodes)
@@ -57,16 +57,16 @@ driven-ending net d = record {
   linked = record { next = λ i h. let l = w .next i h in omega arith; next-alt = w .next-alt; prev = w .prev; prev-alt = w .prev-alt };
 }
   where
-    w : Woven (at (net .table)) (net .nodes)
-    w = d .grows .body .woven
+    w : Indexed (at (net .table)) (net .nodes)
+    w = d .grows .body .indexed
 
     go : (i : ℕ) → i < net .nodes → baseRole (d .labels .role i) ≡ true → at (net .table) i .«idx_next» ≡ 0 → (c : Bool) → memberOf (net .ends) i ≡ c → c ≡ true
     go i h p z true e = refl
     go i h p z false e = absurd (d .waits .owned i h p z e)
 
-all-heard : (b : List ℕ) (node : ℕ → EstTime) (n : ℕ) (arcs : List Arc) → All (Notes b node n) arcs → AllHeard b node arcs
-all-heard b node n [] h = tt
-all-heard b node n (arc ∷ arcs) h = (h .0 .1 .1, all-heard b node n arcs (h .1))
+all-of-runs : (b : List ℕ) (node : ℕ → EstTime) (n : ℕ) (arcs : List Arc) → All (Notes b node n) arcs → AllOfRuns b node arcs
+all-of-runs b node n [] h = tt
+all-of-runs b node n (arc ∷ arcs) h = (h .0 .1 .1, all-of-runs b node n arcs (h .1))
 
 all-inside : (b : List ℕ) (node : ℕ → EstTime) (n : ℕ) (arcs : List Arc) → All (Notes b node n) arcs → EndsInside n arcs
 all-inside b node n [] h = tt
@@ -84,7 +84,7 @@ finished-well {b} {places} net d t f =
       arcs = subst (λ (n : ℕ). SameArcs (net .noted) (arcsRead (at (t .table)) n)) (sym (f .nodes)) (read-same (f .whole));
       counted = c;
       balanced = omega arith;
-      heard = all-heard b (at (t .table)) (t .nodes) (net .noted) (f .notes);
+      of-runs = all-of-runs b (at (t .table)) (t .nodes) (net .noted) (f .notes);
       ends-inside = all-inside b (at (t .table)) (t .nodes) (net .noted) (f .notes);
       linked = f .linked;
     }
@@ -93,14 +93,14 @@ pub growth-well : (b : List ℕ) (places : ℕ) (t : Table) → Read b → Room 
 unfolding grow
 growth-well b places t r room =
     holds-then (λ (s : Growth). (s ≡ record { net = firstNodes b t; saved = [] }) × (1 < places)) (GrownWell b places) (startAs (ltb 1 places) (firstNodes b t))
-    (λ (s : Growth). andThen (originsOf b places (keptOrigins b) s)
+    (λ (s : Growth). andThen (growOrigins b places (keptOrigins b) s)
     (λ (g : Growth). andThen (drive (legs b) b places (g .net) (g .saved))
     (λ (net : Net). andThen (endFakes places (net .ends) 0 (record { table = net .table; nodes = net .nodes })) (λ (u : Tail). andThen (lastNode places u) (λ (v : Tail). given (grownWith net v))))))
     (start (ltb 1 places) refl)
-    (λ s h. holds-then (Ready b places) (GrownWell b places) (originsOf b places (keptOrigins b) s)
+    (λ s h. holds-then (Ready b places) (GrownWell b places) (growOrigins b places (keptOrigins b) s)
     (λ (g : Growth). andThen (drive (legs b) b places (g .net) (g .saved))
     (λ (net : Net). andThen (endFakes places (net .ends) 0 (record { table = net .table; nodes = net .nodes })) (λ (u : Tail). andThen (lastNode places u) (λ (v : Tail). given (grownWith net v)))))
-    (subst (λ (q : Growth). Holds (Ready b places) (originsOf b places (keptOrigins b) q)) (sym (h .0)) (origins-ready r places t room (h .1)))
+    (subst (λ (q : Growth). Holds (Ready b places) (growOrigins b places (keptOrigins b) q)) (sym (h .0)) (origins-ready r places t room (h .1)))
     (λ g d. holds-then (λ (net : Net). Driven b places net []) (GrownWell b places) (drive (legs b) b places (g .net) (g .saved))
     (λ (net : Net). andThen (endFakes places (net .ends) 0 (record { table = net .table; nodes = net .nodes })) (λ (u : Tail). andThen (lastNode places u) (λ (v : Tail). given (grownWith net v))))
     (drives r (legs b) (g .net) (g .saved) (d .driven) (d .legs-in) (d .light))
@@ -133,5 +133,5 @@ module _ (b : List ℕ) (places : ℕ) (t : Table) (g : Grown) (read : Read b) (
   grown-balanced = well .balanced
 
   -- an arc leads out with zeros, from the start to an origin's Arrive, or between two neighbouring events of a run, with the run's own differences
-  pub grown-heard : AllHeard b (at (g .table)) (g .noted)
-  grown-heard = well .heard
+  pub grown-of-runs : AllOfRuns b (at (g .table)) (g .noted)
+  grown-of-runs = well .of-runs

@@ -10,7 +10,7 @@ use lib.Dec.{ltb}
 use lib.Ieee.{binary64, ofBits}
 use Rattle.fields.specs.Below.{sumBelow}
 use Rattle.net_node.specs.declared.EstTime.{EstTime}
-use Rattle.net_node.specs.Table.{blank, noLink}
+use Rattle.net_node.specs.Table.{blank, noLinkEvent}
 use Rattle.net_insertion.specs.Insertion.{Table, put, at}
 use Rattle.grow_rules.specs.Run.{Arc}
 use Rattle.grow_rules.specs.Growth.{fakeNode, Tail, roomFor, lastNode}
@@ -22,7 +22,7 @@ use Rattle.arcs_growth.proofs.Labels.{baseRole, Labels, Extends}
 use Rattle.arcs_growth.proofs.Laid.{Each, Laid}
 use Rattle.arcs_growth.proofs.Weights.{weigh, weigh-same}
 use Rattle.arcs_growth.proofs.Graphs.{baseCount, next-within}
-use Rattle.arcs_growth.proofs.Faring.{Notes, notes-more}
+use Rattle.arcs_growth.proofs.AtEvents.{Notes, notes-more}
 use Rattle.arcs_growth.proofs.Ends.{Linked, Ending}
 use Rattle.arcs_growth.proofs.Writes.{put-same, put-other}
 
@@ -80,7 +80,7 @@ pub record Finished (b : List ℕ) (places : ℕ) (arcs : List Arc) (k : ℕ) (t
   pub linked : Linked (at (t .table)) (t .nodes) (t .nodes)
 
 pub last-keeps : {b : List ℕ} {places : ℕ} {arcs : List Arc} {k : ℕ} (alt : ℕ) (t : Tail) → Ending b places arcs k [] alt t → Holds (Finished b places arcs k) (lastNode places t)
-unfolding lastNode fakeNode blank noLink
+unfolding lastNode fakeNode blank noLinkEvent
 last-keeps {b} {places} {arcs} {k} alt t d = go (ltb (t .nodes) places) refl
   where
     n : ℕ

@@ -21,19 +21,19 @@ pub record LeadsOut (arc : Arc) : Type 0 where
 
 -- from the start to a kept origin's Arrive
 pub record Starts (b : List ℕ) (node : ℕ → EstTime) (arc : Arc) : Type 0 where
-  pub row : ℕ
-  pub kept : memberOf (keptOrigins b) row ≡ true
+  pub idx : ℕ
+  pub kept : memberOf (keptOrigins b) idx ≡ true
   pub from : arc .from ≡ 1
-  pub to-event : node (arc .to) .«link_event» ≡ record { «link_idx» = originLink b row; «est_type» = Arrive }
+  pub to-event : node (arc .to) .«link_event» ≡ record { «link_idx» = originLink b idx; «est_type» = Arrive }
   pub time : arc .time ≡ sub binary64 (departure b) (departure b)
   pub distance : arc .distance ≡ sub binary64 (ofBits binary64 0) (ofBits binary64 0)
 
-abbrev pub Heard : List ℕ → (ℕ → EstTime) → Arc → Type 0
-Heard b node arc = LeadsOut arc ⊎ (Starts b node arc ⊎ Follows b node arc)
+abbrev pub OfRun : List ℕ → (ℕ → EstTime) → Arc → Type 0
+OfRun b node arc = LeadsOut arc ⊎ (Starts b node arc ⊎ Follows b node arc)
 
-abbrev pub AllHeard : List ℕ → (ℕ → EstTime) → List Arc → Type 0
-AllHeard b node [] = Unit
-AllHeard b node (arc ∷ arcs) = Heard b node arc × AllHeard b node arcs
+abbrev pub AllOfRuns : List ℕ → (ℕ → EstTime) → List Arc → Type 0
+AllOfRuns b node [] = Unit
+AllOfRuns b node (arc ∷ arcs) = OfRun b node arc × AllOfRuns b node arcs
 
 -- both ends of each arc are among the first n nodes
 abbrev pub EndsInside : ℕ → List Arc → Type 0

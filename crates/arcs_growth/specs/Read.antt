@@ -6,13 +6,13 @@ use Rattle.book_format.specs.Format.{legs, linkNext, linkNextAlt, legLink, legP
 use Rattle.book_options.specs.Options.{keptOrigins}
 
 -- there is one
-abbrev pub Kept : List ℕ → Type 0
-Kept [] = ⊥
-Kept (row ∷ rows) = Unit
+abbrev pub SomeKept : List ℕ → Type 0
+SomeKept [] = ⊥
+SomeKept (idx ∷ idxs) = Unit
 
 pub record Read (b : List ℕ) : Type 0 where
   -- row 8: "no origin kept"
-  pub kept : Kept (keptOrigins b)
+  pub kept : SomeKept (keptOrigins b)
   -- row 7: "parent not below own number", which is the row's number and one more
   pub parents : (i : ℕ) → i < legs b → legParent b i ≤ i
   -- row 5: "next = next alternative, nonzero", of the links that legs have

@@ -30,17 +30,17 @@ unfolding eventsOfLegs
 runEventsTo b j = originEvents b (pathOf b j) ++ eventsOfLegs b (pathOf b j)
 
 -- c comes right after a in a list
-abbrev pub Next : List TimedEvent → TimedEvent → TimedEvent → Type 0
-Next [] a c = ⊥
-Next (x ∷ []) a c = ⊥
-Next (x ∷ y ∷ xs) a c = ((x ≡ a) × (y ≡ c)) ⊎ Next (y ∷ xs) a c
+abbrev pub NextTo : List TimedEvent → TimedEvent → TimedEvent → Type 0
+NextTo [] a c = ⊥
+NextTo (x ∷ []) a c = ⊥
+NextTo (x ∷ y ∷ xs) a c = ((x ≡ a) × (y ≡ c)) ⊎ NextTo (y ∷ xs) a c
 
 -- An arc between two events of the network: two neighbouring events of a run, whose link and kind its ends have, and whose differences it holds.
 pub record Follows (b : List ℕ) (node : ℕ → EstTime) (arc : Arc) : Type 0 where
   pub leg : ℕ
   pub before : TimedEvent
   pub after : TimedEvent
-  pub neighbours : Next (runEventsTo b leg) before after
+  pub neighbours : NextTo (runEventsTo b leg) before after
   pub from-event : node (arc .from) .«link_event» ≡ before .«link_event»
   pub to-event : node (arc .to) .«link_event» ≡ after .«link_event»
   pub time : arc .time ≡ sub binary64 (after .time) (before .time)

@@ -16,12 +16,12 @@ use Rattle.grow_rules.specs.Run.{Answer, given, Arc}
 use Rattle.grow_rules.specs.Growth.{Grown, grow}
 use Rattle.pass_rules.specs.Passes.{Timed, timedAs, passes}
 use Rattle.arcs_growth.specs.Arcs.{arcsRead, timesIn, SameArcs}
-use Rattle.arcs_growth.specs.Noted.{AllHeard, EndsInside}
+use Rattle.arcs_growth.specs.Noted.{AllOfRuns, EndsInside}
 use Rattle.arcs_growth.specs.Shape.{Shape}
 use Rattle.arcs_growth.specs.Read.{Read}
 use Rattle.arcs_growth.proofs.Books.{read-rows}
 use Rattle.arcs_growth.proofs.Theorems.{GrownWell, well}
-use Rattle.arcs_growth.proofs.Faring.{heard-still}
+use Rattle.arcs_growth.proofs.AtEvents.{of-run-still}
 use Rattle.arcs_passes.proofs.Lent.{arcs-agree}
 use Rattle.arcs_passes.proofs.PassesKeep.{passes-keep, passes-arcs, passes-events}
 
@@ -33,15 +33,15 @@ pub record SheetWell (b : List ℕ) (places : ℕ) (g : Grown) (u : Table) : Typ
   -- "1 + splits = joined + finished"
   pub balanced : 1 + g .splits ≡ g .joined + g .finished
   -- each arc leads out with zeros, from the start to an origin's Arrive, or from one event of a run to the very next with the run's own differences
-  pub heard : AllHeard b (at u) (g .noted)
+  pub of-runs : AllOfRuns b (at u) (g .noted)
   pub ends-inside : EndsInside (g .nodes) (g .noted)
   pub inside : g .nodes ≤ places
   pub shape : Shape (at u) (g .nodes)
 
--- all arcs are heard in the finished sheet too, since no pass changes an event
-pub heard-all : (b : List ℕ) (n : ℕ) (node node′ : ℕ → EstTime) → ((i : ℕ) → i < n → node′ i .«link_event» ≡ node i .«link_event») → (xs : List Arc) → EndsInside n xs → AllHeard b node xs → AllHeard b node′ xs
-heard-all b n node node′ e [] d h = tt
-heard-all b n node node′ e (a ∷ rest) d h = (heard-still b n node node′ e a (d .0 .0) (d .0 .1) (h .0), heard-all b n node node′ e rest (d .1) (h .1))
+-- each arc is a run's in the finished sheet too, since no pass changes an event
+pub of-runs-all : (b : List ℕ) (n : ℕ) (node node′ : ℕ → EstTime) → ((i : ℕ) → i < n → node′ i .«link_event» ≡ node i .«link_event») → (xs : List Arc) → EndsInside n xs → AllOfRuns b node xs → AllOfRuns b node′ xs
+of-runs-all b n node node′ e [] d h = tt
+of-runs-all b n node node′ e (a ∷ rest) d h = (of-run-still b n node node′ e a (d .0 .0) (d .0 .1) (h .0), of-runs-all b n node node′ e rest (d .1) (h .1))
 
 module _ (b : List ℕ) (places : ℕ) (t : Table) (g : Grown) (read : Read b) (room : RoomIn t places) (grown : grow b places t ≡ given g) (departure : Float) (u : Table) (timed : passes (g .table) (g .nodes) departure ≡ timedAs u) where
   grows : GrownWell b places g
@@ -52,7 +52,7 @@ module _ (b : List ℕ) (places : ℕ) (t : Table) (g : Grown) (read : Read b) (
     arcs = λ a. grows .arcs a ∙ passes-arcs (g .table) (g .nodes) places (grows .inside) (grows .room) (grows .shape) departure u timed a;
     counted = grows .counted;
     balanced = grows .balanced;
-    heard = heard-all b (g .nodes) (at (g .table)) (at u) (λ i h. passes-events (g .table) (g .nodes) places (grows .inside) (grows .room) (grows .shape) departure u timed i) (g .noted) (grows .ends-inside) (grows .heard);
+    of-runs = of-runs-all b (g .nodes) (at (g .table)) (at u) (λ i h. passes-events (g .table) (g .nodes) places (grows .inside) (grows .room) (grows .shape) departure u timed i) (g .noted) (grows .ends-inside) (grows .of-runs);
     ends-inside = grows .ends-inside;
     inside = grows .inside;
     shape = passes-keep (g .table) (g .nodes) places (grows .inside) (grows .room) (grows .shape) departure u timed .shape;
@@ -67,5 +67,5 @@ sheet-rows b places t g five seven eight room grown departure u timed = sheet-we
 pub lent-arcs : (b : List ℕ) (places : ℕ) (g : Grown) (u : Table) (node : ℕ → EstTime) → SheetWell b places g u → ((i : ℕ) → i < g .nodes → node i ≡ at u i) → SameArcs (g .noted) (arcsRead node (g .nodes))
 lent-arcs b places g u node w ag a = w .arcs a ∙ ap (timesIn a) (sym (arcs-agree (at u) node (g .nodes) ag (w .shape)))
 
-pub lent-heard : (b : List ℕ) (places : ℕ) (g : Grown) (u : Table) (node : ℕ → EstTime) → SheetWell b places g u → ((i : ℕ) → i < g .nodes → node i ≡ at u i) → AllHeard b node (g .noted)
-lent-heard b places g u node w ag = heard-all b (g .nodes) (at u) node (λ i h. ap (λ (x : EstTime). x .«link_event») (ag i h)) (g .noted) (w .ends-inside) (w .heard)
+pub lent-of-runs : (b : List ℕ) (places : ℕ) (g : Grown) (u : Table) (node : ℕ → EstTime) → SheetWell b places g u → ((i : ℕ) → i < g .nodes → node i ≡ at u i) → AllOfRuns b node (g .noted)
+lent-of-runs b places g u node w ag = of-runs-all b (g .nodes) (at u) node (λ i h. ap (λ (x : EstTime). x .«link_event») (ag i h)) (g .noted) (w .ends-inside) (w .of-runs)

@@ -13,12 +13,12 @@ use Rattle.book_format.specs.declared.Link.{Link}
 use Rattle.book_format.specs.declared.Origin.{Origin}
 use Rattle.book_format.specs.declared.Leg.{Leg}
 use Rattle.book_format.specs.Format.{linkAt, originAt, legAt, links, origins, destinations, legs, samples, linkLength, linkNext, linkNextAlt, linkPrev, linkPrevAlt, originLink, originOffset, originFront, destinationLink, legLink, legParent, legSamples, joinBits, departureBits, lengthBits, floatOf}
-use Rattle.book_format.specs.Rows.{outside, badCount, badOriginValue, badSample, row4, noLink, linkZero, badLink, badLegIndex, row5, badLeg}
+use Rattle.book_format.specs.Rows.{outsideLimits, badCount, badOriginValue, badSample, row4, noSuchLink, linkZero, badLink, badLegIndex, row5, badLeg}
 
 -- ---- the limits
 
--- a count that is not outside
-within : (limit n : ℕ) → outside limit n ≡ false → n ≤ limit
+-- a count that is not outsideLimits
+within : (limit n : ℕ) → outsideLimits limit n ≡ false → n ≤ limit
 within limit n e = ltb-false limit n (none-right (eqb n 0) (ltb limit n) e)
 
 pub record Limits (b : List ℕ) : Type 0 where
@@ -31,19 +31,19 @@ pub record Limits (b : List ℕ) : Type 0 where
 pub limits : (b : List ℕ) → badCount b ≡ false → Limits b
 unfolding badCount
 limits b e =
-    let p = outside 65535 (links b) in
-    let q = p || outside 65535 (legs b) in
-    let r = q || outside 1000 (origins b) in
-    let t = r || outside 1000 (destinations b) in
-    let et : t ≡ false = none-left t (outside 1000000 (samples b)) e in
-    let er : r ≡ false = none-left r (outside 1000 (destinations b)) et in
-    let eq : q ≡ false = none-left q (outside 1000 (origins b)) er in
+    let p = outsideLimits 65535 (links b) in
+    let q = p || outsideLimits 65535 (legs b) in
+    let r = q || outsideLimits 1000 (origins b) in
+    let t = r || outsideLimits 1000 (destinations b) in
+    let et : t ≡ false = none-left t (outsideLimits 1000000 (samples b)) e in
+    let er : r ≡ false = none-left r (outsideLimits 1000 (destinations b)) et in
+    let eq : q ≡ false = none-left q (outsideLimits 1000 (origins b)) er in
     record {
-      links-most = within 65535 (links b) (none-left p (outside 65535 (legs b)) eq);
-      legs-most = within 65535 (legs b) (none-right p (outside 65535 (legs b)) eq);
-      origins-most = within 1000 (origins b) (none-right q (outside 1000 (origins b)) er);
-      destinations-most = within 1000 (destinations b) (none-right r (outside 1000 (destinations b)) et);
-      samples-most = within 1000000 (samples b) (none-right t (outside 1000000 (samples b)) e);
+      links-most = within 65535 (links b) (none-left p (outsideLimits 65535 (legs b)) eq);
+      legs-most = within 65535 (legs b) (none-right p (outsideLimits 65535 (legs b)) eq);
+      origins-most = within 1000 (origins b) (none-right q (outsideLimits 1000 (origins b)) er);
+      destinations-most = within 1000 (destinations b) (none-right r (outsideLimits 1000 (destinations b)) et);
+      samples-most = within 1000000 (samples b) (none-right t (outsideLimits 1000000 (samples b)) e);
     }
 
 -- ---- row 4
@@ -84,17 +84,17 @@ module _ (b : List ℕ) (h : row4 b ≡ false) where
 -- ---- row 5
 
 module _ (b : List ℕ) (h : row5 b ≡ false) where
-  named : (i : ℕ) → noLink b i ≡ false → i < links b
+  named : (i : ℕ) → noSuchLink b i ≡ false → i < links b
   named i e = leb-false (links b) i e
 
   abbrev zero-or-links : Bool
   zero-or-links = not (linkZero b) || someBelow (links b) (badLink b)
 
   abbrev some-origin : Bool
-  some-origin = someBelow (origins b) (λ i. noLink b (originLink b i))
+  some-origin = someBelow (origins b) (λ i. noSuchLink b (originLink b i))
 
   abbrev some-destination : Bool
-  some-destination = someBelow (destinations b) (λ i. noLink b (destinationLink b i))
+  some-destination = someBelow (destinations b) (λ i. noSuchLink b (destinationLink b i))
 
   indices : (zero-or-links || some-origin || some-destination) ≡ false
   unfolding row5
@@ -102,12 +102,12 @@ module _ (b : List ℕ) (h : row5 b ≡ false) where
 
   pub destination-named : (i : ℕ) → i < destinations b → destinationLink b i < links b
   destination-named i g =
-      named (destinationLink b i) (none-at (destinations b) (λ i. noLink b (destinationLink b i)) i g (none-right (zero-or-links || some-origin) some-destination indices))
+      named (destinationLink b i) (none-at (destinations b) (λ i. noSuchLink b (destinationLink b i)) i g (none-right (zero-or-links || some-origin) some-destination indices))
 
   pub origin-named : (i : ℕ) → i < origins b → originLink b i < links b
   origin-named i g =
       named (originLink b i)
-      (none-at (origins b) (λ i. noLink b (originLink b i)) i g (none-right zero-or-links some-origin (none-left (zero-or-links || some-origin) some-destination indices)))
+      (none-at (origins b) (λ i. noSuchLink b (originLink b i)) i g (none-right zero-or-links some-origin (none-left (zero-or-links || some-origin) some-destination indices)))
 
   good-link : (l : ℕ) → l < links b → badLink b l ≡ false
   good-link l g =
@@ -115,26 +115,26 @@ module _ (b : List ℕ) (h : row5 b ≡ false) where
       (none-right (not (linkZero b)) (someBelow (links b) (badLink b)) (none-left zero-or-links some-origin (none-left (zero-or-links || some-origin) some-destination indices)))
 
   abbrev nexts : ℕ → Bool
-  nexts l = noLink b (linkNext b l) || noLink b (linkNextAlt b l)
+  nexts l = noSuchLink b (linkNext b l) || noSuchLink b (linkNextAlt b l)
 
-  fours : (l : ℕ) → l < links b → (nexts l || noLink b (linkPrev b l) || noLink b (linkPrevAlt b l)) ≡ false
+  fours : (l : ℕ) → l < links b → (nexts l || noSuchLink b (linkPrev b l) || noSuchLink b (linkPrevAlt b l)) ≡ false
   unfolding badLink
   fours l g =
-      let f = nexts l || noLink b (linkPrev b l) || noLink b (linkPrevAlt b l) in
+      let f = nexts l || noSuchLink b (linkPrev b l) || noSuchLink b (linkPrevAlt b l) in
       let z = ltb 0 l && eqb (linkLength b l) 0 in
       none-left f z (none-left (f || z) (eqb (linkNext b l) (linkNextAlt b l) && ltb 0 (linkNext b l)) (good-link l g))
 
   pub prev-named : (l : ℕ) → l < links b → linkPrev b l < links b
-  prev-named l g = named (linkPrev b l) (none-right (nexts l) (noLink b (linkPrev b l)) (none-left (nexts l || noLink b (linkPrev b l)) (noLink b (linkPrevAlt b l)) (fours l g)))
+  prev-named l g = named (linkPrev b l) (none-right (nexts l) (noSuchLink b (linkPrev b l)) (none-left (nexts l || noSuchLink b (linkPrev b l)) (noSuchLink b (linkPrevAlt b l)) (fours l g)))
 
   pub prev-alt-named : (l : ℕ) → l < links b → linkPrevAlt b l < links b
-  prev-alt-named l g = named (linkPrevAlt b l) (none-right (nexts l || noLink b (linkPrev b l)) (noLink b (linkPrevAlt b l)) (fours l g))
+  prev-alt-named l g = named (linkPrevAlt b l) (none-right (nexts l || noSuchLink b (linkPrev b l)) (noSuchLink b (linkPrevAlt b l)) (fours l g))
 
   pub leg-named : (i : ℕ) → i < legs b → legLink b i < links b
   unfolding row5 badLegIndex
   leg-named i g =
       named (legLink b i)
-      (none-left (noLink b (legLink b i)) (ltb (legs b) (legParent b i))
+      (none-left (noSuchLink b (legLink b i)) (ltb (legs b) (legParent b i))
       (none-at (legs b) (badLegIndex b) i g (none-right (zero-or-links || some-origin || some-destination) (someBelow (legs b) (badLegIndex b)) h)))
 
 -- ---- row 7

@@ -37,19 +37,19 @@ measuredNumber (Whole s) = 0
 
 -- ---- row 3
 
--- a count outside 1 to a limit
-abbrev pub outside : ℕ → ℕ → Bool
-outside limit n = eqb n 0 || ltb limit n
+-- a count outsideLimits 1 to a limit
+abbrev pub outsideLimits : ℕ → ℕ → Bool
+outsideLimits limit n = eqb n 0 || ltb limit n
 
 -- "Counts: links, legs 1 to 65,535; origins, destinations 1 to 1,000; samples 1 to 1,000,000."
 unfoldable pub badCount : List ℕ → Bool
-badCount b = outside 65535 (links b) || outside 65535 (legs b) || outside 1000 (origins b) || outside 1000 (destinations b) || outside 1000000 (samples b)
+badCount b = outsideLimits 65535 (links b) || outsideLimits 65535 (legs b) || outsideLimits 1000 (origins b) || outsideLimits 1000 (destinations b) || outsideLimits 1000000 (samples b)
 
 -- "36,864 + 64 times (links + origins + destinations + legs + table places up to 65,535) bytes"
 unfoldable pub workBytes : List ℕ → ℕ → ℕ
 workBytes b places = 36864 + 64 * (links b + origins b + destinations b + legs b + min places 65535)
 
--- Row 3: count outside its limits; a leg of 0 samples; leg sums differ; work space below what is asked.
+-- Row 3: count outsideLimits its limits; a leg of 0 samples; leg sums differ; work space below what is asked.
 unfoldable pub row3 : List ℕ → ℕ → ℕ → Bool
 unfolding badCount workBytes
 row3 b places bytes =
@@ -84,31 +84,31 @@ row4 b =
 -- ---- row 5: "index names nothing; link 0 not all zero; other link of length 0; next = next alternative, nonzero"
 
 -- no link of the book has this number
-abbrev pub noLink : List ℕ → ℕ → Bool
-noLink b i = leb (links b) i
+abbrev pub noSuchLink : List ℕ → ℕ → Bool
+noSuchLink b i = leb (links b) i
 
 unfoldable pub linkZero : List ℕ → Bool
 linkZero b = eqb (linkLength b 0) 0 && eqb (linkNext b 0) 0 && eqb (linkNextAlt b 0) 0 && eqb (linkPrev b 0) 0 && eqb (linkPrevAlt b 0) 0
 
 unfoldable pub badLink : List ℕ → ℕ → Bool
 badLink b i =
-    noLink b (linkNext b i)
-    || noLink b (linkNextAlt b i)
-    || noLink b (linkPrev b i)
-    || noLink b (linkPrevAlt b i)
+    noSuchLink b (linkNext b i)
+    || noSuchLink b (linkNextAlt b i)
+    || noSuchLink b (linkPrev b i)
+    || noSuchLink b (linkPrevAlt b i)
     || (ltb 0 i && eqb (linkLength b i) 0)
     || (eqb (linkNext b i) (linkNextAlt b i) && ltb 0 (linkNext b i))
 
 unfoldable pub badLegIndex : List ℕ → ℕ → Bool
-badLegIndex b i = noLink b (legLink b i) || ltb (legs b) (legParent b i)
+badLegIndex b i = noSuchLink b (legLink b i) || ltb (legs b) (legParent b i)
 
 unfoldable pub row5 : List ℕ → Bool
 unfolding linkZero badLink badLegIndex
 row5 b =
     not (linkZero b)
     || someBelow (links b) (badLink b)
-    || someBelow (origins b) (λ i. noLink b (originLink b i))
-    || someBelow (destinations b) (λ i. noLink b (destinationLink b i))
+    || someBelow (origins b) (λ i. noSuchLink b (originLink b i))
+    || someBelow (destinations b) (λ i. noSuchLink b (destinationLink b i))
     || someBelow (legs b) (badLegIndex b)
 
 -- ---- row 6: "origin offset nonzero, front flag 1, or link repeated"

@@ -12,7 +12,7 @@ use Rattle.fields.proofs.Below.{none-left, none-right, none-at, sum-more, sum-p
 use Rattle.book_format.specs.declared.Sections.{Sections}
 use Rattle.book_format.specs.declared.Leg.{Leg}
 use Rattle.book_format.specs.Format.{Sized, links, origins, legs, destinations, samples, legLink, legParent, legSamples, firstSample, legAt}
-use Rattle.book_format.specs.Rows.{outside, badCount, badLeg, begins, legBegins, legFalls, sameSample, falls}
+use Rattle.book_format.specs.Rows.{outsideLimits, badCount, badLeg, begins, legBegins, legFalls, sameSample, falls}
 use Rattle.book_format.specs.Chains.{Counted, Readable}
 use Rattle.book_format.proofs.Given.{limits, leg-above, leg-parent, leg-samples}
 use Rattle.book_format.proofs.Places.{sized-legs}

@@ -9,8 +9,8 @@ use lib.Dec.{eqb}
 use lib.ListN.{length, getD}
 use Rattle.fields.specs.Below.{someBelow}
 use Rattle.book_format.specs.Format.{links, destinations, destinationLink}
-use Rattle.book_options.specs.Options.{Search, member, search, optionsOf, inSet, keptOrigins, none, row8, linkOptions, Marked}
-use Rattle.book_options.specs.Turns.{stackAt, outside, Walking}
+use Rattle.book_options.specs.Options.{Search, member, search, optionsOf, inSet, keptOrigins, none, row8, linkOptions, OptionsIn}
+use Rattle.book_options.specs.Turns.{stackAt, outsideSet, Walking}
 use Rattle.book_options.specs.declared.Walk.{Walk}
 use Rattle.book_options.specs.declared.LinkOptions.the-variants.{Kept, NoPath}
 use Rattle.book_options.proofs.Walks.{search-empty}
@@ -30,16 +30,16 @@ module _ {b m : List ℕ} {w : Walk} (v : Walking b m w) (h : w .top ≡ 0) wher
   unfolding inSet
   found-set l = ap (λ (s : Search). member l (s .set)) found
 
-  pub walk-marked : Marked b m
-  unfolding outside
+  pub walk-marked : OptionsIn b m
+  unfolding outsideSet
   walk-marked = record { set = λ l g. marked l g (member l (v .set)) refl; kept = λ k g. kept k (subst (λ (s : List ℕ). k < length s) found-kept g) }
     where
       marked : (l : ℕ) → l < links b → (t : Bool) → member l (v .set) ≡ t → eqb (getD m l 0 % 2) 1 ≡ inSet b l
       marked l g true e =
-          let a : outside (v .set) l ≡ 0 = ap (λ (t : Bool). cond t 0 1) e in
+          let a : outsideSet (v .set) l ≡ 0 = ap (λ (t : Bool). cond t 0 1) e in
           eq-eqb (getD m l 0 % 2) 1 (omega (arith, v .holds .marks l g)) ∙ sym (found-set l ∙ e)
       marked l g false e =
-          let a : outside (v .set) l ≡ 1 = ap (λ (t : Bool). cond t 0 1) e in
+          let a : outsideSet (v .set) l ≡ 1 = ap (λ (t : Bool). cond t 0 1) e in
           ne-eqb (getD m l 0 % 2) 1 (λ (o : getD m l 0 % 2 ≡ 1). omega (arith, v .holds .marks l g)) ∙ sym (found-set l ∙ e)
 
       kept : (k : ℕ) → k < length (v .kept) → getD m (2 * links b + destinations b + k) 0 ≡ getD (keptOrigins b) k 0
@@ -75,6 +75,6 @@ pub zero-refused : (b : List ℕ) → someBelow (destinations b) (λ i. eqb (des
 unfolding row8
 zero-refused b h = ap (λ (t : Bool). t || none (keptOrigins b)) h
 
-pub refused : (b m : List ℕ) → row8 b ≡ true → (NoPath ≡ linkOptions b) × (row8 b ≡ false → Marked b m)
+pub refused : (b m : List ℕ) → row8 b ≡ true → (NoPath ≡ linkOptions b) × (row8 b ≡ false → OptionsIn b m)
 unfolding linkOptions
 refused b m h = (rw h, λ e. absurd (true≢false (sym h ∙ e)))

@@ -10,7 +10,7 @@ use lib.ListN.{length, getD, length-append, List·getD-append}
 use lib.Seq.{getD-at}
 use Rattle.book_format.specs.Format.{origins, destinations, links, originLink}
 use Rattle.book_options.specs.Options.{member, originBelow, stacked, enter, search, optionsOf, keptOrigins}
-use Rattle.book_options.specs.Turns.{outside, unmet}
+use Rattle.book_options.specs.Turns.{outsideSet, unmet}
 use Rattle.book_options.proofs.Laws.{either, is-outside}
 use Rattle.book_options.proofs.Starts.{outside-empty, sum-ones}
 use Rattle.book_options.proofs.Walks.{origin-is, unmet-less, unmet-falls}
@@ -51,7 +51,7 @@ rows-found b =
     rows-search (destinations b + 2 * links b) b (stacked b (destinations b)) [] []
     (record {
       named = λ k h. absurd (not-suc-le-zero h);
-      most = omega (arith, sum-ones (origins b) (λ i. outside [] (originLink b i)) (λ i. outside-empty (originLink b i)));
+      most = omega (arith, sum-ones (origins b) (λ i. outsideSet [] (originLink b i)) (λ i. outside-empty (originLink b i)));
     })
 
 pub kept-named : (b : List ℕ) (k : ℕ) → k < length (keptOrigins b) → getD (keptOrigins b) k 0 < origins b

@@ -14,7 +14,7 @@ use lib.Seq.{getD-set-same, getD-set-other, getD-at}
 use Rattle.fields.specs.Below.{sumBelow}
 use Rattle.book_format.specs.Format.{links, origins, destinations}
 use Rattle.book_options.specs.Options.{member, originBelow}
-use Rattle.book_options.specs.Turns.{stackAt, outside, even, Holds}
+use Rattle.book_options.specs.Turns.{stackAt, outsideSet, even, SearchIn}
 
 pub either : (a b : ℕ) → (a ≡ b) ⊎ (a ≡ b → ⊥)
 either a b = go (eqb a b) refl
@@ -25,47 +25,47 @@ either a b = go (eqb a b) refl
 
 -- ---- the set
 
-pub outside-itself : (l : ℕ) (s : List ℕ) → outside (l ∷ s) l ≡ 0
-unfolding outside member
+pub outside-itself : (l : ℕ) (s : List ℕ) → outsideSet (l ∷ s) l ≡ 0
+unfolding outsideSet member
 outside-itself l s = ap (λ (t : Bool). cond (t || member l s) 0 1) (eq-eqb l l refl)
 
-pub outside-other : (l x : ℕ) (s : List ℕ) → (x ≡ l → ⊥) → outside (l ∷ s) x ≡ outside s x
-unfolding outside member
+pub outside-other : (l x : ℕ) (s : List ℕ) → (x ≡ l → ⊥) → outsideSet (l ∷ s) x ≡ outsideSet s x
+unfolding outsideSet member
 outside-other l x s h = ap (λ (t : Bool). cond (t || member x s) 0 1) (ne-eqb x l h)
 
-pub outside-most : (l : ℕ) (s : List ℕ) → outside s l ≤ 1
-unfolding outside
+pub outside-most : (l : ℕ) (s : List ℕ) → outsideSet s l ≤ 1
+unfolding outsideSet
 outside-most l s = go (member l s)
   where
     go : (t : Bool) → cond t 0 1 ≤ 1
     go true = omega arith
     go false = omega arith
 
-pub outside-less : (l x : ℕ) (s : List ℕ) → outside (l ∷ s) x ≤ outside s x
+pub outside-less : (l x : ℕ) (s : List ℕ) → outsideSet (l ∷ s) x ≤ outsideSet s x
 outside-less l x s = go (either x l)
   where
-    go : (x ≡ l) ⊎ (x ≡ l → ⊥) → outside (l ∷ s) x ≤ outside s x
-    go (inl e) = subst (λ (y : ℕ). outside (l ∷ s) y ≤ outside s y) (sym e) (omega (arith, outside-itself l s))
+    go : (x ≡ l) ⊎ (x ≡ l → ⊥) → outsideSet (l ∷ s) x ≤ outsideSet s x
+    go (inl e) = subst (λ (y : ℕ). outsideSet (l ∷ s) y ≤ outsideSet s y) (sym e) (omega (arith, outside-itself l s))
     go (inr d) = omega (arith, outside-other l x s d)
 
-pub in-set : (l : ℕ) (s : List ℕ) → outside s l ≡ 0 → member l s ≡ true
-unfolding outside
+pub in-set : (l : ℕ) (s : List ℕ) → outsideSet s l ≡ 0 → member l s ≡ true
+unfolding outsideSet
 in-set l s h = go (member l s) h
   where
     go : (t : Bool) → _≡_ {A = ℕ} (cond t 0 1) 0 → t ≡ true
     go true e = refl
     go false e = absurd (omega arith)
 
-pub not-in-set : (l : ℕ) (s : List ℕ) → outside s l ≡ 1 → member l s ≡ false
-unfolding outside
+pub not-in-set : (l : ℕ) (s : List ℕ) → outsideSet s l ≡ 1 → member l s ≡ false
+unfolding outsideSet
 not-in-set l s h = go (member l s) h
   where
     go : (t : Bool) → _≡_ {A = ℕ} (cond t 0 1) 1 → t ≡ false
     go true e = absurd (omega arith)
     go false e = refl
 
-pub is-outside : (l : ℕ) (s : List ℕ) → member l s ≡ false → outside s l ≡ 1
-unfolding outside
+pub is-outside : (l : ℕ) (s : List ℕ) → member l s ≡ false → outsideSet s l ≡ 1
+unfolding outsideSet
 is-outside l s h = ap (λ (t : Bool). cond t 0 1) h
 
 -- ---- sums
@@ -126,16 +126,16 @@ stack-pushed m at n i x e h =
     let s : getD (set m i x) (at + n) 0 ≡ x = stored-at m i (at + n) x (sym e) h in
     stack-one (set m i x) at n ∙ cc
 
-module _ {b m : List ℕ} {top n : ℕ} {s kept : List ℕ} (v : Holds b m top n s kept) where
-  pub holds-fewer : (t : ℕ) → t ≤ top → Holds b m t n s kept
+module _ {b m : List ℕ} {top n : ℕ} {s kept : List ℕ} (v : SearchIn b m top n s kept) where
+  pub holds-fewer : (t : ℕ) → t ≤ top → SearchIn b m t n s kept
   holds-fewer t h = record { within = λ i l. v .within i (omega arith); marks = v .marks; many = v .many; rows = v .rows }
 
-  -- an even mark is a link's outside the set, and twice its origin's number
-  pub mark-even : (l : ℕ) → l < links b → even m l ≡ outside s l
+  -- an even mark is a link's outsideSet the set, and twice its origin's number
+  pub mark-even : (l : ℕ) → l < links b → even m l ≡ outsideSet s l
   unfolding even
   mark-even l h = omega (arith, v .marks l h, outside-most l s)
 
-  pub holds-enter : (l x : ℕ) → l < links b → l < length m → outside s l ≡ 1 → x ≡ getD m l 0 + 1 → Holds b (set m l x) top n (l ∷ s) kept
+  pub holds-enter : (l x : ℕ) → l < links b → l < length m → outsideSet s l ≡ 1 → x ≡ getD m l 0 + 1 → SearchIn b (set m l x) top n (l ∷ s) kept
   holds-enter l x h r o e = record {
     within = λ i g. subst (λ (k : ℕ). k < links b) (sym (kept-at m l (links b + i) x (λ (d : links b + i ≡ l). omega arith))) (v .within i g);
     marks = λ k g. entered k g (either k l);
@@ -143,16 +143,16 @@ module _ {b m : List ℕ} {top n : ℕ} {s kept : List ℕ} (v : Holds b m top n
     rows = λ k g. kept-at m l (2 * links b + destinations b + k) x (λ (d : 2 * links b + destinations b + k ≡ l). omega arith) ∙ v .rows k g;
   }
     where
-      entered : (k : ℕ) → k < links b → (k ≡ l) ⊎ (k ≡ l → ⊥) → getD (set m l x) k 0 + outside (l ∷ s) k ≡ 2 * originBelow b (origins b) k + 1
+      entered : (k : ℕ) → k < links b → (k ≡ l) ⊎ (k ≡ l → ⊥) → getD (set m l x) k 0 + outsideSet (l ∷ s) k ≡ 2 * originBelow b (origins b) k + 1
       entered k g (inl d) =
-          subst (λ (y : ℕ). getD (set m l x) y 0 + outside (l ∷ s) y ≡ 2 * originBelow b (origins b) y + 1) (sym d)
+          subst (λ (y : ℕ). getD (set m l x) y 0 + outsideSet (l ∷ s) y ≡ 2 * originBelow b (origins b) y + 1) (sym d)
           (omega (arith, stored-at m l l x refl r, outside-itself l s, v .marks l h))
       entered k g (inr d) = omega (arith, kept-at m l k x d, outside-other l k s d, v .marks k g)
 
-  pub holds-push : (i x : ℕ) → i ≡ links b + top → i < length m → top < links b + destinations b → x < links b → Holds b (set m i x) (top + 1) n s kept
+  pub holds-push : (i x : ℕ) → i ≡ links b + top → i < length m → top < links b + destinations b → x < links b → SearchIn b (set m i x) (top + 1) n s kept
   holds-push i x e r h g = record {
     within = λ k l. pushed k l (either k top);
-    marks = λ l d. ap (λ (y : ℕ). y + outside s l) (kept-at m i l x (λ (f : l ≡ i). omega arith)) ∙ v .marks l d;
+    marks = λ l d. ap (λ (y : ℕ). y + outsideSet s l) (kept-at m i l x (λ (f : l ≡ i). omega arith)) ∙ v .marks l d;
     many = v .many;
     rows = λ k l. kept-at m i (2 * links b + destinations b + k) x (λ (d : 2 * links b + destinations b + k ≡ i). omega arith) ∙ v .rows k l;
   }
@@ -164,10 +164,10 @@ module _ {b m : List ℕ} {top n : ℕ} {s kept : List ℕ} (v : Holds b m top n
           let o : links b + k ≡ i → ⊥ = λ (c : links b + k ≡ i). omega arith in
           omega (arith, kept-at m i (links b + k) x o, v .within k f)
 
-  pub holds-keep : (i x : ℕ) → i ≡ 2 * links b + destinations b + n → i < length m → top ≤ links b + destinations b → Holds b (set m i x) top (n + 1) s (kept ++ (x ∷ []))
+  pub holds-keep : (i x : ℕ) → i ≡ 2 * links b + destinations b + n → i < length m → top ≤ links b + destinations b → SearchIn b (set m i x) top (n + 1) s (kept ++ (x ∷ []))
   holds-keep i x e r h = record {
     within = λ k l. subst (λ (y : ℕ). y < links b) (sym (kept-at m i (links b + k) x (λ (d : links b + k ≡ i). omega arith))) (v .within k l);
-    marks = λ l d. ap (λ (y : ℕ). y + outside s l) (kept-at m i l x (λ (f : l ≡ i). omega arith)) ∙ v .marks l d;
+    marks = λ l d. ap (λ (y : ℕ). y + outsideSet s l) (kept-at m i l x (λ (f : l ≡ i). omega arith)) ∙ v .marks l d;
     many = ap (λ (y : ℕ). y + 1) (v .many) ∙ sym (length-append kept (x ∷ []));
     rows = λ k l. row k l (either k n);
   }

@@ -16,13 +16,13 @@ use Rattle.space.specs.Space.{zeros}
 use Rattle.book_format.specs.Format.{links, origins, destinations, originLink, destinationLink}
 use Rattle.book_format.specs.Rows.{row5}
 use Rattle.book_options.specs.Options.{member, originBelow, stacked, search, optionsOf}
-use Rattle.book_options.specs.Turns.{Pushed, Numbered, stackAt, outside, unseen, unmet, Walking}
+use Rattle.book_options.specs.Turns.{DestinationsStacked, Numbered, stackAt, outsideSet, unseenLinks, unmet, Walking}
 use Rattle.book_format.proofs.Given.{destination-named}
 use Rattle.book_options.proofs.Laws.{either, kept-at, stored-at}
 
 -- ---- the destinations
 
-pub pushed-none : (b m : List ℕ) → links b ≤ length m → m ≡ zeros (length m) → Pushed b 0 m
+pub pushed-none : (b m : List ℕ) → links b ≤ length m → m ≡ zeros (length m) → DestinationsStacked b 0 m
 unfolding someBelow zeros
 pushed-none b m h e = record {
   real = refl;
@@ -30,7 +30,7 @@ pushed-none b m h e = record {
   blank = λ l g. ap (λ (x : List ℕ). getD x l 0) e ∙ getD-replicate (length m) l 0 0 (omega arith);
 }
 
-pub pushed-more : {b m : List ℕ} {n : ℕ} → Pushed b n m → (i x : ℕ) → x ≡ destinationLink b n → (x ≡ 0 → ⊥) → i ≡ links b + n → i < length m → Pushed b (n + 1) (set m i x)
+pub pushed-more : {b m : List ℕ} {n : ℕ} → DestinationsStacked b n m → (i x : ℕ) → x ≡ destinationLink b n → (x ≡ 0 → ⊥) → i ≡ links b + n → i < length m → DestinationsStacked b (n + 1) (set m i x)
 pushed-more {b} {m} {n} p i x e z d h = record {
   real = none-more n (λ j. eqb (destinationLink b j) 0) (p .real) (ne-eqb (destinationLink b n) 0 (λ (o : destinationLink b n ≡ 0). z (e ∙ o)));
   stack = λ k l. pushed k l (either k n);
@@ -67,8 +67,8 @@ numbered-more {b} {d} {m} {n} v l x e f h r = record {
 
 -- ---- the search's first state
 
-pub outside-empty : (l : ℕ) → outside [] l ≡ 1
-unfolding outside member
+pub outside-empty : (l : ℕ) → outsideSet [] l ≡ 1
+unfolding outsideSet member
 outside-empty l = refl
 
 pub sum-ones : (n : ℕ) (f : ℕ → ℕ) → ((i : ℕ) → f i ≡ 1) → sumBelow n f ≡ n
@@ -84,12 +84,12 @@ start-stack b m (suc n) h =
     let e : getD m (links b + n) 0 ≡ destinationLink b n = h n (omega arith) in
     cc
 
-pub walk-start : {b d m : List ℕ} → row5 b ≡ false → Pushed b (destinations b) d → Numbered b (origins b) d m → Walking b m (record { top = destinations b; kept = 0 })
-unfolding optionsOf unseen unmet
+pub walk-start : {b d m : List ℕ} → row5 b ≡ false → DestinationsStacked b (destinations b) d → Numbered b (origins b) d m → Walking b m (record { top = destinations b; kept = 0 })
+unfolding optionsOf unseenLinks unmet
 walk-start {b} {d} {m} h p n =
     let stack : (i : ℕ) → i < destinations b → getD m (links b + i) 0 ≡ destinationLink b i = λ i l. n .rest (links b + i) (omega arith) ∙ p .stack i l in
-    let u : unseen b [] ≡ links b = sum-ones (links b) (outside []) outside-empty in
-    let t : unmet b [] ≡ origins b = sum-ones (origins b) (λ i. outside [] (originLink b i)) (λ i. outside-empty (originLink b i)) in
+    let u : unseenLinks b [] ≡ links b = sum-ones (links b) (outsideSet []) outside-empty in
+    let t : unmet b [] ≡ origins b = sum-ones (origins b) (λ i. outsideSet [] (originLink b i)) (λ i. outside-empty (originLink b i)) in
     record {
       left = destinations b + 2 * links b;
       set = [];

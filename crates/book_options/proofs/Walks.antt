@@ -10,7 +10,7 @@ use lib.ListN.{length, getD, set, length-set}
 use Rattle.book_format.specs.Format.{links, origins, destinations, linkPrev, linkPrevAlt, originLink}
 use Rattle.book_format.specs.Rows.{row5}
 use Rattle.book_options.specs.Options.{member, originBelow, pushed, enter, search, optionsOf}
-use Rattle.book_options.specs.Turns.{stackAt, outside, Holds, unseen, unmet, Walking, even, popsLeft, Turned}
+use Rattle.book_options.specs.Turns.{stackAt, outsideSet, SearchIn, unseenLinks, unmet, Walking, even, popsLeft, SearchTurned}
 use Rattle.book_options.specs.declared.Walk.{Walk}
 use Rattle.book_format.proofs.Given.{prev-named, prev-alt-named}
 use Rattle.book_options.proofs.Laws.{outside-itself, outside-most, outside-less, in-set, not-in-set, sum-same, sum-most, sum-falls, stack-one, stack-pushed, stack-same, kept-at, mark-even, holds-fewer, holds-enter, holds-push, holds-keep}
@@ -61,20 +61,20 @@ record Going (b m : List ℕ) (top n more bound : ℕ) (stack : List ℕ) : Type
   set : List ℕ
   kept : List ℕ
   answer : search left b stack set kept ≡ optionsOf b
-  holds : Holds b m top n set kept
-  pops : top + more + 2 * unseen b set ≤ left
-  room : top + more + unseen b set ≤ links b + destinations b
+  holds : SearchIn b m top n set kept
+  pops : top + more + 2 * unseenLinks b set ≤ left
+  room : top + more + unseenLinks b set ≤ links b + destinations b
   some : n + unmet b set ≤ origins b
-  falls : top + more + 2 * unseen b set < bound
+  falls : top + more + 2 * unseenLinks b set < bound
 
 -- by the marks as by the set
-pops-left : (b m : List ℕ) (w : Walk) (s kept : List ℕ) → Holds b m (w .top) (w .kept) s kept → popsLeft b m w ≡ w .top + 2 * unseen b s
-unfolding popsLeft unseen
-pops-left b m w s kept v = ap (λ (x : ℕ). w .top + 2 * x) (sum-same (links b) (even m) (outside s) (mark-even v))
+pops-left : (b m : List ℕ) (w : Walk) (s kept : List ℕ) → SearchIn b m (w .top) (w .kept) s kept → popsLeft b m w ≡ w .top + 2 * unseenLinks b s
+unfolding popsLeft unseenLinks
+pops-left b m w s kept v = ap (λ (x : ℕ). w .top + 2 * x) (sum-same (links b) (even m) (outsideSet s) (mark-even v))
 
 -- the marks' stack is the search's
 going-done : {b m d : List ℕ} {top n more : ℕ} {w : Walk} {stack : List ℕ} → Going b m top n more (popsLeft b d w) stack → stackAt m (links b) top ≡ stack
-    → Turned b d w m (record { top = top; kept = n })
+    → SearchTurned b d w m (record { top = top; kept = n })
 going-done {b} {m} {d} {top} {n} {more} {w} {stack} g e =
     let p = g .pops in
     let r = g .room in
@@ -122,20 +122,20 @@ origin-is b (suc n) l o h = go (eqb (originLink b n) l) refl h (origin-is b n l 
     go true e f ih = let d : o ≡ n = omega arith in (omega arith, ap (originLink b) d ∙ eqb-true (originLink b n) l e)
     go false e f ih = let r = ih f in (omega (arith, r .0), r .1)
 
-module _ (b : List ℕ) (l : ℕ) (s : List ℕ) (h : outside s l ≡ 1) where
-  unseen-falls : l < links b → unseen b (l ∷ s) < unseen b s
-  unfolding unseen
-  unseen-falls g = sum-falls (links b) (outside (l ∷ s)) (outside s) l (λ i. outside-less l i s) g (omega (arith, outside-itself l s))
+module _ (b : List ℕ) (l : ℕ) (s : List ℕ) (h : outsideSet s l ≡ 1) where
+  unseen-falls : l < links b → unseenLinks b (l ∷ s) < unseenLinks b s
+  unfolding unseenLinks
+  unseen-falls g = sum-falls (links b) (outsideSet (l ∷ s)) (outsideSet s) l (λ i. outside-less l i s) g (omega (arith, outside-itself l s))
 
   pub unmet-less : unmet b (l ∷ s) ≤ unmet b s
   unfolding unmet
-  unmet-less = sum-most (origins b) (λ i. outside (l ∷ s) (originLink b i)) (λ i. outside s (originLink b i)) (λ i. outside-less l (originLink b i) s)
+  unmet-less = sum-most (origins b) (λ i. outsideSet (l ∷ s) (originLink b i)) (λ i. outsideSet s (originLink b i)) (λ i. outside-less l (originLink b i) s)
 
   pub unmet-falls : (o : ℕ) → o < origins b → originLink b o ≡ l → unmet b (l ∷ s) < unmet b s
   unfolding unmet
   unmet-falls o g e =
-      sum-falls (origins b) (λ i. outside (l ∷ s) (originLink b i)) (λ i. outside s (originLink b i)) o (λ i. outside-less l (originLink b i) s) g
-      (subst (λ (x : ℕ). outside (l ∷ s) x < outside s x) (sym e) (omega (arith, outside-itself l s)))
+      sum-falls (origins b) (λ i. outsideSet (l ∷ s) (originLink b i)) (λ i. outsideSet s (originLink b i)) o (λ i. outside-less l (originLink b i) s) g
+      (subst (λ (x : ℕ). outsideSet (l ∷ s) x < outsideSet s x) (sym e) (omega (arith, outside-itself l s)))
 
 module _ {b m : List ℕ} {w : Walk} (v : Walking b m w) (h : 0 < w .top) (l : ℕ) (e : l ≡ getD m (links b + (w .top - 1)) 0) where
   pub popped-link : l < links b
@@ -152,16 +152,16 @@ module _ {b m : List ℕ} {w : Walk} (v : Walking b m w) (h : 0 < w .top) (l : �
       ∙ ap (λ (x : List ℕ). search (v .left) b x (v .set) (v .kept)) d
       ∙ v .answer
 
-  bound : popsLeft b m w ≡ w .top + 2 * unseen b (v .set)
+  bound : popsLeft b m w ≡ w .top + 2 * unseenLinks b (v .set)
   bound = pops-left b m w (v .set) (v .kept) (v .holds)
 
   -- the link is in the set
-  pub turn-seen : getD m l 0 % 2 ≡ 1 → Turned b m w m (record { top = w .top - 1; kept = w .kept })
+  pub turn-seen : getD m l 0 % 2 ≡ 1 → SearchTurned b m w m (record { top = w .top - 1; kept = w .kept })
   turn-seen g =
       let p = v .pops in
       let r = v .room in
       let a = v .holds .marks l popped-link in
-      let z : outside (v .set) l ≡ 0 = omega (arith, outside-most l (v .set)) in
+      let z : outsideSet (v .set) l ≡ 0 = omega (arith, outside-most l (v .set)) in
       let go : Going b m (w .top - 1) (w .kept) 0 (popsLeft b m w) (stackAt m (links b) (w .top - 1)) = record {
         left = v .left - 1;
         set = v .set;
@@ -177,7 +177,7 @@ module _ {b m : List ℕ} {w : Walk} (v : Walking b m w) (h : 0 < w .top) (l : �
 
   -- the link enters the set
   module _ (g : getD m l 0 % 2 ≡ 1 → ⊥) where
-    new : outside (v .set) l ≡ 1
+    new : outsideSet (v .set) l ≡ 1
     new = omega (arith, v .holds .marks l popped-link, outside-most l (v .set))
 
     origin : getD m l 0 ≡ 2 * originBelow b (origins b) l
@@ -199,12 +199,12 @@ module _ {b m : List ℕ} {w : Walk} (v : Walking b m w) (h : 0 < w .top) (l : �
     same-stack : stackAt (set m l x) (links b) (w .top - 1) ≡ stackAt m (links b) (w .top - 1)
     same-stack = stack-same m (set m l x) (links b) (w .top - 1) (λ i j. kept-at m l (links b + i) x (λ (f : links b + i ≡ l). omega (arith, popped-link)))
 
-    held : Holds b (set m l x) (w .top - 1) (w .kept) (l ∷ v .set) (v .kept)
+    held : SearchIn b (set m l x) (w .top - 1) (w .kept) (l ∷ v .set) (v .kept)
     held = holds-enter (holds-fewer (v .holds) (w .top - 1) (omega arith)) l x popped-link (omega (arith, popped-link)) (new g) d
 
     -- its origin is kept
     pub turn-kept : (getD m l 0 ≡ 0 → ⊥) → (i o : ℕ) → i ≡ 2 * links b + destinations b + w .kept → i < length m → o ≡ getD m l 0 / 2 - 1
-        → Turned b m w (set (set m l x) i o) (record { top = w .top - 1; kept = w .kept + 1 })
+        → SearchTurned b m w (set (set m l x) i o) (record { top = w .top - 1; kept = w .kept + 1 })
     turn-kept z i o f j y =
         let p = v .pops in
         let q = v .room in
@@ -248,7 +248,7 @@ module _ {b m : List ℕ} {w : Walk} (v : Walking b m w) (h : 0 < w .top) (l : �
             falls = omega (arith, bound);
           }
 
-      pub turn-first : linkPrev b l ≡ 0 → Turned b m w (set m l x) (record { top = w .top - 1; kept = w .kept })
+      pub turn-first : linkPrev b l ≡ 0 → SearchTurned b m w (set m l x) (record { top = w .top - 1; kept = w .kept })
       turn-first n = going-done entered (same-stack ∙ sym (pushed-none b l (stackAt m (links b) (w .top - 1)) n))
 
       module _ (p : ℕ) (n : p ≡ linkPrev b l) (f : p ≡ 0 → ⊥) (c : row5 b ≡ false) (i : ℕ) (j : i ≡ links b + (w .top - 1)) (k : i < length m) where
@@ -267,16 +267,16 @@ module _ {b m : List ℕ} {w : Walk} (v : Walking b m w) (h : 0 < w .top) (l : �
         real : linkPrev b l ≡ 0 → ⊥
         real y = f (n ∙ y)
 
-        pub turn-one : linkPrevAlt b l ≡ 0 → Turned b m w (set (set m l x) i p) (record { top = w .top - 1 + 1; kept = w .kept })
+        pub turn-one : linkPrevAlt b l ≡ 0 → SearchTurned b m w (set (set m l x) i p) (record { top = w .top - 1 + 1; kept = w .kept })
         turn-one q = going-done one (one-stack ∙ sym (pushed-one b l (stackAt m (links b) (w .top - 1)) real q))
 
         pub turn-two : (a : ℕ) → a ≡ linkPrevAlt b l → (a ≡ 0 → ⊥) → i + 1 < length m
-            → Turned b m w (set (set (set m l x) i p) (i + 1) a) (record { top = w .top - 1 + 2; kept = w .kept })
+            → SearchTurned b m w (set (set (set m l x) i p) (i + 1) a) (record { top = w .top - 1 + 2; kept = w .kept })
         turn-two a y z q =
             let u : i + 1 < length (set (set m l x) i p) = omega (arith, length-set (set m l x) i p, length-set m l x) in
             let t : w .top - 1 + 1 + 1 ≡ w .top - 1 + 2 = omega arith in
             let go = going-push 0 (i + 1) a one (omega arith) u (subst (λ (o : ℕ). o < links b) (sym y) (prev-alt-named b c l popped-link)) in
-            subst (λ (o : ℕ). Turned b m w (set (set (set m l x) i p) (i + 1) a) (record { top = o; kept = w .kept })) t
+            subst (λ (o : ℕ). SearchTurned b m w (set (set (set m l x) i p) (i + 1) a) (record { top = o; kept = w .kept })) t
             (going-done go
             (stack-pushed (set (set m l x) i p) (links b) (w .top - 1 + 1) (i + 1) a (omega arith) u
             ∙ ap (λ (o : List ℕ). a ∷ o) one-stack

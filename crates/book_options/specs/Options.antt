@@ -90,6 +90,6 @@ optionsNumber (Kept n) = 0
 
 -- What the marks then say. Each link has one mark, which is odd for a link of the set; the kept origins' rows stand behind the links' marks and the stack,
 -- which has room for destinations + links.
-pub record Marked (b marks : List ℕ) : Type 0 where
+pub record OptionsIn (b marks : List ℕ) : Type 0 where
   pub set : (l : ℕ) → l < links b → eqb (getD marks l 0 % 2) 1 ≡ inSet b l
   pub kept : (k : ℕ) → k < length (keptOrigins b) → getD marks (2 * links b + destinations b + k) 0 ≡ getD (keptOrigins b) k 0

@@ -11,7 +11,7 @@ use Rattle.book_options.specs.Options.{member, originBelow, search, opti
 use Rattle.book_options.specs.declared.Walk.{Walk}
 
 -- The first n destinations stand behind the links' marks, which are still 0; none of them is link 0.
-pub record Pushed (b : List ℕ) (n : ℕ) (m : List ℕ) : Type 0 where
+pub record DestinationsStacked (b : List ℕ) (n : ℕ) (m : List ℕ) : Type 0 where
   pub real : someBelow n (λ i. eqb (destinationLink b i) 0) ≡ false
   pub stack : (i : ℕ) → i < n → getD m (links b + i) 0 ≡ destinationLink b i
   pub blank : (l : ℕ) → l < links b → getD m l 0 ≡ 0
@@ -26,37 +26,37 @@ unfoldable pub stackAt : List ℕ → ℕ → ℕ → List ℕ
 stackAt m at zero = []
 stackAt m at (suc n) = getD m (at + n) 0 ∷ stackAt m at n
 
--- 1 for a link outside the set
-unfoldable pub outside : List ℕ → ℕ → ℕ
-outside set l = cond (member l set) 0 1
+-- 1 for a link outsideSet the set
+unfoldable pub outsideSet : List ℕ → ℕ → ℕ
+outsideSet set l = cond (member l set) 0 1
 
 -- The marks hold a stack of `top` links, this set, and the rows of n kept origins.
-pub record Holds (b m : List ℕ) (top n : ℕ) (set kept : List ℕ) : Type 0 where
+pub record SearchIn (b m : List ℕ) (top n : ℕ) (set kept : List ℕ) : Type 0 where
   pub within : (i : ℕ) → i < top → getD m (links b + i) 0 < links b
-  pub marks : (l : ℕ) → l < links b → getD m l 0 + outside set l ≡ 2 * originBelow b (origins b) l + 1
+  pub marks : (l : ℕ) → l < links b → getD m l 0 + outsideSet set l ≡ 2 * originBelow b (origins b) l + 1
   pub many : n ≡ length kept
   pub rows : (k : ℕ) → k < n → getD m (2 * links b + destinations b + k) 0 ≡ getD kept k 0
 
 -- how many links are not in the set
-unfoldable pub unseen : List ℕ → List ℕ → ℕ
-unfolding outside
-unseen b set = sumBelow (links b) (outside set)
+unfoldable pub unseenLinks : List ℕ → List ℕ → ℕ
+unfolding outsideSet
+unseenLinks b set = sumBelow (links b) (outsideSet set)
 
 -- how many origins' links are not in the set
 unfoldable pub unmet : List ℕ → List ℕ → ℕ
-unfolding outside
-unmet b set = sumBelow (origins b) (λ i. outside set (originLink b i))
+unfolding outsideSet
+unmet b set = sumBelow (origins b) (λ i. outsideSet set (originLink b i))
 
--- The search goes on from a state that the marks hold, with pops enough for the stack and for what the unseen links can push, with room for these,
+-- The search goes on from a state that the marks hold, with pops enough for the stack and for what the unseenLinks links can push, with room for these,
 -- and room for the origins that are not met yet.
 pub record Walking (b m : List ℕ) (w : Walk) : Type 0 where
   pub left : ℕ
   pub set : List ℕ
   pub kept : List ℕ
   pub answer : search left b (stackAt m (links b) (w .top)) set kept ≡ optionsOf b
-  pub holds : Holds b m (w .top) (w .kept) set kept
-  pub pops : w .top + 2 * unseen b set ≤ left
-  pub room : w .top + unseen b set ≤ links b + destinations b
+  pub holds : SearchIn b m (w .top) (w .kept) set kept
+  pub pops : w .top + 2 * unseenLinks b set ≤ left
+  pub room : w .top + unseenLinks b set ≤ links b + destinations b
   pub some : w .kept + unmet b set ≤ origins b
 
 -- 1 for an even mark
@@ -69,6 +69,6 @@ unfolding even
 popsLeft b m w = w .top + 2 * sumBelow (links b) (even m)
 
 -- a turn of the search
-pub record Turned (b m : List ℕ) (w : Walk) (m′ : List ℕ) (w′ : Walk) : Type 0 where
+pub record SearchTurned (b m : List ℕ) (w : Walk) (m′ : List ℕ) (w′ : Walk) : Type 0 where
   pub walking : Walking b m′ w′
   pub falls : popsLeft b m′ w′ < popsLeft b m w

@@ -9,8 +9,8 @@ ghost use Rattle.fields.specs.Below.{someBelow};
 ghost use Rattle.space.specs.Space.{zeros};
 ghost use Rattle.book_format.specs.Format.{Sized, links, origins, destinations, destinationLink};
 ghost use Rattle.book_format.specs.Rows.{badCount, row4, row5, row6};
-ghost use Rattle.book_options.specs.Options.{row8, linkOptions, Marked};
-ghost use Rattle.book_options.specs.Turns.{Pushed, Numbered, Walking, Turned};
+ghost use Rattle.book_options.specs.Options.{row8, linkOptions, OptionsIn};
+ghost use Rattle.book_options.specs.Turns.{DestinationsStacked, Numbered, Walking, SearchTurned};
 
 // What the search found: how many origins are kept, or that no path leads from an origin to a destination.
 pub enum LinkOptions {
@@ -30,7 +30,7 @@ fn push_destinations(book: &[u8], s: Sections, marks: &mut [u32]) -> bool
     requires { ⌜ links (now book) + destinations (now book) ≤ length (now marks) ⌝ }
     requires { ⌜ now marks ≡ zeros (length (now marks)) ⌝ }
     ensures zero { λ r. ⌜ (r ≡ false → someBelow (destinations (now (book .entry))) (λ i. eqb (destinationLink (now (book .entry)) i) 0) ≡ true) ⌝ }
-    ensures pushed { λ r. ⌜ (r ≡ true → Pushed (now (book .entry)) (destinations (now (book .entry))) (now (marks .exit))) ⌝ }
+    ensures pushed { λ r. ⌜ (r ≡ true → DestinationsStacked (now (book .entry)) (destinations (now (book .entry))) (now (marks .exit))) ⌝ }
 {
     let base = s.links;
     let n = s.destinations;
@@ -74,7 +74,7 @@ fn turn(book: &[u8], s: Sections, w: Walk, marks: &mut [u32]) -> Walk
     requires { ⌜ 2 * links (now book) + destinations (now book) + origins (now book) ≤ length (now marks) ⌝ }
     requires { ⌜ Walking (now book) (now marks) w ⌝ }
     requires { ⌜ 0 < w .top ⌝ }
-    ensures { λ r. ⌜ Turned (now (book .entry)) (now (marks .entry)) w (now (marks .exit)) r ⌝ }
+    ensures { λ r. ⌜ SearchTurned (now (book .entry)) (now (marks .entry)) w (now (marks .exit)) r ⌝ }
 {
     let top = w.top - 1;
     let kept = w.kept;
@@ -115,7 +115,7 @@ pub fn get_link_idx_options(book: &[u8], s: Sections, marks: &mut [u32]) -> Link
     requires { ⌜ 2 * links (now book) + destinations (now book) + origins (now book) ≤ length (now marks) ⌝ }
     requires { ⌜ now marks ≡ zeros (length (now marks)) ⌝ }
     ensures answer { λ r. ⌜ r ≡ linkOptions (now (book .entry)) ⌝ }
-    ensures marked { λ r. ⌜ (row8 (now (book .entry)) ≡ false → Marked (now (book .entry)) (now (marks .exit))) ⌝ }
+    ensures marked { λ r. ⌜ (row8 (now (book .entry)) ≡ false → OptionsIn (now (book .entry)) (now (marks .exit))) ⌝ }
 {
     if !push_destinations(book, s, marks) {
         return LinkOptions::NoPath;

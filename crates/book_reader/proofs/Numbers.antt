@@ -19,11 +19,11 @@ use Rattle.book_legs.specs.Legs.{Started, SameBut}
 use Rattle.book_legs.proofs.Chains.{chained, linked-rest}
 use Rattle.book_legs.proofs.Linking.{room-of}
 use Rattle.book_options.specs.declared.LinkOptions.the-variants.{Kept, NoPath}
-use Rattle.book_options.specs.Options.{row8, keptOrigins, pick, linkOptions, Marked}
+use Rattle.book_options.specs.Options.{row8, keptOrigins, pick, linkOptions, OptionsIn}
 use Rattle.book_reader.specs.Reader.{readNumber, Ready}
 use Rattle.book_reader.specs.declared.Tested.{Tested}
 use Rattle.book_reader.specs.declared.Tested.the-variants.{Left, Stopped}
-use Rattle.book_reader.specs.Stages.{Passed, ChainedOnly, TestedAs}
+use Rattle.book_reader.specs.Stages.{RowsPassed, ChainedOnly, TestedAs}
 use Rattle.book_reader.proofs.Rooms.{counted-of}
 
 -- ---- the first of a list of rows
@@ -196,18 +196,18 @@ three-none a b c d e f = sym (passed 6 a (b ∷ c ∷ []) d ∙ passed 7 b (c �
 -- ---- what the first stage leaves
 
 pub left-early : (b : List ℕ) (s : Sections) (p y n : ℕ) → Sized b s → row3 b p y ≡ false → n ≡ lowest 4 (row4 b ∷ row5 b ∷ someBelow (origins b) (badOriginPlace b) ∷ someBelow (legs b) (badLeg b) ∷ []) → n ≡ 0
-    → Passed b s × (row3 b p y ≡ false) × (false ≡ someBelow (legs b) (badLeg b))
+    → RowsPassed b s × (row3 b p y ≡ false) × (false ≡ someBelow (legs b) (badLeg b))
 left-early b s p y n z e d k =
     let f = four-none (row4 b) (row5 b) (someBelow (origins b) (badOriginPlace b)) (someBelow (legs b) (badLeg b)) (sym d ∙ k) in
     (record { sized = z; counted = counted-of b p y e; row4 = f .0; row5 = f .1; places = f .2 }, e, sym (f .3))
 
 pub left-late : (b : List ℕ) (s : Sections) (p y n : ℕ) → Sized b s → row3 b p y ≡ false → n ≡ lowest 4 (row4 b ∷ row5 b ∷ someBelow (origins b) (badOriginPlace b) ∷ someBelow (legs b) (badLeg b) ∷ []) → n ≡ 7
-    → Passed b s × (row3 b p y ≡ false) × (true ≡ someBelow (legs b) (badLeg b))
+    → RowsPassed b s × (row3 b p y ≡ false) × (true ≡ someBelow (legs b) (badLeg b))
 left-late b s p y n z e d k =
     let f = four-last (row4 b) (row5 b) (someBelow (origins b) (badOriginPlace b)) (someBelow (legs b) (badLeg b)) (sym d ∙ k) in
     (record { sized = z; counted = counted-of b p y e; row4 = f .0; row5 = f .1; places = f .2 }, e, sym (f .3))
 
-pub readable-of : {b : List ℕ} {s : Sections} → Passed b s → someBelow (legs b) (badLeg b) ≡ false → Readable b s
+pub readable-of : {b : List ℕ} {s : Sections} → RowsPassed b s → someBelow (legs b) (badLeg b) ≡ false → Readable b s
 readable-of p e = record { sized = p .sized; counted = p .counted; floats = p .row4; indices = p .row5; single = e }
 
 -- ---- row 7 in the words of its stages
@@ -255,22 +255,22 @@ single-none b e =
     (none-left (someBelow (legs b) (badLeg b) || someBelow (legs b) (legRepeats b) || someBelow (legs b) (legFalls b)) (someBelow (legs b) (λ i. not (legBegins b i))) (sym (row7-is b) ∙ e)))
 
 -- the options' marks, once the starting legs are named between them
-still-marked : {b m m′ : List ℕ} → SameBut (links b) (2 * links b) m m′ → Marked b m → Marked b m′
+still-marked : {b m m′ : List ℕ} → SameBut (links b) (2 * links b) m m′ → OptionsIn b m → OptionsIn b m′
 still-marked {b} {m} {m′} o d = record {
   set = λ l h. ap (λ (x : ℕ). eqb (x % 2) 1) (o .below l h) ∙ d .set l h;
   kept = λ k h. o .behind (2 * links b + destinations b + k) (omega arith) ∙ d .kept k h;
 }
 
-pub ready-of : {b : List ℕ} {s : Sections} {n : ℕ} {cells m marks : List ℕ} → Passed b s → row6 b ≡ false → row7 b ≡ false → row8 b ≡ false → ChainedOnly b cells → Marked b m
+pub ready-of : {b : List ℕ} {s : Sections} {n : ℕ} {cells m marks : List ℕ} → RowsPassed b s → row6 b ≡ false → row7 b ≡ false → row8 b ≡ false → ChainedOnly b cells → OptionsIn b m
     → Started b marks × SameBut (links b) (2 * links b) m marks → n ≡ length (keptOrigins b) → Ready b s n cells marks
 ready-of {b} p e f g c m t k = record { readable = readable-of p (single-none b f); row6 = e; row7 = f; row8 = g; chained = c .chained; rest = c .rest; marked = still-marked (t .1) m; starts = t .0; kept = k }
 
-pub readable-then : {b : List ℕ} {s : Sections} → Passed b s → row7 b ≡ false → Readable b s
+pub readable-then : {b : List ℕ} {s : Sections} → RowsPassed b s → row7 b ≡ false → Readable b s
 readable-then {b} p f = readable-of p (single-none b f)
 
 -- ---- the first stage's answer, once its case is known
 
-pub left-told : (b : List ℕ) (p y : ℕ) {s : Sections} {late : Bool} (t : Tested) → TestedAs b p y t → t ≡ Left s late → Passed b s × (row3 b p y ≡ false) × (late ≡ someBelow (legs b) (badLeg b))
+pub left-told : (b : List ℕ) (p y : ℕ) {s : Sections} {late : Bool} (t : Tested) → TestedAs b p y t → t ≡ Left s late → RowsPassed b s × (row3 b p y ≡ false) × (late ≡ someBelow (legs b) (badLeg b))
 left-told b p y t h e = subst (TestedAs b p y) e h
 
 pub stopped-told : (b : List ℕ) (p y n : ℕ) (t : Tested) → TestedAs b p y t → t ≡ Stopped n → (n ≡ readNumber b p y) × (n ≡ 0 → ⊥)

@@ -11,7 +11,7 @@ use Rattle.fields.proofs.Below.{none-left, none-right}
 use Rattle.space.specs.Space.{unitsOf, bytesOf}
 use Rattle.book_format.specs.declared.Sections.{Sections}
 use Rattle.book_format.specs.Format.{Sized, links, origins, destinations, legs, samples, legSamples}
-use Rattle.book_format.specs.Rows.{outside, badCount, workBytes, row1, row2, row3, row4, row5, row6, row7, lowest}
+use Rattle.book_format.specs.Rows.{outsideLimits, badCount, workBytes, row1, row2, row3, row4, row5, row6, row7, lowest}
 use Rattle.book_format.specs.Chains.{Counted}
 use Rattle.book_format.proofs.Given.{limits}
 use Rattle.book_format.proofs.Places.{sized-links}
@@ -61,11 +61,11 @@ roomy-of b p u reals cells marks y f e d =
 pub some-link : (b : List ℕ) (s : Sections) (p y : ℕ) → Sized b s → row3 b p y ≡ false → 0 < s .links
 unfolding badCount
 some-link b s p y z e =
-    let L = outside 65535 (links b) in
-    let G = outside 65535 (legs b) in
-    let O = outside 1000 (origins b) in
-    let D = outside 1000 (destinations b) in
-    let S = outside 1000000 (samples b) in
+    let L = outsideLimits 65535 (links b) in
+    let G = outsideLimits 65535 (legs b) in
+    let O = outsideLimits 1000 (origins b) in
+    let D = outsideLimits 1000 (destinations b) in
+    let S = outsideLimits 1000000 (samples b) in
     let l : L ≡ false = none-left L G (none-left (L || G) O (none-left (L || G || O) D (none-left (L || G || O || D) S (counted-of b p y e .counts)))) in
     let n : links b ≡ 0 → ⊥ = eqb-false (links b) 0 (none-left (eqb (links b) 0) (ltb 65535 (links b)) l) in
     omega (arith, sized-links z)

@@ -9,7 +9,7 @@ use Rattle.book_format.specs.Format.{legs}
 use Rattle.book_format.specs.Rows.{row1, row2, row3, row4, row5, row6, row7, lowest}
 use Rattle.book_format.specs.Chains.{Readable, Chained}
 use Rattle.book_legs.specs.Legs.{Started}
-use Rattle.book_options.specs.Options.{row8, keptOrigins, Marked}
+use Rattle.book_options.specs.Options.{row8, keptOrigins, OptionsIn}
 use Rattle.book_reader.specs.declared.Reading.{Reading}
 use Rattle.book_reader.specs.declared.Reading.the-variants.{Accepted, Refused}
 
@@ -30,7 +30,7 @@ pub record Ready (b : List ℕ) (s : Sections) (n : ℕ) (cells marks : List ℕ
   pub row8 : row8 b ≡ false
   pub chained : Chained b cells
   pub rest : (q : ℕ) → (legs b + 1) * 8 ≤ q → getD cells q 0 ≡ 0
-  pub marked : Marked b marks
+  pub marked : OptionsIn b marks
   pub starts : Started b marks
   pub kept : n ≡ length (keptOrigins b)
 

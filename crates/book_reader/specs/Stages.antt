@@ -14,7 +14,7 @@ use Rattle.book_reader.specs.declared.Tested.the-variants.{Left, Stopped
 use Rattle.book_reader.specs.Reader.{readNumber}
 
 -- rows 1, 2, 4 and 5 don't hold, nor row 3 but for the work space, nor row 6 of a single origin
-pub record Passed (b : List ℕ) (s : Sections) : Type 0 where
+pub record RowsPassed (b : List ℕ) (s : Sections) : Type 0 where
   pub sized : Sized b s
   pub counted : Counted b
   pub row4 : row4 b ≡ false
@@ -29,4 +29,4 @@ pub record ChainedOnly (b cells : List ℕ) : Type 0 where
 -- the first stage: a number, or where the sections stand and whether a single leg gives row 7
 abbrev pub TestedAs : List ℕ → ℕ → ℕ → Tested → Type 0
 TestedAs b places bytes (Stopped n) = (n ≡ readNumber b places bytes) × (n ≡ 0 → ⊥)
-TestedAs b places bytes (Left s late) = Passed b s × (row3 b places bytes ≡ false) × (late ≡ someBelow (legs b) (badLeg b))
+TestedAs b places bytes (Left s late) = RowsPassed b s × (row3 b places bytes ≡ false) × (late ≡ someBelow (legs b) (badLeg b))

@@ -14,7 +14,7 @@ ghost use Rattle.book_format.specs.Rows.{row6, row7, badLeg, lowest};
 ghost use Rattle.book_format.specs.Chains.{Readable};
 ghost use Rattle.book_options.specs.Options.{row8};
 ghost use Rattle.book_reader.specs.Reader.{readNumber, readingNumber, ReadInto};
-ghost use Rattle.book_reader.specs.Stages.{Passed, ChainedOnly, TestedAs};
+ghost use Rattle.book_reader.specs.Stages.{RowsPassed, ChainedOnly, TestedAs};
 
 // What reading found: where the sections stand and how many origins are kept, or the number of a refusal.
 pub enum Reading {
@@ -76,7 +76,7 @@ fn test_legs(book: &[u8], s: Sections, cells: &mut [u32], marks: &mut [u32]) -> 
 
 // Rows 6 and 7 whole. The legs are chained where neither holds.
 fn test_repeats(book: &[u8], s: Sections, late: bool, cells: &mut [u32], marks: &mut [u32]) -> u32
-    requires { ⌜ Passed (now book) s ⌝ }
+    requires { ⌜ RowsPassed (now book) s ⌝ }
     requires { ⌜ late ≡ someBelow (legs (now book)) (badLeg (now book)) ⌝ }
     requires { ⌜ (legs (now book) + 1) * 8 ≤ length (now cells) ⌝ }
     requires { ⌜ links (now book) ≤ length (now marks) ⌝ }
@@ -102,7 +102,7 @@ fn test_repeats(book: &[u8], s: Sections, late: bool, cells: &mut [u32], marks: 
 
 // Rows 6 to 8. The repeats are marked in the links' own marks; the starting legs are named behind them, where the options' stack has been.
 fn read_rest(book: &[u8], s: Sections, late: bool, cells: &mut [u32], marks: &mut [u32]) -> Reading
-    requires { ⌜ Passed (now book) s ⌝ }
+    requires { ⌜ RowsPassed (now book) s ⌝ }
     requires { ⌜ late ≡ someBelow (legs (now book)) (badLeg (now book)) ⌝ }
     requires { ⌜ (legs (now book) + 1) * 8 ≤ length (now cells) ⌝ }
     requires { ⌜ 2 * links (now book) + destinations (now book) + origins (now book) ≤ length (now marks) ⌝ }

@@ -15,7 +15,7 @@ use Rattle.space.specs.Space.{zeros}
 use Rattle.book_format.specs.declared.Sections.{Sections}
 use Rattle.book_format.specs.declared.Origin.{Origin}
 use Rattle.book_format.specs.Format.{Sized, links, origins, originLink, originOffset, originAt}
-use Rattle.book_format.specs.Rows.{row4, row5, badOriginValue, originRepeats, noLink}
+use Rattle.book_format.specs.Rows.{row4, row5, badOriginValue, originRepeats, noSuchLink}
 use Rattle.book_format.proofs.Given.{origin-named, origin-link}
 use Rattle.book_format.proofs.Places.{sized-origins}
 use Rattle.book_repeats.proofs.Marks.{Marked, mark-none, mark-more, zero-under}

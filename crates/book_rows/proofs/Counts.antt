@@ -11,12 +11,12 @@ use Rattle.fields.specs.Below.{someBelow, sumBelow}
 use Rattle.fields.proofs.Below.{some-more, sum-more, none-left, none-right}
 use Rattle.book_format.specs.declared.Sections.{Sections}
 use Rattle.book_format.specs.Format.{Sized, sectionsOf, links, origins, destinations, legs, samples, legSamples}
-use Rattle.book_format.specs.Rows.{outside, badCount, workBytes, row3}
+use Rattle.book_format.specs.Rows.{outsideLimits, badCount, workBytes, row3}
 
 -- ---- the counts and the work space, by the sections
 
 pub counts-is : {b : List ℕ} {s : Sections} → Sized b s
-    → (outside 65535 (s .links) || outside 65535 (s .legs) || outside 1000 (s .origins) || outside 1000 (s .destinations) || outside 1000000 (s .samples)) ≡ badCount b
+    → (outsideLimits 65535 (s .links) || outsideLimits 65535 (s .legs) || outsideLimits 1000 (s .origins) || outsideLimits 1000 (s .destinations) || outsideLimits 1000000 (s .samples)) ≡ badCount b
 unfolding badCount sectionsOf
 counts-is z = rw (z .is)
 

@@ -11,7 +11,7 @@ use Rattle.fields.specs.Below.{someBelow}
 use Rattle.floats.specs.Floats.{bookFloat}
 use Rattle.book_format.specs.declared.Sections.{Sections}
 use Rattle.book_format.specs.Format.{Sized, sectionsOf, origins, legs, originsAt, destinationsAt, legsAt, samplesAt, endOf, joinBits, departureBits, lengthBits, linkLength, originLink, destinationLink}
-use Rattle.book_format.specs.Rows.{noLink, linkZero, badLink, badOriginValue, badOriginPlace, badLegIndex, badLeg, badSample, row4, row5, lowest}
+use Rattle.book_format.specs.Rows.{noSuchLink, linkZero, badLink, badOriginValue, badOriginPlace, badLegIndex, badLeg, badSample, row4, row5, lowest}
 use Rattle.book_rows.specs.Elements.{lower, lowestBelow, numberOf, linkNumber, originNumber, destinationNumber, legNumber, sampleNumber, elements, elementNumber}
 use Rattle.book_rows.proofs.Lowest.{number-join, lowest-tests, splice-low, splice-high, lowest-splice}
 
@@ -86,13 +86,13 @@ module _ (b : List ℕ) where
   unfolding linkNumber
   links-number n = lowest-tests n (λ i. not (bookFloat (linkLength b i))) (badLink b) (λ _. false) (λ _. false) ∙ simp some-none
 
-  origins-number : (n : ℕ) → lowestBelow n (originNumber b) ≡ numberOf (someBelow n (badOriginValue b)) (someBelow n (λ i. noLink b (originLink b i))) (someBelow n (badOriginPlace b)) false
+  origins-number : (n : ℕ) → lowestBelow n (originNumber b) ≡ numberOf (someBelow n (badOriginValue b)) (someBelow n (λ i. noSuchLink b (originLink b i))) (someBelow n (badOriginPlace b)) false
   unfolding originNumber
-  origins-number n = lowest-tests n (badOriginValue b) (λ i. noLink b (originLink b i)) (badOriginPlace b) (λ _. false) ∙ simp some-none
+  origins-number n = lowest-tests n (badOriginValue b) (λ i. noSuchLink b (originLink b i)) (badOriginPlace b) (λ _. false) ∙ simp some-none
 
-  destinations-number : (n : ℕ) → lowestBelow n (destinationNumber b) ≡ numberOf false (someBelow n (λ i. noLink b (destinationLink b i))) false false
+  destinations-number : (n : ℕ) → lowestBelow n (destinationNumber b) ≡ numberOf false (someBelow n (λ i. noSuchLink b (destinationLink b i))) false false
   unfolding destinationNumber
-  destinations-number n = lowest-tests n (λ _. false) (λ i. noLink b (destinationLink b i)) (λ _. false) (λ _. false) ∙ simp some-none
+  destinations-number n = lowest-tests n (λ _. false) (λ i. noSuchLink b (destinationLink b i)) (λ _. false) (λ _. false) ∙ simp some-none
 
   legs-number : (n : ℕ) → lowestBelow n (legNumber b) ≡ numberOf false (someBelow n (badLegIndex b)) false (someBelow n (badLeg b))
   unfolding legNumber

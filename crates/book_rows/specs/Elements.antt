@@ -6,7 +6,7 @@ use lib.Dec.{ltb}
 use Rattle.floats.specs.Floats.{bookFloat}
 use Rattle.book_format.specs.declared.Sections.{Sections}
 use Rattle.book_format.specs.Format.{linkLength, originLink, destinationLink}
-use Rattle.book_format.specs.Rows.{noLink, badLink, badOriginValue, badOriginPlace, badLegIndex, badLeg, badSample, lowest}
+use Rattle.book_format.specs.Rows.{noSuchLink, badLink, badOriginValue, badOriginPlace, badLegIndex, badLeg, badSample, lowest}
 
 -- the lower of two numbers
 unfoldable pub lower : ℕ → ℕ → ℕ
@@ -29,10 +29,10 @@ unfoldable pub linkNumber : List ℕ → ℕ → ℕ
 linkNumber b i = numberOf (not (bookFloat (linkLength b i))) (badLink b i) false false
 
 unfoldable pub originNumber : List ℕ → ℕ → ℕ
-originNumber b i = numberOf (badOriginValue b i) (noLink b (originLink b i)) (badOriginPlace b i) false
+originNumber b i = numberOf (badOriginValue b i) (noSuchLink b (originLink b i)) (badOriginPlace b i) false
 
 unfoldable pub destinationNumber : List ℕ → ℕ → ℕ
-destinationNumber b i = numberOf false (noLink b (destinationLink b i)) false false
+destinationNumber b i = numberOf false (noSuchLink b (destinationLink b i)) false false
 
 unfoldable pub legNumber : List ℕ → ℕ → ℕ
 legNumber b i = numberOf false (badLegIndex b i) false (badLeg b i)

@@ -8,19 +8,19 @@ ghost use lib.Dec.{leb, eqb};
 ghost use Rattle.fields.specs.Below.{someBelow, sumBelow};
 ghost use Rattle.floats.specs.Floats.{bookFloat};
 ghost use Rattle.book_format.specs.Format.{Sized, origins, legs, linkLength, legSamples};
-ghost use Rattle.book_format.specs.Rows.{row3, row4, row5, outside, badCount, workBytes, linkZero, badLink, badOriginPlace, badLeg, lowest};
+ghost use Rattle.book_format.specs.Rows.{row3, row4, row5, outsideLimits, badCount, workBytes, linkZero, badLink, badOriginPlace, badLeg, lowest};
 ghost use Rattle.book_rows.specs.Elements.{lower, lowestBelow, numberOf, linkNumber, originNumber, destinationNumber, legNumber, sampleNumber, elements, elementNumber};
 
 // ---- row 3
 
-// Whether a count is outside 1 to its limit.
+// Whether a count is outsideLimits 1 to its limit.
 fn outside_limit(limit: usize, n: usize) -> bool
-    ensures { λ r. ⌜ r ≡ outside limit n ⌝ }
+    ensures { λ r. ⌜ r ≡ outsideLimits limit n ⌝ }
 {
     (n == 0) | (limit < n)
 }
 
-// Whether some count is outside its limits.
+// Whether some count is outsideLimits its limits.
 fn counts_outside(s: Sections) -> bool
     ensures { λ r. ⌜ ((b : List ℕ) → Sized b s → r ≡ badCount b) ⌝ }
 {

@@ -16,7 +16,7 @@ use Rattle.grow_for_tests.specs.Network.{network}
 use Rattle.grow_for_tests.proofs.Networks.{network-moved, sound}
 use Rattle.est_times.specs.declared.Sheet.{Sheet}
 use Rattle.est_times.specs.declared.Sheet.the-variants.{Made, Refused}
-use Rattle.est_times.specs.Sheet.{Job, stopped, finished, timed, passed, job, reportOf, answered, BuiltAs, sheetNodes, floatsAs, numbersAs}
+use Rattle.est_times.specs.Sheet.{Job, stopped, finished, jobTimed, jobOf, job, reportOf, answered, BuiltAs, sheetNodes, floatsAs, numbersAs}
 
 -- ---- a job that is finished
 
@@ -25,11 +25,11 @@ pub record FinishedBy (b : List ℕ) (a : Answer Grown) (g : Grown) (t : Table) 
   pub network-given : a ≡ given g
   pub passes-timed : passes (g .table) (g .nodes) (departure b) ≡ timedAs t
 
-timed-finished : (g : Grown) (p : Timed) (h : Grown) (t : Table) → timed g p ≡ finished h t → (g ≡ h) × (p ≡ timedAs t)
+timed-finished : (g : Grown) (p : Timed) (h : Grown) (t : Table) → jobTimed g p ≡ finished h t → (g ≡ h) × (p ≡ timedAs t)
 timed-finished g (untimed k) h t e = let z : _≡_ {A = ℕ} 0 1 = cc in absurd (omega arith)
 timed-finished g (timedAs u) h t e = let p : g ≡ h = cc in let q : u ≡ t = cc in (p, ap timedAs q)
 
-passed-finished : (b : List ℕ) (a : Answer Grown) (g : Grown) (t : Table) → passed b a ≡ finished g t → FinishedBy b a g t
+passed-finished : (b : List ℕ) (a : Answer Grown) (g : Grown) (t : Table) → jobOf b a ≡ finished g t → FinishedBy b a g t
 passed-finished b (refused k) g t e = let z : _≡_ {A = ℕ} 0 1 = cc in absurd (omega arith)
 passed-finished b (given h) g t e =
     let d = timed-finished h (passes (h .table) (h .nodes) (departure b)) g t e in
@@ -65,7 +65,7 @@ cleared-numbers (finished g t) fs us sheet size h =
 
 job-moved : (b : List ℕ) (f n r c m f′ n′ r′ c′ m′ : ℕ) → f ≡ f′ → n ≡ n′ → r ≡ r′ → c ≡ c′ → m ≡ m′ → job b f n (bytesOf r c m) ≡ job b f′ n′ (bytesOf r′ c′ m′)
 unfolding job
-job-moved b f n r c m f′ n′ r′ c′ m′ p q s t u = ap (passed b) (network-moved b f n r c m f′ n′ r′ c′ m′ p q s t u)
+job-moved b f n r c m f′ n′ r′ c′ m′ p q s t u = ap (jobOf b) (network-moved b f n r c m f′ n′ r′ c′ m′ p q s t u)
 
 module _ (b : List ℕ) (f n r c m : ℕ) (fs : List Float) (us : List ℕ) (sheet : Sheet) (built : BuiltAs (job b f n (bytesOf r c m)) fs us sheet)
     (f′ n′ r′ c′ m′ : ℕ) (p : f ≡ f′) (q : n ≡ n′) (s : r ≡ r′) (t : c ≡ c′) (u : m ≡ m′) where

@@ -12,7 +12,7 @@ use Rattle.net_node.specs.Table.{kindOf, nodeAt}
 use Rattle.net_insertion.specs.Insertion.{Table, at}
 use Rattle.grow_rules.specs.Growth.{Grown, departure}
 use Rattle.arcs_growth.proofs.OneGrowth.{one-growth}
-use Rattle.arcs_passes.proofs.Sheet.{SheetWell, sheet-well, lent-arcs, lent-heard}
+use Rattle.arcs_passes.proofs.Sheet.{SheetWell, sheet-well, lent-arcs, lent-of-runs}
 use Rattle.grow_for_tests.specs.Network.{zeroTable, network}
 use Rattle.grow_for_tests.proofs.Accepts.{places-fit}
 use Rattle.grow_for_tests.proofs.Networks.{Sound, sound, zero-room}
@@ -67,7 +67,7 @@ module _ (b : List ℕ) (f n bytes : ℕ) (g : Grown) (t : Table) (d : FinishedB
     noted = g .noted;
     rule = noted-by b f n bytes g whole;
     arcs = lent-arcs b (placesOf f n) g t (nodeAt hs ws) sheet ag;
-    heard = lent-heard b (placesOf f n) g t (nodeAt hs ws) sheet ag;
+    of-runs = lent-of-runs b (placesOf f n) g t (nodeAt hs ws) sheet ag;
     counted = sheet .counted;
     balanced = sheet .balanced;
   }

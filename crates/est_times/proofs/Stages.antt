@@ -17,22 +17,22 @@ use Rattle.net_node.specs.declared.EstTime.{EstTime}
 use Rattle.net_node.specs.Table.{nodeAt, Room}
 use Rattle.net_insertion.specs.Insertion.{Table, at}
 use Rattle.grow_rules.specs.Run.{Answer, refused, given}
-use Rattle.grow_rules.specs.Growth.{Grown, departure}
+use Rattle.grow_rules.specs.GrownBook.{Grown, departure}
 use Rattle.pass_rules.specs.Walks.{Inside}
 use Rattle.pass_rules.specs.Passes.{Timed, timedAs, passes}
 use Rattle.pass_rules.specs.Passes.{refused as untimed}
-use Rattle.pass_all.specs.Timing.{timedNumber, TimedInto}
+use Rattle.pass_all.specs.Answers.{timedNumber, TimedInto}
 use Rattle.pass_all.proofs.Proper.{Proper, passes-proper}
 use Rattle.grow_book.specs.declared.Report.{Report}
-use Rattle.grow_book.specs.declared.Grown.{Grown as Growth}
-use Rattle.grow_book.specs.declared.Grown.the-variants.{Whole, Stopped}
-use Rattle.grow_book.specs.Grower.{WholeAs, GrownAs}
+use Rattle.grow_book.specs.declared.GrownBook.{GrownBook}
+use Rattle.grow_book.specs.declared.GrownBook.the-variants.{Whole, Stopped}
+use Rattle.grow_book.specs.Answers.{WholeAs, GrownAs}
 use Rattle.grow_for_tests.specs.Network.{network, grownNumber}
 use Rattle.grow_for_tests.proofs.Accepts.{head-there, departure-float, enough-of}
 use Rattle.grow_for_tests.proofs.Networks.{Sound, sound}
 use Rattle.est_times.specs.declared.Sheet.{Sheet}
 use Rattle.est_times.specs.declared.Sheet.the-variants.{Made, Refused}
-use Rattle.est_times.specs.Sheet.{Job, stopped, finished, timed, passed, job, reportOf, answerAs, BuiltAs}
+use Rattle.est_times.specs.Sheet.{Job, stopped, finished, jobTimed, jobOf, job, reportOf, answerAs, BuiltAs}
 
 -- ---- the small functions
 
@@ -53,17 +53,17 @@ departure-is b k e = ap (ofBits binary64) e
 
 -- ---- the job by its stages
 
-job-is : (b : List ℕ) (f n bytes : ℕ) → job b f n bytes ≡ passed b (network b f n bytes)
+job-is : (b : List ℕ) (f n bytes : ℕ) → job b f n bytes ≡ jobOf b (network b f n bytes)
 unfolding job
 job-is b f n bytes = refl
 
-pub built-refused : (b : List ℕ) (f n bytes : ℕ) (fs : List Float) (us : List ℕ) (grown : Growth) → GrownAs (network b f n bytes) fs us grown → {k : ℕ} → grown ≡ Stopped k
+pub built-refused : (b : List ℕ) (f n bytes : ℕ) (fs : List Float) (us : List ℕ) (grown : GrownBook) → GrownAs (network b f n bytes) fs us grown → {k : ℕ} → grown ≡ Stopped k
     → (number : ℕ) → number ≡ grownNumber grown → (gs : List Float) (vs : List ℕ) → BuiltAs (job b f n bytes) gs vs (Refused number)
 built-refused b f n bytes fs us grown g {k} e number d gs vs =
     let h : network b f n bytes ≡ refused k = subst (GrownAs (network b f n bytes) fs us) e g in
-    subst (λ (j : Job). BuiltAs j gs vs (Refused number)) (sym (job-is b f n bytes ∙ ap (passed b) h)) (ap Refused (d ∙ ap grownNumber e))
+    subst (λ (j : Job). BuiltAs j gs vs (Refused number)) (sym (job-is b f n bytes ∙ ap (jobOf b) h)) (ap Refused (d ∙ ap grownNumber e))
 
-pub whole-told : (b : List ℕ) (f n bytes : ℕ) (fs : List Float) (us : List ℕ) (grown : Growth) → GrownAs (network b f n bytes) fs us grown → (r : Report) → grown ≡ Whole r
+pub whole-told : (b : List ℕ) (f n bytes : ℕ) (fs : List Float) (us : List ℕ) (grown : GrownBook) → GrownAs (network b f n bytes) fs us grown → (r : Report) → grown ≡ Whole r
     → WholeAs (network b f n bytes) fs us (r .nodes) (r .added) (r .splits) (r .joined) (r .finished)
 whole-told b f n bytes fs us grown g r e = subst (GrownAs (network b f n bytes) fs us) e g
 
@@ -125,7 +125,7 @@ module _ (n c : ℕ) (cells : List ℕ) (h : n * 2 ≤ c) (e : length cells ≡ 
 
 -- ---- the passes' number
 
-timed-built : (g : Grown) (report : Report) (gs : List Float) (vs : List ℕ) (number : ℕ) (t : Timed) → Proper t → number ≡ timedNumber t → TimedInto t gs vs → report ≡ reportOf g → BuiltAs (timed g t) gs vs (answerAs report number)
+timed-built : (g : Grown) (report : Report) (gs : List Float) (vs : List ℕ) (number : ℕ) (t : Timed) → Proper t → number ≡ timedNumber t → TimedInto t gs vs → report ≡ reportOf g → BuiltAs (jobTimed g t) gs vs (answerAs report number)
 timed-built g report gs vs number (untimed zero) p e i q = absurd (p refl)
 timed-built g report gs vs number (untimed (suc k)) p e i q = ap (answerAs report) e
 timed-built g report gs vs number (timedAs t) p e i q = (ap (answerAs report) e ∙ ap Made q, i)
@@ -148,6 +148,6 @@ module _ (b : List ℕ) (f n bytes : ℕ) (fs : List Float) (us : List ℕ) (rep
       → TimedInto (passes (record { floats = fs; numbers = us }) (report .nodes) time) gs vs → (sheet : Sheet) → sheet ≡ answerAs report number → BuiltAs (job b f n bytes) gs vs sheet
   built-whole number gs vs e i sheet q =
       let p = passes (w .network .table) (w .network .nodes) (departure b) in
-      let h : BuiltAs (timed (w .network) p) gs vs (answerAs report number) =
+      let h : BuiltAs (jobTimed (w .network) p) gs vs (answerAs report number) =
       timed-built (w .network) report gs vs number p (passes-proper (w .network .table) (w .network .nodes) (departure b)) (e ∙ ap timedNumber passes-are) (subst (λ (t : Timed). TimedInto t gs vs) passes-are i) report-is in
-      subst (λ (j : Job). BuiltAs j gs vs sheet) (sym (job-is b f n bytes ∙ ap (passed b) (w .is))) (subst (BuiltAs (timed (w .network) p) gs vs) (sym q) h)
+      subst (λ (j : Job). BuiltAs j gs vs sheet) (sym (job-is b f n bytes ∙ ap (jobOf b) (w .is))) (subst (BuiltAs (jobTimed (w .network) p) gs vs) (sym q) h)

@@ -10,7 +10,7 @@ use Rattle.grow_rules.specs.Run.{Answer, given, Arc}
 use Rattle.grow_rules.specs.Growth.{Grown, grow}
 use Rattle.grow_book.specs.declared.Report.{Report}
 use Rattle.arcs_growth.specs.Arcs.{arcsRead, SameArcs}
-use Rattle.arcs_growth.specs.Noted.{AllHeard}
+use Rattle.arcs_growth.specs.Noted.{AllOfRuns}
 use Rattle.est_times.specs.declared.Sheet.{Sheet}
 use Rattle.est_times.specs.declared.Sheet.the-variants.{Made, Refused}
 
@@ -31,7 +31,7 @@ pub record Demand (b : List ℕ) (fs : List Float) (us : List ℕ) (r : Report) 
   -- "the same as often each, both ends and every bit of time and distance"
   pub arcs : SameArcs noted (arcsRead (nodeAt fs us) (r .nodes))
   -- each arc leads out with zeros, from the start to an origin's Arrive, or "from one event of a run to the very next of that run with its own differences"
-  pub heard : AllHeard b (nodeAt fs us) noted
+  pub of-runs : AllOfRuns b (nodeAt fs us) noted
   -- "arcs = added + joined + finished"
   pub counted : length noted ≡ r .added + r .joined + r .finished
   -- "1 + splits = joined + finished"

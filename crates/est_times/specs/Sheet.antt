@@ -1,4 +1,4 @@
--- The whole job, `make_est_times`: a book is read, its network grown, checked and timed. Put together from the definitions of the crates below, with no new algorithm.
+-- The whole job, `make_est_times`: a book is read, its network grown, checked and jobTimed. Put together from the definitions of the crates below, with no new algorithm.
 use mathlib.Core.Path.{_≡_}
 use mathlib.Core.List.{List, _++_}
 use Prim.Native.Nat.{ℕ, zero, suc, _-_, _*_}
@@ -15,22 +15,22 @@ use Rattle.grow_for_tests.specs.Network.{network}
 use Rattle.est_times.specs.declared.Sheet.{Sheet}
 use Rattle.est_times.specs.declared.Sheet.the-variants.{Made, Refused}
 
--- what becomes of a book: refused with a number, or grown so and timed as this table
+-- what becomes of a book: refused with a number, or grown so and jobTimed as this table
 pub data Job : Type 0 where
   stopped : ℕ → Job
   finished : Grown → Table → Job
 
-abbrev pub timed : Grown → Timed → Job
-timed g (untimed k) = stopped k
-timed g (timedAs t) = finished g t
+abbrev pub jobTimed : Grown → Timed → Job
+jobTimed g (untimed k) = stopped k
+jobTimed g (timedAs t) = finished g t
 
-abbrev pub passed : List ℕ → Answer Grown → Job
-passed b (refused k) = stopped k
-passed b (given g) = timed g (passes (g .table) (g .nodes) (departure b))
+abbrev pub jobOf : List ℕ → Answer Grown → Job
+jobOf b (refused k) = stopped k
+jobOf b (given g) = jobTimed g (passes (g .table) (g .nodes) (departure b))
 
 -- rows 1 to 13, then 14 to 16, for a table of so many floats and numbers and so many bytes of work space
 unfoldable pub job : List ℕ → ℕ → ℕ → ℕ → Job
-job b floats numbers bytes = passed b (network b floats numbers bytes)
+job b floats numbers bytes = jobOf b (network b floats numbers bytes)
 
 -- "a report of nodes, added (origins' nodes included), splits, joined, finished"
 abbrev pub reportOf : Grown → Report

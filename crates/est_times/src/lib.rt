@@ -1,5 +1,5 @@
 // Estimated times: a book to its sheet. Contracts: specs/Sheet.antt, specs/Demand.antt.
-use grow_book::Grown;
+use grow_book::GrownBook;
 use grow_book::Report;
 ghost use mathlib.Core.Path.{_≡_};
 ghost use mathlib.Core.Bool.{true};
@@ -20,12 +20,12 @@ pub enum Sheet {
 }
 
 // The number of a growth that was refused.
-fn number_of(g: Grown) -> u32
+fn number_of(g: GrownBook) -> u32
     ensures { λ r. ⌜ r ≡ grownNumber g ⌝ }
 {
     match g {
-        Grown::Whole(_) => 0,
-        Grown::Stopped(k) => k,
+        GrownBook::Whole(_) => 0,
+        GrownBook::Stopped(k) => k,
     }
 }
 
@@ -64,7 +64,7 @@ fn build(
     ensures { λ r. ⌜ BuiltAs (job (now (book .entry)) (length (now (floats .entry))) (length (now (numbers .entry))) (bytesOf (length (now (reals .entry))) (length (now (cells .entry))) (length (now (marks .entry))))) (now (floats .exit)) (now (numbers .exit)) r ⌝ }
 {
     let grown = grow_for_tests::read_and_grow(book, floats, numbers, reals, cells, marks);
-    let Grown::Whole(report) = grown else {
+    let GrownBook::Whole(report) = grown else {
         return Sheet::Refused(number_of(grown));
     };
     let n = report.nodes;

@@ -16,7 +16,7 @@ use Rattle.floats.specs.Floats.{tableFloat, bookFloat, bookValue, Size}
 use Rattle.floats.proofs.Order.{not-lt, not-le, le-trans, size-of-bits, size-of-value}
 use Rattle.book_format.specs.declared.Sample.{Sample}
 use Rattle.book_format.specs.Format.{sampleFrom}
-use Rattle.book_format.specs.Rows.{outside, badSampleFrom}
+use Rattle.book_format.specs.Rows.{outsideLimits, badSampleFrom}
 use Rattle.book_format.proofs.Floats.{sample-floats}
 use Rattle.event_walk.specs.declared.Movement.{Movement}
 use Rattle.event_walk.specs.Course.{Course, courseOf, Held, Rises, Walkable}
@@ -85,7 +85,7 @@ by-fall false false false false false r a b c d = absurd (true≢false (sym d))
 
 -- ---- a count, and a lent length
 
-inside : (limit n : ℕ) → outside limit n ≡ false → (0 < n) × (n ≤ limit)
+inside : (limit n : ℕ) → outsideLimits limit n ≡ false → (0 < n) × (n ≤ limit)
 inside limit n e = let z = eqb-false n 0 (none-left (eqb n 0) (ltb limit n) e) in (some n z, ltb-false limit n (none-right (eqb n 0) (ltb limit n) e))
   where
     some : (n : ℕ) → (n ≡ 0 → ⊥) → 0 < n
@@ -94,7 +94,7 @@ inside limit n e = let z = eqb-false n 0 (none-left (eqb n 0) (ltb limit n) e) i
 
 pub within-counts : (c : Course) → badCounts c ≡ false → (c .samples ≤ 1000000) × (c .points ≤ 65536)
 unfolding badCounts
-within-counts c e = (inside 1000000 (c .samples) (none-left (outside 1000000 (c .samples)) (outside 65536 (c .points)) e) .1, inside 65536 (c .points) (none-right (outside 1000000 (c .samples)) (outside 65536 (c .points)) e) .1)
+within-counts c e = (inside 1000000 (c .samples) (none-left (outsideLimits 1000000 (c .samples)) (outsideLimits 65536 (c .points)) e) .1, inside 65536 (c .points) (none-right (outsideLimits 1000000 (c .samples)) (outsideLimits 65536 (c .points)) e) .1)
 
 table-finite : (x : Float) → tableFloat x ≡ true → finite x ≡ true
 unfolding tableFloat
@@ -145,21 +145,21 @@ module _ (b : List ℕ) (offsets : List Float) (m : Movement) where
   abbrev points-fall : Bool
   points-fall = someBelow (m .points - 1) (offsetFalls offsets)
 
-  counts-are : (x y : Bool) → x ≡ outside 1000000 (m .samples) → y ≡ outside 65536 (m .points) → badCounts course ≡ (x || y)
+  counts-are : (x y : Bool) → x ≡ outsideLimits 1000000 (m .samples) → y ≡ outsideLimits 65536 (m .points) → badCounts course ≡ (x || y)
   unfolding badCounts courseOf
-  counts-are x y e f = sym (ap (λ (t : Bool). t || y) e ∙ ap (λ (t : Bool). outside 1000000 (m .samples) || t) f)
+  counts-are x y e f = sym (ap (λ (t : Bool). t || y) e ∙ ap (λ (t : Bool). outsideLimits 1000000 (m .samples) || t) f)
 
   pub counts : badCounts course ≡ false → Counted m
   unfolding badCounts courseOf
   counts e =
-      let s = inside 1000000 (m .samples) (none-left (outside 1000000 (m .samples)) (outside 65536 (m .points)) e) in
-      let p = inside 65536 (m .points) (none-right (outside 1000000 (m .samples)) (outside 65536 (m .points)) e) in
+      let s = inside 1000000 (m .samples) (none-left (outsideLimits 1000000 (m .samples)) (outsideLimits 65536 (m .points)) e) in
+      let p = inside 65536 (m .points) (none-right (outsideLimits 1000000 (m .samples)) (outsideLimits 65536 (m .points)) e) in
       record { some = s .0; most = s .1; some-points = p .0; most-points = p .1 }
 
-  pub counts-left : (x y : Bool) → x ≡ outside 1000000 (m .samples) → y ≡ outside 65536 (m .points) → (x || y) ≡ false → badCounts course ≡ false
+  pub counts-left : (x y : Bool) → x ≡ outsideLimits 1000000 (m .samples) → y ≡ outsideLimits 65536 (m .points) → (x || y) ≡ false → badCounts course ≡ false
   counts-left x y e f h = counts-are x y e f ∙ h
 
-  pub first-3 : (x y : Bool) → x ≡ outside 1000000 (m .samples) → y ≡ outside 65536 (m .points) → (x || y) ≡ true → 3 ≡ firstNumber course b
+  pub first-3 : (x y : Bool) → x ≡ outsideLimits 1000000 (m .samples) → y ≡ outsideLimits 65536 (m .points) → (x || y) ≡ true → 3 ≡ firstNumber course b
   unfolding firstNumber
   first-3 x y e f h = sym (ap (λ (t : Bool). lowestOf t (badFloats course b) (falling course) (reachesLast course)) (counts-are x y e f ∙ h))
 

@@ -12,7 +12,7 @@ use Rattle.fields.specs.Below.{someBelow}
 use Rattle.floats.specs.Floats.{bookValue}
 use Rattle.space.specs.Space.{zeros, zeroFloats}
 use Rattle.book_format.specs.Format.{sampleWidth}
-use Rattle.book_format.specs.Rows.{outside, badSampleFrom}
+use Rattle.book_format.specs.Rows.{outsideLimits, badSampleFrom}
 use Rattle.net_node.specs.Table.{kindNumber}
 use Rattle.event_walk.specs.declared.Movement.{Movement}
 use Rattle.event_walk.specs.declared.PassedPoint.{PassedPoint}
@@ -33,7 +33,7 @@ lentCourse train samples offsets links = courseOf samples offsets (movementOf tr
 
 -- 3: "1 to 1,000,000 samples, 1 to 65,536 points"
 unfoldable pub badCounts : Course → Bool
-badCounts c = outside 1000000 (c .samples) || outside 65536 (c .points)
+badCounts c = outsideLimits 1000000 (c .samples) || outsideLimits 65536 (c .points)
 
 -- 4: a float that a book may not hold
 unfoldable pub badFloats : Course → List ℕ → Bool

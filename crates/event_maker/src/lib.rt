@@ -7,7 +7,7 @@ ghost use mathlib.Core.Bool.{true, false, not};
 ghost use Prim.Native.Nat.{suc, _+_, _*_, _-_, _/_, _≤_, _<_, min};
 ghost use lib.ListN.{length};
 ghost use Rattle.space.specs.Space.{zeros, zeroFloats};
-ghost use Rattle.book_format.specs.Rows.{outside, badSampleFrom};
+ghost use Rattle.book_format.specs.Rows.{outsideLimits, badSampleFrom};
 ghost use Rattle.event_walk.specs.Course.{courseOf, Held, Walkable};
 ghost use Rattle.event_maker.specs.Maker.{lentCourse, answerOf, listPlaces, floatsAs, numbersAs};
 ghost use Rattle.event_maker.specs.Parts.{countAnswer, walkAnswer, lowestOf, firstNumber, sweepNumber, badOffset, offsetFalls, badAt, fallsAt, putEventFloats, putEventNumbers, FloatsListed, NumbersListed, isRefused, keptFloats, keptNumbers};
@@ -34,7 +34,7 @@ fn list_places(floats: usize, numbers: usize) -> usize
 // ---- rows 3, 4, 7, and 11 for the samples
 
 fn is_outside(limit: usize, n: usize) -> bool
-    ensures { λ r. ⌜ r ≡ outside limit n ⌝ }
+    ensures { λ r. ⌜ r ≡ outsideLimits limit n ⌝ }
 {
     (n == 0) | (limit < n)
 }

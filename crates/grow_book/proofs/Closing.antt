@@ -8,16 +8,16 @@ use lib.Ieee.{Float}
 use Rattle.net_node.specs.Table.{Room}
 use Rattle.net_insertion.specs.Insertion.{Table}
 use Rattle.net_event_map.specs.declared.Layout.{Layout}
-use Rattle.grow_ends.specs.declared.Pushed.{Pushed}
-use Rattle.grow_ends.specs.declared.Pushed.the-variants.{Nodes, Full}
-use Rattle.grow_ends.specs.Ends.{EndsIn, SomeEnds, PushedAs}
+use Rattle.grow_ends.specs.declared.TailAnswer.{TailAnswer}
+use Rattle.grow_ends.specs.declared.TailAnswer.the-variants.{Nodes, Full}
+use Rattle.grow_ends.specs.Ends.{EndsIn, SomeEnds, TailAs}
 use Rattle.grow_ends.proofs.Kept.{fakes-counted}
 use Rattle.grow_rules.specs.Run.{Answer, refused, given, andThen, Net}
 use Rattle.grow_rules.specs.Growth.{Tail, endFakes, lastNode, grownWith}
 use Rattle.grow_rules.specs.Growth.{Grown as Network}
 use Rattle.grow_events.specs.declared.Counts.{Counts}
 use Rattle.grow_events.specs.Held.{endsAt}
-use Rattle.grow_book.specs.Grower.{Closing, SomeClosing, closing, WholeAs}
+use Rattle.grow_book.specs.Answers.{Closing, SomeClosing, closing, WholeAs}
 
 abbrev lastly : ℕ → Net → Tail → Answer Network
 lastly places net u = andThen (lastNode places u) (λ (v : Tail). given (grownWith net v))
@@ -33,7 +33,7 @@ module _ (w : Layout) (fs : List Float) (us cells : List ℕ) (c : Counts) where
       let v = s .closes .holds in
       (v .room, (v .within, (omega (arith, v .apart .nodes-inside, v .within), record { ends = s .net .ends; chained = v .ends; below = v .ends-below })))
 
-  module _ (fs′ : List Float) (us′ : List ℕ) (r : Pushed) (t : (ends : List ℕ) → EndsIn cells (endsAt w) (c .«last_end») ends → PushedAs (endFakes (w .places) ends 0 (record { table = record { floats = fs; numbers = us }; nodes = c .nodes })) fs′ us′ r) where
+  module _ (fs′ : List Float) (us′ : List ℕ) (r : TailAnswer) (t : (ends : List ℕ) → EndsIn cells (endsAt w) (c .«last_end») ends → TailAs (endFakes (w .places) ends 0 (record { table = record { floats = fs; numbers = us }; nodes = c .nodes })) fs′ us′ r) where
     module _ (net : Net) (k : Closing w fs us cells c net) where
       tail-is : closing (w .places) net ≡ andThen (endFakes (w .places) (net .ends) 0 (record { table = record { floats = fs; numbers = us }; nodes = c .nodes })) (lastly (w .places) net)
       tail-is =
@@ -41,11 +41,11 @@ module _ (w : Layout) (fs : List Float) (us cells : List ℕ) (c : Counts) where
           ∙ ap (λ (n : ℕ). andThen (endFakes (w .places) (net .ends) 0 (record { table = record { floats = fs; numbers = us }; nodes = n })) (lastly (w .places) net)) (k .holds .nodes)
 
       pub fakes-full : r ≡ Full → closing (w .places) net ≡ refused 12
-      fakes-full e = tail-is ∙ ap (λ (a : Answer Tail). andThen a (lastly (w .places) net)) (subst (PushedAs (endFakes (w .places) (net .ends) 0 (record { table = record { floats = fs; numbers = us }; nodes = c .nodes })) fs′ us′) e (t (net .ends) (k .holds .ends)))
+      fakes-full e = tail-is ∙ ap (λ (a : Answer Tail). andThen a (lastly (w .places) net)) (subst (TailAs (endFakes (w .places) (net .ends) 0 (record { table = record { floats = fs; numbers = us }; nodes = c .nodes })) fs′ us′) e (t (net .ends) (k .holds .ends)))
 
       module _ (n : ℕ) (e : r ≡ Nodes n) where
-        pushed : PushedAs (endFakes (w .places) (net .ends) 0 (record { table = record { floats = fs; numbers = us }; nodes = c .nodes })) fs′ us′ (Nodes n)
-        pushed = subst (PushedAs (endFakes (w .places) (net .ends) 0 (record { table = record { floats = fs; numbers = us }; nodes = c .nodes })) fs′ us′) e (t (net .ends) (k .holds .ends))
+        pushed : TailAs (endFakes (w .places) (net .ends) 0 (record { table = record { floats = fs; numbers = us }; nodes = c .nodes })) fs′ us′ (Nodes n)
+        pushed = subst (TailAs (endFakes (w .places) (net .ends) 0 (record { table = record { floats = fs; numbers = us }; nodes = c .nodes })) fs′ us′) e (t (net .ends) (k .holds .ends))
 
         counted : (n ≡ c .nodes + length (net .ends)) × (n ≤ w .places)
         counted = fakes-counted (w .places) (c .nodes) n (net .ends) (record { floats = fs; numbers = us }) fs′ us′ (k .holds .within) pushed
@@ -53,16 +53,16 @@ module _ (w : Layout) (fs : List Float) (us cells : List ℕ) (c : Counts) where
         then-last : closing (w .places) net ≡ lastly (w .places) net (record { table = record { floats = fs′; numbers = us′ }; nodes = n })
         then-last = tail-is ∙ ap (λ (a : Answer Tail). andThen a (lastly (w .places) net)) pushed
 
-        module _ (fs″ : List Float) (us″ : List ℕ) (q : Pushed) (l : PushedAs (lastNode (w .places) (record { table = record { floats = fs′; numbers = us′ }; nodes = n })) fs″ us″ q) where
+        module _ (fs″ : List Float) (us″ : List ℕ) (q : TailAnswer) (l : TailAs (lastNode (w .places) (record { table = record { floats = fs′; numbers = us′ }; nodes = n })) fs″ us″ q) where
           pub last-full : q ≡ Full → closing (w .places) net ≡ refused 12
-          last-full d = then-last ∙ ap (λ (a : Answer Tail). andThen a (λ (v : Tail). given (grownWith net v))) (subst (PushedAs (lastNode (w .places) (record { table = record { floats = fs′; numbers = us′ }; nodes = n })) fs″ us″) d l)
+          last-full d = then-last ∙ ap (λ (a : Answer Tail). andThen a (λ (v : Tail). given (grownWith net v))) (subst (TailAs (lastNode (w .places) (record { table = record { floats = fs′; numbers = us′ }; nodes = n })) fs″ us″) d l)
 
           pub closed-whole : (m : ℕ) → q ≡ Nodes m → WholeAs (closing (w .places) net) fs″ us″ m (c .added) (c .splits) (c .joined) (n - c .nodes)
           unfolding grownWith
           closed-whole m d =
               record {
                 network = grownWith net (record { table = record { floats = fs″; numbers = us″ }; nodes = m });
-                is = then-last ∙ ap (λ (a : Answer Tail). andThen a (λ (v : Tail). given (grownWith net v))) (subst (PushedAs (lastNode (w .places) (record { table = record { floats = fs′; numbers = us′ }; nodes = n })) fs″ us″) d l);
+                is = then-last ∙ ap (λ (a : Answer Tail). andThen a (λ (v : Tail). given (grownWith net v))) (subst (TailAs (lastNode (w .places) (record { table = record { floats = fs′; numbers = us′ }; nodes = n })) fs″ us″) d l);
                 floats = refl;
                 numbers = refl;
                 nodes-are = refl;

@@ -11,17 +11,17 @@ use lib.Ieee.{Float}
 use Rattle.book_format.specs.Format.{legs}
 use Rattle.book_format.proofs.Given.{limits}
 use Rattle.book_format.proofs.Places.{sized-legs}
-use Rattle.grow_waiting.specs.Saved.{Waiting}
+use Rattle.grow_waiting.specs.Held.{Waiting}
 use Rattle.grow_waiting.proofs.Kept.{saved-end}
 use Rattle.grow_rules.specs.Run.{Answer, refused, given, andThen, Net, Run}
 use Rattle.grow_rules.specs.Growth.{Growth, takeLeg, drive}
 use Rattle.grow_state.specs.declared.Plan.{Plan}
 use Rattle.grow_state.specs.declared.State.{State}
-use Rattle.grow_state.specs.declared.Turned.{Turned}
-use Rattle.grow_state.specs.declared.Turned.the-variants.{On, Refused}
+use Rattle.grow_state.specs.declared.GrowthAnswer.{GrowthAnswer}
+use Rattle.grow_state.specs.declared.GrowthAnswer.the-variants.{On, Refused}
 use Rattle.grow_state.specs.Held.{PlanIn, SameRuns, RunsIn, DriveIn, Driving, GivesAs, TurnedAs}
 use Rattle.grow_state.proofs.Keeping.{idle-waits}
-use Rattle.grow_book.specs.Grower.{nextTurn, DriveAs}
+use Rattle.grow_book.specs.Answers.{nextTurn, DriveAs}
 
 -- ---- the definition, a turn at a time
 
@@ -69,7 +69,7 @@ some-top false top e h = let d = eqb-false top 0 h in positive top d
     positive zero d = absurd (d refl)
     positive (suc n) d = omega arith
 
-module _ (b : List ℕ) (p : Plan) (fs : List Float) (us : List ℕ) (reals : List Float) (cells joins : List ℕ) (g : State) (moves : g .front .moves ≡ true) (fs′ : List Float) (us′ : List ℕ) (reals′ : List Float) (cells′ joins′ : List ℕ) (t : Turned)
+module _ (b : List ℕ) (p : Plan) (fs : List Float) (us : List ℕ) (reals : List Float) (cells joins : List ℕ) (g : State) (moves : g .front .moves ≡ true) (fs′ : List Float) (us′ : List ℕ) (reals′ : List Float) (cells′ joins′ : List ℕ) (t : GrowthAnswer)
     (told : (path : List ℕ) (net : Net) (run : Run) (saved : List Run) → DriveIn b p fs us reals cells joins path g net (run ∷ saved) → TurnedAs (takeLeg b (p .w .places) net run saved) b p fs′ us′ reals′ cells′ joins′ t) where
   -- where one moves, there is one
   pub turn-as : (path : List ℕ) (net : Net) (runs : List Run) → DriveIn b p fs us reals cells joins path g net runs → TurnedAs (nextTurn b (p .w .places) net runs) b p fs′ us′ reals′ cells′ joins′ t
@@ -82,7 +82,7 @@ module _ (b : List ℕ) (p : Plan) (fs : List Float) (us : List ℕ) (reals : Li
   pub up-driving : Driving b p fs us reals cells joins g → Driving b p fs us reals cells joins′ h
   up-driving s = record { path = s .path; net = s .net; runs = s .runs; holds = held b fs us (s .path) (s .net) (s .runs) (s .holds) }
 
-  pub up-turn-as : (fs′ : List Float) (us′ : List ℕ) (reals′ : List Float) (cells′ joins″ : List ℕ) (t : Turned) → h .front .moves ≡ true
+  pub up-turn-as : (fs′ : List Float) (us′ : List ℕ) (reals′ : List Float) (cells′ joins″ : List ℕ) (t : GrowthAnswer) → h .front .moves ≡ true
       → ((path : List ℕ) (net : Net) (run : Run) (saved : List Run) → DriveIn b p fs us reals cells joins′ path h net (run ∷ saved) → TurnedAs (takeLeg b (p .w .places) net run saved) b p fs′ us′ reals′ cells′ joins″ t)
       → (path : List ℕ) (net : Net) (runs : List Run) → DriveIn b p fs us reals cells joins path g net runs → TurnedAs (nextTurn b (p .w .places) net runs) b p fs′ us′ reals′ cells′ joins″ t
   up-turn-as fs′ us′ reals′ cells′ joins″ t moves told path net runs d = turn-as b p fs us reals cells joins′ h moves fs′ us′ reals′ cells′ joins″ t told path net runs (held b fs us path net runs d)
@@ -149,7 +149,7 @@ module _ (b : List ℕ) (p : Plan) (fs₀ : List Float) (us₀ : List ℕ) (real
       let e : legs b - k ≡ 0 = omega arith in
       record { net = x .net; is = x .same ∙ ap (λ (n : ℕ). drive n b (p .w .places) (x .net) (x .runs)) e ∙ drive-over b (p .w .places) (x .net) (x .runs); holds = x .holds .grown }
 
-  module _ (h : k < legs b) (fs′ : List Float) (us′ : List ℕ) (reals′ : List Float) (cells′ joins′ : List ℕ) (t : Turned)
+  module _ (h : k < legs b) (fs′ : List Float) (us′ : List ℕ) (reals′ : List Float) (cells′ joins′ : List ℕ) (t : GrowthAnswer)
       (told : (path : List ℕ) (net : Net) (runs : List Run) → DriveIn b p fs us reals cells joins path g net runs → TurnedAs (nextTurn b (p .w .places) net runs) b p fs′ us′ reals′ cells′ joins′ t) where
     unfolds : {answer : Answer Net} → (x : Goes b p fs us reals cells joins g (legs b - k) answer) → answer ≡ andThen (nextTurn b (p .w .places) (x .net) (x .runs)) (λ (y : Growth). drive (legs b - (k + 1)) b (p .w .places) (y .net) (y .saved))
     unfolds x =

@@ -18,29 +18,29 @@ use Rattle.net_node.specs.declared.EstTime.{EstTime}
 use Rattle.net_node.specs.Table.{Room, nodeAt}
 use Rattle.net_insertion.specs.Insertion.{Table, put, at}
 use Rattle.net_event_map.proofs.Kept.{mapped-start}
-use Rattle.grow_ends.proofs.Kept.{ends-none, flag-none, first-room, first-woven, node-one, zero-fake, one-fake}
+use Rattle.grow_ends.proofs.Kept.{ends-none, flag-none, first-room, first-indexed, node-one, zero-fake, one-fake}
 use Rattle.grow_path.specs.Path.{pointOffset}
 use Rattle.grow_path.specs.Kept.{PathIn}
 use Rattle.grow_waiting.proofs.Kept.{saved-none}
 use Rattle.grow_rules.specs.Run.{Answer, refused, andThen, Net, Run}
-use Rattle.grow_rules.specs.Growth.{Growth, fakeNode, firstNodes, originsOf, drive, startAs, grow}
-use Rattle.grow_rules.specs.Growth.{Grown as Network}
+use Rattle.grow_rules.specs.Growth.{Growth, fakeNode, firstNodes, growOrigins, drive, startAs, grow}
+use Rattle.grow_rules.specs.Growth.{Grown}
 use Rattle.grow_events.specs.Held.{NetIn, endsAt}
 use Rattle.grow_state.specs.declared.Plan.{Plan}
 use Rattle.grow_state.specs.declared.State.{State}
-use Rattle.grow_state.specs.declared.Turned.{Turned}
-use Rattle.grow_state.specs.declared.Turned.the-variants.{On, Refused}
+use Rattle.grow_state.specs.declared.GrowthAnswer.{GrowthAnswer}
+use Rattle.grow_state.specs.declared.GrowthAnswer.the-variants.{On, Refused}
 use Rattle.grow_state.specs.Held.{PlanIn, DriveIn, Driving}
-use Rattle.grow_origins.specs.Origins.{startState, OriginsIn, SomeOrigins, OnlyStart, PlantedAs, OriginsAs}
-use Rattle.grow_book.specs.declared.Grown.{Grown}
-use Rattle.grow_book.specs.Grower.{DrivenAs, DriveAs, closing, grownFrom, Closing, SomeClosing, GrownAs}
+use Rattle.grow_origins.specs.Origins.{startState, OriginsIn, SomeOrigins, OnlyStart, OriginsGiven, OriginsAs}
+use Rattle.grow_book.specs.declared.GrownBook.{GrownBook}
+use Rattle.grow_book.specs.Answers.{DrivenAs, DriveAs, closing, grownFrom, Closing, SomeClosing, GrownAs}
 
 -- ---- from the origins on
 
-driven-from : List ℕ → ℕ → Growth → Answer Network
+driven-from : List ℕ → ℕ → Growth → Answer Grown
 driven-from b places g = andThen (drive (legs b) b places (g .net) (g .saved)) (closing places)
 
-from-is : (b : List ℕ) (places : ℕ) (net : Net) → grownFrom b places net ≡ andThen (originsOf b places (keptOrigins b) (record { net = net; saved = [] })) (driven-from b places)
+from-is : (b : List ℕ) (places : ℕ) (net : Net) → grownFrom b places net ≡ andThen (growOrigins b places (keptOrigins b) (record { net = net; saved = [] })) (driven-from b places)
 unfolding grownFrom driven-from
 from-is b places net = refl
 
@@ -60,30 +60,30 @@ module _ (b : List ℕ) (p : Plan) (fs : List Float) (us : List ℕ) (reals : Li
   pub all-some : SomeOrigins b p fs us reals cells joins (keptOrigins b) startState → SomeOrigins b p fs us reals cells joins (keptOrigins b) g
   all-some s = subst (SomeOrigins b p fs us reals cells joins (keptOrigins b)) (sym first) s
 
-  module _ (fs′ : List Float) (us′ : List ℕ) (reals′ : List Float) (cells′ : List ℕ) (t : Turned)
-      (told : (net : Net) (runs : List Run) → OriginsIn b p fs us reals cells joins (keptOrigins b) g net runs → OriginsAs (originsOf b (p .w .places) (keptOrigins b) (record { net = net; saved = runs })) b p fs′ us′ reals′ cells′ joins [] t) where
-    planted : (net : Net) (runs : List Run) → OriginsIn b p fs us reals cells joins (keptOrigins b) startState net runs → OriginsAs (originsOf b (p .w .places) (keptOrigins b) (record { net = net; saved = runs })) b p fs′ us′ reals′ cells′ joins [] t
-    planted net runs o = told net runs (subst (λ (x : State). OriginsIn b p fs us reals cells joins (keptOrigins b) x net runs) (sym first) o)
+  module _ (fs′ : List Float) (us′ : List ℕ) (reals′ : List Float) (cells′ : List ℕ) (t : GrowthAnswer)
+      (told : (net : Net) (runs : List Run) → OriginsIn b p fs us reals cells joins (keptOrigins b) g net runs → OriginsAs (growOrigins b (p .w .places) (keptOrigins b) (record { net = net; saved = runs })) b p fs′ us′ reals′ cells′ joins [] t) where
+    with_origins : (net : Net) (runs : List Run) → OriginsIn b p fs us reals cells joins (keptOrigins b) startState net runs → OriginsAs (growOrigins b (p .w .places) (keptOrigins b) (record { net = net; saved = runs })) b p fs′ us′ reals′ cells′ joins [] t
+    with_origins net runs o = told net runs (subst (λ (x : State). OriginsIn b p fs us reals cells joins (keptOrigins b) x net runs) (sym first) o)
 
     pub all-stopped : (k : ℕ) → t ≡ Refused k → (net : Net) → OriginsIn b p fs us reals cells joins (keptOrigins b) startState net [] → grownFrom b (p .w .places) net ≡ refused k
-    all-stopped k e net o = from-is b (p .w .places) net ∙ ap (λ (a : Answer Growth). andThen a (driven-from b (p .w .places))) (subst (OriginsAs (originsOf b (p .w .places) (keptOrigins b) (record { net = net; saved = [] })) b p fs′ us′ reals′ cells′ joins []) e (planted net [] o))
+    all-stopped k e net o = from-is b (p .w .places) net ∙ ap (λ (a : Answer Growth). andThen a (driven-from b (p .w .places))) (subst (OriginsAs (growOrigins b (p .w .places) (keptOrigins b) (record { net = net; saved = [] })) b p fs′ us′ reals′ cells′ joins []) e (with_origins net [] o))
 
     module _ (s : State) (e : t ≡ On s) where
-      as-planted : (net : Net) (runs : List Run) → OriginsIn b p fs us reals cells joins (keptOrigins b) startState net runs → PlantedAs (originsOf b (p .w .places) (keptOrigins b) (record { net = net; saved = runs })) b p fs′ us′ reals′ cells′ joins [] s
-      as-planted net runs o = subst (OriginsAs (originsOf b (p .w .places) (keptOrigins b) (record { net = net; saved = runs })) b p fs′ us′ reals′ cells′ joins []) e (planted net runs o)
+      as-origins : (net : Net) (runs : List Run) → OriginsIn b p fs us reals cells joins (keptOrigins b) startState net runs → OriginsGiven (growOrigins b (p .w .places) (keptOrigins b) (record { net = net; saved = runs })) b p fs′ us′ reals′ cells′ joins [] s
+      as-origins net runs o = subst (OriginsAs (growOrigins b (p .w .places) (keptOrigins b) (record { net = net; saved = runs })) b p fs′ us′ reals′ cells′ joins []) e (with_origins net runs o)
 
       pub all-driving : SomeOrigins b p fs us reals cells joins (keptOrigins b) startState → Driving b p fs′ us′ reals′ cells′ joins s
-      all-driving q = let x = as-planted (q .net) (q .runs) (q .origins) in record { path = []; net = x .growth .net; runs = x .growth .saved; holds = x .origins .holds }
+      all-driving q = let x = as-origins (q .net) (q .runs) (q .origins) in record { path = []; net = x .growth .net; runs = x .growth .saved; holds = x .origins .holds }
 
-      module _ (fs″ : List Float) (us″ cells″ : List ℕ) (d : Turned)
+      module _ (fs″ : List Float) (us″ cells″ : List ℕ) (d : GrowthAnswer)
           (drove : (path : List ℕ) (net : Net) (runs : List Run) → DriveIn b p fs′ us′ reals′ cells′ joins path s net runs → DriveAs (drive (legs b) b (p .w .places) net runs) p fs″ us″ cells″ d) where
-        from-driven : (net : Net) (runs : List Run) (x : PlantedAs (originsOf b (p .w .places) (keptOrigins b) (record { net = net; saved = [] })) b p fs′ us′ reals′ cells′ joins [] s)
+        from-driven : (net : Net) (runs : List Run) (x : OriginsGiven (growOrigins b (p .w .places) (keptOrigins b) (record { net = net; saved = [] })) b p fs′ us′ reals′ cells′ joins [] s)
             → grownFrom b (p .w .places) net ≡ andThen (drive (legs b) b (p .w .places) (x .growth .net) (x .growth .saved)) (closing (p .w .places))
         from-driven net runs x = from-is b (p .w .places) net ∙ ap (λ (a : Answer Growth). andThen a (driven-from b (p .w .places))) (x .is) ∙ driven-is b (p .w .places) (x .growth)
 
         pub all-refused : (k : ℕ) → d ≡ Refused k → (net : Net) → OriginsIn b p fs us reals cells joins (keptOrigins b) startState net [] → grownFrom b (p .w .places) net ≡ refused k
         all-refused k q net o =
-            let x = as-planted net [] o in
+            let x = as-origins net [] o in
             from-driven net [] x ∙ ap (λ (a : Answer Net). andThen a (closing (p .w .places))) (subst (DriveAs (drive (legs b) b (p .w .places) (x .growth .net) (x .growth .saved)) p fs″ us″ cells″) q (drove [] (x .growth .net) (x .growth .saved) (x .origins .holds)))
 
         module _ (z : State) (q : d ≡ On z) where
@@ -92,21 +92,21 @@ module _ (b : List ℕ) (p : Plan) (fs : List Float) (us : List ℕ) (reals : Li
 
           pub all-closing : SomeOrigins b p fs us reals cells joins (keptOrigins b) startState → SomeClosing (p .w) fs″ us″ cells″ (z .counts)
           all-closing o =
-              let x = as-planted (o .net) (o .runs) (o .origins) in
+              let x = as-origins (o .net) (o .runs) (o .origins) in
               let y = as-driven (x .growth .net) (x .growth .saved) (x .origins .holds) in
               record { net = y .net; closes = record { start = cells″; holds = y .holds } }
 
-          pub all-grown : (fs‴ : List Float) (us‴ : List ℕ) (r : Grown) → ((net : Net) → Closing (p .w) fs″ us″ cells″ (z .counts) net → GrownAs (closing (p .w .places) net) fs‴ us‴ r) → (net : Net) → OriginsIn b p fs us reals cells joins (keptOrigins b) startState net []
+          pub all-grown : (fs‴ : List Float) (us‴ : List ℕ) (r : GrownBook) → ((net : Net) → Closing (p .w) fs″ us″ cells″ (z .counts) net → GrownAs (closing (p .w .places) net) fs‴ us‴ r) → (net : Net) → OriginsIn b p fs us reals cells joins (keptOrigins b) startState net []
               → GrownAs (grownFrom b (p .w .places) net) fs‴ us‴ r
           all-grown fs‴ us‴ r f net o =
-              let x = as-planted net [] o in
+              let x = as-origins net [] o in
               let y = as-driven (x .growth .net) (x .growth .saved) (x .origins .holds) in
-              subst (λ (a : Answer Network). GrownAs a fs‴ us‴ r) (sym (from-driven net [] x ∙ ap (λ (a : Answer Net). andThen a (closing (p .w .places))) (y .is))) (f (y .net) (record { start = cells″; holds = y .holds }))
+              subst (λ (a : Answer Grown). GrownAs a fs‴ us‴ r) (sym (from-driven net [] x ∙ ap (λ (a : Answer Net). andThen a (closing (p .w .places))) (y .is))) (f (y .net) (record { start = cells″; holds = y .holds }))
 
 -- ---- from nodes 0 and 1 on
 
-from-start : List ℕ → ℕ → Growth → Answer Network
-from-start b places s = andThen (originsOf b places (keptOrigins b) s) (driven-from b places)
+from-start : List ℕ → ℕ → Growth → Answer Grown
+from-start b places s = andThen (growOrigins b places (keptOrigins b) s) (driven-from b places)
 
 grow-is : (b : List ℕ) (places : ℕ) (t : Table) → grow b places t ≡ andThen (startAs (ltb 1 places) (firstNodes b t)) (from-start b places)
 unfolding grow from-start driven-from closing
@@ -178,7 +178,7 @@ module _ {b : List ℕ} {s : Sections} {kept : ℕ} {cells marks : List ℕ} (re
     sum = refl;
     room = first-room t (p .departure) (p .w .places) room some;
     within = some;
-    woven = first-woven t (p .departure) (p .w .places) room some;
+    indexed = first-indexed t (p .departure) (p .w .places) room some;
     apart = record { links-inside = omega (arith, behind, plan .all-links); nodes-inside = omega (arith, plan .nodes-at); apart = omega (arith, behind, plan .nodes-at) };
     mapped =
         mapped-start cells (p .w) (at (firstTable t (p .departure))) (λ q h g. ready .rest q (omega (arith, behind))) (λ q h g. ready .rest q (omega (arith, plan .nodes-at))) (zero-fake t (p .departure) (p .w .places) room some)
@@ -199,8 +199,8 @@ module _ {b : List ℕ} {s : Sections} {kept : ℕ} {cells marks : List ℕ} (re
       short = omega arith;
       waiting = record { runs = []; kept = saved-none cells reals (p .r); same = tt };
       sound = tt;
-      beneath = tt;
-      clear = tt;
+      prefixes = tt;
+      separate = tt;
     };
     idle = refl;
     firsts = tt;
@@ -225,8 +225,8 @@ module _ {b : List ℕ} {s : Sections} {kept : ℕ} {cells marks : List ℕ} (re
   pub book-some : SomeOrigins b p fs′ us′ reals cells joins (keptOrigins b) startState
   book-some = record { net = firstNodes b (record { floats = fs; numbers = us }); runs = []; origins = book-origins }
 
-  pub book-grown : (fs″ : List Float) (us″ : List ℕ) (r : Grown) → ((net : Net) → OriginsIn b p fs′ us′ reals cells joins (keptOrigins b) startState net [] → GrownAs (grownFrom b (p .w .places) net) fs″ us″ r)
+  pub book-grown : (fs″ : List Float) (us″ : List ℕ) (r : GrownBook) → ((net : Net) → OriginsIn b p fs′ us′ reals cells joins (keptOrigins b) startState net [] → GrownAs (grownFrom b (p .w .places) net) fs″ us″ r)
       → GrownAs (grow b (placesOf (length fs) (length us)) (record { floats = fs; numbers = us })) fs″ us″ r
   book-grown fs″ us″ r f =
-      subst (λ (a : Answer Network). GrownAs a fs″ us″ r) (sym (grow-from b (placesOf (length fs) (length us)) (record { floats = fs; numbers = us }) (omega (arith, are))))
+      subst (λ (a : Answer Grown). GrownAs a fs″ us″ r) (sym (grow-from b (placesOf (length fs) (length us)) (record { floats = fs; numbers = us }) (omega (arith, are))))
       (subst (λ (n : ℕ). GrownAs (grownFrom b n (firstNodes b (record { floats = fs; numbers = us }))) fs″ us″ r) (planned ∙ are) (f (firstNodes b (record { floats = fs; numbers = us })) book-origins))

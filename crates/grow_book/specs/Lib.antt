@@ -1,1 +1,1 @@
-pub mod Grower
+pub mod Answers

@@ -1,11 +1,11 @@
-// Growth of a book's network: its origins, all runs, the ends. Contracts: grow_rules' specs/Growth.antt, specs/Grower.antt.
+// Growth of a book's network: its origins, all runs, the ends. Contracts: grow_rules' specs/Growth.antt, specs/Answers.antt.
 use book_format::Sections;
-use grow_ends::Pushed;
-use net_event_map::Layout;
+use grow_ends::TailAnswer;
 use grow_events::Counts;
+use grow_state::GrowthAnswer;
 use grow_state::Plan;
 use grow_state::State;
-use grow_state::Turned;
+use net_event_map::Layout;
 ghost use mathlib.Core.Path.{_≡_};
 ghost use mathlib.Core.Bool.{true, false, not, _&&_};
 ghost use mathlib.Core.List.{List, []};
@@ -17,13 +17,13 @@ ghost use Rattle.space.specs.Space.{placesOf};
 ghost use Rattle.net_node.specs.Table.{nodeAt};
 ghost use Rattle.book_format.specs.Format.{links, origins, destinations, legs};
 ghost use Rattle.book_legs.specs.Legs.{Started};
-ghost use Rattle.book_options.specs.Options.{Marked, keptOrigins};
+ghost use Rattle.book_options.specs.Options.{OptionsIn, keptOrigins};
 ghost use Rattle.book_reader.specs.Reader.{Ready};
 ghost use Rattle.grow_rules.specs.Run.{Net, Run};
 ghost use Rattle.grow_rules.specs.Growth.{drive, grow};
 ghost use Rattle.grow_state.specs.Held.{PlanIn, DriveIn, Driving, SomeDrive, TurnedAs};
 ghost use Rattle.grow_origins.specs.Origins.{startState, OriginsIn, SomeOrigins, OnlyStart};
-ghost use Rattle.grow_book.specs.Grower.{nextTurn, DriveAs, Closing, SomeClosing, closing, grownFrom, GrownAs};
+ghost use Rattle.grow_book.specs.Answers.{nextTurn, DriveAs, Closing, SomeClosing, closing, grownFrom, GrownAs};
 
 // The report's counts.
 pub struct Report {
@@ -35,7 +35,7 @@ pub struct Report {
 }
 
 // The counts of a network that has grown, or the number of a refusal.
-pub enum Grown {
+pub enum GrownBook {
     Whole(Report),
     Stopped(u32),
 }
@@ -76,9 +76,9 @@ fn next_turn(
     stack: &mut [u32],
     p: Plan,
     g: State,
-) -> Turned
+) -> GrowthAnswer
     requires { ⌜ PlanIn (now book) p (length (now reals)) ⌝ }
-    requires { ⌜ Marked (now book) (now marks) ⌝ }
+    requires { ⌜ OptionsIn (now book) (now marks) ⌝ }
     requires { ⌜ links (now book) ≤ length (now marks) ⌝ }
     requires { ⌜ Driving (now book) p (now floats) (now numbers) (now reals) (now cells) (now joins) g ⌝ }
     requires { ⌜ 2048 ≤ length (now joins) ⌝ }
@@ -116,9 +116,9 @@ fn drive(
     stack: &mut [u32],
     p: Plan,
     g: State,
-) -> Turned
+) -> GrowthAnswer
     requires { ⌜ PlanIn (now book) p (length (now reals)) ⌝ }
-    requires { ⌜ Marked (now book) (now marks) ⌝ }
+    requires { ⌜ OptionsIn (now book) (now marks) ⌝ }
     requires { ⌜ links (now book) ≤ length (now marks) ⌝ }
     requires { ⌜ Driving (now book) p (now floats) (now numbers) (now reals) (now cells) (now joins) g ⌝ }
     requires { ⌜ 2048 ≤ length (now joins) ⌝ }
@@ -131,7 +131,7 @@ fn drive(
     let mut turn = 0;
     while turn < s.legs {
         if is_done(state) {
-            return Turned::On(state);
+            return GrowthAnswer::On(state);
         }
         let turned = next_turn(
             book,
@@ -146,17 +146,17 @@ fn drive(
             p,
             state,
         );
-        let Turned::On(next) = turned else {
+        let GrowthAnswer::On(next) = turned else {
             return turned;
         };
         state = next;
         turn += 1;
     }
-    Turned::On(state)
+    GrowthAnswer::On(state)
 }
 
 // The end Fakes and the last node.
-fn close(floats: &mut [f64], numbers: &mut [u32], cells: &[u32], w: Layout, c: Counts) -> Grown
+fn close(floats: &mut [f64], numbers: &mut [u32], cells: &[u32], w: Layout, c: Counts) -> GrownBook
     requires { ⌜ SomeClosing w (now floats) (now numbers) (now cells) c ⌝ }
     ensures { λ r. ⌜ ((net : Net) → Closing w (now (floats .entry)) (now (numbers .entry)) (now (cells .entry)) c net → GrownAs (closing (w .places) net) (now (floats .exit)) (now (numbers .exit)) r) ⌝ }
 {
@@ -169,14 +169,14 @@ fn close(floats: &mut [f64], numbers: &mut [u32], cells: &[u32], w: Layout, c: C
         w.nodes_at + 2,
         c.last_end,
     );
-    let Pushed::Nodes(n) = fakes else {
-        return Grown::Stopped(12);
+    let TailAnswer::Nodes(n) = fakes else {
+        return GrownBook::Stopped(12);
     };
     let last = grow_ends::last_node(floats, numbers, n, w.places);
-    let Pushed::Nodes(nodes) = last else {
-        return Grown::Stopped(12);
+    let TailAnswer::Nodes(nodes) = last else {
+        return GrownBook::Stopped(12);
     };
-    Grown::Whole(Report {
+    GrownBook::Whole(Report {
         nodes,
         added: c.added,
         splits: c.splits,
@@ -198,9 +198,9 @@ fn run_all(
     stack: &mut [u32],
     kept: usize,
     p: Plan,
-) -> Grown
+) -> GrownBook
     requires { ⌜ PlanIn (now book) p (length (now reals)) ⌝ }
-    requires { ⌜ Marked (now book) (now marks) ⌝ }
+    requires { ⌜ OptionsIn (now book) (now marks) ⌝ }
     requires { ⌜ 2 * links (now book) + destinations (now book) + origins (now book) ≤ length (now marks) ⌝ }
     requires { ⌜ kept ≡ length (keptOrigins (now book)) ⌝ }
     requires { ⌜ SomeOrigins (now book) p (now floats) (now numbers) (now reals) (now cells) (now joins) (keptOrigins (now book)) startState ⌝ }
@@ -212,7 +212,7 @@ fn run_all(
     ensures { λ r. ⌜ ((net : Net) → OriginsIn (now (book .entry)) p (now (floats .entry)) (now (numbers .entry)) (now (reals .entry)) (now (cells .entry)) (now (joins .entry)) (keptOrigins (now (book .entry))) startState net [] → GrownAs (grownFrom (now (book .entry)) (p .w .places) net) (now (floats .exit)) (now (numbers .exit)) r) ⌝ }
 {
     let g = grow_origins::first_state();
-    let planted = grow_origins::origins(
+    let with_origins = grow_origins::origins(
         book,
         floats,
         numbers,
@@ -224,9 +224,9 @@ fn run_all(
         p,
         g,
     );
-    let planted_state = match planted {
-        Turned::Refused(k) => return Grown::Stopped(k),
-        Turned::On(state) => state,
+    let origins_state = match with_origins {
+        GrowthAnswer::Refused(k) => return GrownBook::Stopped(k),
+        GrowthAnswer::On(state) => state,
     };
     let driven = drive(
         book,
@@ -239,11 +239,11 @@ fn run_all(
         scratch,
         stack,
         p,
-        planted_state,
+        origins_state,
     );
     match driven {
-        Turned::Refused(k) => Grown::Stopped(k),
-        Turned::On(state) => {
+        GrowthAnswer::Refused(k) => GrownBook::Stopped(k),
+        GrowthAnswer::On(state) => {
             let counts = state.counts;
             let w = p.w;
             close(floats, numbers, cells, w, counts)
@@ -261,7 +261,7 @@ pub fn grow_book(
     reals: &mut [f64],
     cells: &mut [u32],
     marks: &[u32],
-) -> Grown
+) -> GrownBook
     requires { ⌜ Ready (now book) s kept (now cells) (now marks) ⌝ }
     requires { ⌜ legs (now book) * 3 + 4 ≤ length (now reals) ⌝ }
     requires { ⌜ (legs (now book) + 1 + placesOf (length (now floats)) (length (now numbers)) + links (now book)) * 8 ≤ length (now cells) ⌝ }
@@ -270,7 +270,7 @@ pub fn grow_book(
 {
     let places = space::places(floats.len(), numbers.len());
     if places < 2 {
-        return Grown::Stopped(12);
+        return GrownBook::Stopped(12);
     }
     let p = grow_origins::plan_of(book, s, places);
     grow_ends::first_nodes(floats, numbers, p.departure);

@@ -12,16 +12,16 @@ use lib.Seq.{getD-set-same, getD-set-other}
 use lib.Ieee.{Float, binary64, ofBits}
 use Rattle.net_node.specs.declared.EstTime.{EstTime}
 use Rattle.net_node.specs.declared.EstType.the-variants.{Fake}
-use Rattle.net_node.specs.Table.{Woven, blank, noLink}
+use Rattle.net_node.specs.Table.{Indexed, blank, noLinkEvent}
 use Rattle.net_insertion.specs.Insertion.{Table, put, at, flagged}
-use Rattle.net_insertion.proofs.Puts.{RoomIn, put-room, put-same, put-other, Fits, fits-woven}
+use Rattle.net_insertion.proofs.Puts.{RoomIn, put-room, put-same, put-other, Fits, fits-indexed}
 use Rattle.net_insertion.proofs.Answers.{flagged-set, flagged-clear}
 use Rattle.net_event_map.specs.EventMap.{headOf}
 use Rattle.net_event_map.proofs.Lists.{known, not-both}
 use Rattle.grow_rules.specs.Run.{Answer, refused, given, andThen, Net, Run, memberOf}
 use Rattle.grow_rules.specs.Growth.{Tail, fakeNode, badFinish, leadsToEnd, roomFor, endFakes, lastNode}
-use Rattle.grow_ends.specs.declared.Pushed.the-variants.{Nodes}
-use Rattle.grow_ends.specs.Ends.{EndsIn, Below, SomeEnds, PushedAs, MarkedAs}
+use Rattle.grow_ends.specs.declared.TailAnswer.the-variants.{Nodes}
+use Rattle.grow_ends.specs.Ends.{EndsIn, Below, SomeEnds, TailAs, MarkedAs}
 
 -- ---- members
 
@@ -181,9 +181,9 @@ module _ (t : Table) (time : Float) (places : ℕ) (room : RoomIn t places) (mor
   pub node-one : at firstTable 1 ≡ fakeNode 0 0 0 time
   node-one = put-same (put t 0 (fakeNode 1 0 0 (ofBits binary64 0))) 1 (fakeNode 0 0 0 time) places (put-room t 0 (fakeNode 1 0 0 (ofBits binary64 0)) places room) more
 
-  pub first-woven : Woven (at firstTable) 2
+  pub first-indexed : Indexed (at firstTable) 2
   unfolding fakeNode
-  first-woven = fits-woven each
+  first-indexed = fits-indexed each
     where
       fits : (next : ℕ) (held : Float) (i : ℕ) → next < 2 → Fits (fakeNode next 0 0 held) i 2
       fits next held i h = record { next = h; next-alt = omega arith; prev = omega arith; prev-alt = omega arith; next-alt-rises = λ o. absurd (omega arith); prev-alt-rises = λ o. absurd (omega arith) }
@@ -194,11 +194,11 @@ module _ (t : Table) (time : Float) (places : ℕ) (room : RoomIn t places) (mor
       each (suc (suc i)) h = absurd (omega arith)
 
   pub zero-fake : at firstTable 0 .«link_event» .«est_type» ≡ Fake
-  unfolding fakeNode blank noLink
+  unfolding fakeNode blank noLinkEvent
   zero-fake = ap (λ (x : EstTime). x .«link_event» .«est_type») node-zero
 
   pub one-fake : at firstTable 1 .«link_event» .«est_type» ≡ Fake
-  unfolding fakeNode blank noLink
+  unfolding fakeNode blank noLinkEvent
   one-fake = ap (λ (x : EstTime). x .«link_event» .«est_type») node-one
 
 -- ---- how many nodes there are
@@ -224,12 +224,12 @@ counted-fakes places (i ∷ is) alt t h = go (ltb (t .nodes) places) refl (count
     go false e r = tt
 
 -- by the contract of `end_fakes`, where it has not refused
-pub fakes-counted : (places n k : ℕ) (is : List ℕ) (t : Table) (fs : List Float) (us : List ℕ) → n ≤ places → PushedAs (endFakes places is 0 (record { table = t; nodes = n })) fs us (Nodes k)
+pub fakes-counted : (places n k : ℕ) (is : List ℕ) (t : Table) (fs : List Float) (us : List ℕ) → n ≤ places → TailAs (endFakes places is 0 (record { table = t; nodes = n })) fs us (Nodes k)
     → (k ≡ n + length is) × (k ≤ places)
 fakes-counted places n k is t fs us h e = subst (Counted (n + length is) places) e (counted-fakes places is 0 (record { table = t; nodes = n }) h)
 
 -- and of `last_node`
-pub last-counted : (places n k : ℕ) (t : Table) (fs : List Float) (us : List ℕ) → PushedAs (lastNode places (record { table = t; nodes = n })) fs us (Nodes k) → (k ≡ suc n) × (k ≤ places)
+pub last-counted : (places n k : ℕ) (t : Table) (fs : List Float) (us : List ℕ) → TailAs (lastNode places (record { table = t; nodes = n })) fs us (Nodes k) → (k ≡ suc n) × (k ≤ places)
 unfolding lastNode
 last-counted places n k t fs us e = subst (Counted (suc n) places) e (go (ltb n places) refl)
   where

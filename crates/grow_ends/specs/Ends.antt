@@ -11,8 +11,8 @@ use Rattle.net_insertion.specs.Insertion.{flagged}
 use Rattle.net_event_map.specs.EventMap.{headOf}
 use Rattle.grow_rules.specs.Run.{Answer, refused, given, Net, Run, memberOf}
 use Rattle.grow_rules.specs.Growth.{Tail, badFinish}
-use Rattle.grow_ends.specs.declared.Pushed.{Pushed}
-use Rattle.grow_ends.specs.declared.Pushed.the-variants.{Nodes, Full}
+use Rattle.grow_ends.specs.declared.TailAnswer.{TailAnswer}
+use Rattle.grow_ends.specs.declared.TailAnswer.the-variants.{Nodes, Full}
 
 -- the ends, the latest first: 0 is none, since node 0 is no end
 abbrev pub EndsIn : List ℕ → ℕ → ℕ → List ℕ → Type 0
@@ -31,9 +31,9 @@ pub record SomeEnds (cells : List ℕ) (base last n : ℕ) : Type 0 where
   pub below : Below n ends
 
 -- the table's lists and how many nodes there are, or refusal 12
-abbrev pub PushedAs : Answer Tail → List Float → List ℕ → Pushed → Type 0
-PushedAs answer fs us (Nodes k) = answer ≡ given (record { table = record { floats = fs; numbers = us }; nodes = k })
-PushedAs answer fs us Full = answer ≡ refused 12
+abbrev pub TailAs : Answer Tail → List Float → List ℕ → TailAnswer → Type 0
+TailAs answer fs us (Nodes k) = answer ≡ given (record { table = record { floats = fs; numbers = us }; nodes = k })
+TailAs answer fs us Full = answer ≡ refused 12
 
 -- a finish of a run at a place of a network of n nodes: true where row 13 doesn't hold
 pub record FinishAs (fs : List Float) (us cells : List ℕ) (base n : ℕ) (place : Place) (r : Bool) : Type 0 where

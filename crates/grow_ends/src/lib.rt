@@ -9,10 +9,10 @@ ghost use lib.Ieee.{binary64, ofBits};
 ghost use Rattle.net_node.specs.Table.{Room};
 ghost use Rattle.net_insertion.specs.Insertion.{put};
 ghost use Rattle.grow_rules.specs.Growth.{fakeNode, leadsToEnd, endFakes, lastNode};
-ghost use Rattle.grow_ends.specs.Ends.{EndsIn, SomeEnds, PushedAs, FinishAs, MarkedAs};
+ghost use Rattle.grow_ends.specs.Ends.{EndsIn, SomeEnds, TailAs, FinishAs, MarkedAs};
 
 // How many nodes there are then, or that one did not fit (refusal 12).
-pub enum Pushed {
+pub enum TailAnswer {
     Nodes(usize),
     Full,
 }
@@ -109,19 +109,19 @@ pub fn end_fakes(
     cells: &[u32],
     ends_at: usize,
     last_end: u32,
-) -> Pushed
+) -> TailAnswer
     requires { ⌜ Room (now floats) (now numbers) places ⌝ }
     requires { ⌜ n ≤ places ⌝ }
     requires { ⌜ «ends_at» + n * 8 ≤ length (now cells) + 7 ⌝ }
     requires { ⌜ SomeEnds (now cells) «ends_at» «last_end» n ⌝ }
-    ensures { λ r. ⌜ ((ends : List ℕ) → EndsIn (now (cells .entry)) «ends_at» «last_end» ends → PushedAs (endFakes places ends 0 (record { table = record { floats = now (floats .entry); numbers = now (numbers .entry) }; nodes = n })) (now (floats .exit)) (now (numbers .exit)) r) ⌝ }
+    ensures { λ r. ⌜ ((ends : List ℕ) → EndsIn (now (cells .entry)) «ends_at» «last_end» ends → TailAs (endFakes places ends 0 (record { table = record { floats = now (floats .entry); numbers = now (numbers .entry) }; nodes = n })) (now (floats .exit)) (now (numbers .exit)) r) ⌝ }
 {
     let mut i = last_end;
     let mut alt: u32 = 0;
     let mut k = n;
     while i != 0 {
         if places <= k {
-            return Pushed::Full;
+            return TailAnswer::Full;
         }
         let fake = fake_node(k as u32 + 1, i, alt, 0.0);
         net_node::store(floats, numbers, k, fake);
@@ -132,19 +132,19 @@ pub fn end_fakes(
         k += 1;
         i = cells[ends_at + i as usize * 8] - 1;
     }
-    Pushed::Nodes(k)
+    TailAnswer::Nodes(k)
 }
 
 // The last node, the end.
-pub fn last_node(floats: &mut [f64], numbers: &mut [u32], n: usize, places: usize) -> Pushed
+pub fn last_node(floats: &mut [f64], numbers: &mut [u32], n: usize, places: usize) -> TailAnswer
     requires { ⌜ Room (now floats) (now numbers) places ⌝ }
     requires { ⌜ 0 < n ⌝ }
-    ensures { λ r. ⌜ PushedAs (lastNode places (record { table = record { floats = now (floats .entry); numbers = now (numbers .entry) }; nodes = n })) (now (floats .exit)) (now (numbers .exit)) r ⌝ }
+    ensures { λ r. ⌜ TailAs (lastNode places (record { table = record { floats = now (floats .entry); numbers = now (numbers .entry) }; nodes = n })) (now (floats .exit)) (now (numbers .exit)) r ⌝ }
 {
     if places <= n {
-        return Pushed::Full;
+        return TailAnswer::Full;
     }
     let last = fake_node(0, n as u32 - 1, 0, 0.0);
     net_node::store(floats, numbers, n, last);
-    Pushed::Nodes(n + 1)
+    TailAnswer::Nodes(n + 1)
 }

@@ -11,7 +11,7 @@ use lib.ListN.{length, getD}
 use Rattle.net_node.specs.declared.EstType.the-variants.{Fake}
 use Rattle.net_node.specs.declared.EstTime.{EstTime}
 use Rattle.net_node.specs.declared.TimedEvent.{TimedEvent}
-use Rattle.net_node.specs.Table.{nodeAt, Woven}
+use Rattle.net_node.specs.Table.{nodeAt, Indexed}
 use Rattle.net_insertion.specs.declared.Place.{Place}
 use Rattle.net_insertion.specs.declared.Inserted.{Inserted}
 use Rattle.net_insertion.specs.declared.Inserted.the-variants.{Added, Moved, Refused}
@@ -22,7 +22,7 @@ use Rattle.net_event_map.specs.declared.Layout.{Layout}
 use Rattle.net_event_map.specs.EventMap.{Mapped, MapOnly}
 use Rattle.net_event_map.proofs.Kept.{apart-same, mapped-same, mapped-fake}
 use Rattle.grow_rules.specs.Run.{refused, Net, Run, arcTo, memberOf, countIf, addedTo, movedTo, insertEvent, goesOn}
-use Rattle.grow_rules.specs.Run.{insertedAs as answeredAs}
+use Rattle.grow_rules.specs.Run.{insertedRun as answeredAs}
 use Rattle.grow_events.specs.declared.Counts.{Counts}
 use Rattle.grow_events.specs.declared.Mover.{Mover}
 use Rattle.grow_events.specs.Held.{endsAt, NetIn, RunIn, GoesAs}
@@ -49,9 +49,9 @@ abbrev pub tableOf : List Float → List ℕ → Table
 tableOf fs us = record { floats = fs; numbers = us }
 
 module _ {w : Layout} {start : List ℕ} {fs : List Float} {us cells : List ℕ} {c : Counts} {net : Net} (v : NetIn w start fs us cells c net) where
-  pub net-woven : Woven (at (tableOf fs us)) (c .nodes)
+  pub net-indexed : Indexed (at (tableOf fs us)) (c .nodes)
   unfolding at
-  net-woven = v .woven
+  net-indexed = v .indexed
 
   pub net-mapped : Mapped cells w (at (tableOf fs us)) (c .nodes)
   unfolding at
@@ -77,7 +77,7 @@ module _ {w : Layout} {start : List ℕ} {fs : List Float} {us cells : List ℕ}
     KeptAs = Kept (tableOf fs us) (c .nodes) (w .places) ended join p e
 
     kept-now : (fs′ : List Float) (us′ : List ℕ) (a : Inserted) → a ≡ answer → InsertedInto (tableOf fs us) (c .nodes) join p e fs′ us′ a → KeptAs (tableOf fs′ us′) a
-    kept-now = call-kept (tableOf fs us) (c .nodes) (w .places) ended join p e (v .room) net-woven h
+    kept-now = call-kept (tableOf fs us) (c .nodes) (w .places) ended join p e (v .room) net-indexed h
 
     -- node i is new
     pub record Fresh (i : ℕ) (split : Bool) : Type 0 where
@@ -91,7 +91,7 @@ module _ {w : Layout} {start : List ℕ} {fs : List Float} {us cells : List ℕ}
       fresh : Fresh i split
       event : at after i .«link_event» ≡ e .«link_event»
       mapped : Mapped cells w (at after) i
-      woven : Woven (at after) (i + 1)
+      indexed : Indexed (at after) (i + 1)
 
     -- the nodes that were there have the same events
     still-mapped : (after : Table) (i : ℕ) → at after i .«link_event» ≡ at (tableOf fs us) i .«link_event» → ((j : ℕ) → j < c .nodes → j ≢ i → at after j ≡ at (tableOf fs us) j) → Mapped cells w (at after) (c .nodes)
@@ -113,7 +113,7 @@ module _ {w : Layout} {start : List ℕ} {fs : List Float} {us cells : List ℕ}
           fresh = record { some = omega (arith, k .grown .last, v .sum); below = omega (arith, k .grown .last, k .grown .room); count = k .grown .last; grows = omega (arith, k .grown .last) };
           event = new-event after (q .«idx_prev») (c .nodes) (k .node) i (k .added);
           mapped = subst (Mapped cells w (at after)) i (still-mapped after (k .node) (ap (λ (x : EstTime). x .«link_event») (k .found)) (λ j g d. k .others j d (λ (o : j ≡ c .nodes). omega arith)));
-          woven = subst (Woven (at after)) (sym (k .grown .last)) (k .grown .woven);
+          indexed = subst (Indexed (at after)) (sym (k .grown .last)) (k .grown .indexed);
         }
 
     ready-split : (after : Table) (q : Place) → KeptAs after (Added q true) → Ready after (q .«idx_prev») true
@@ -126,7 +126,7 @@ module _ {w : Layout} {start : List ℕ} {fs : List Float} {us cells : List ℕ}
           fresh = record { some = omega (arith, k .grown .last, v .sum); below = omega (arith, k .grown .last, k .grown .room); count = k .grown .last; grows = omega (arith, k .grown .last) };
           event = new-event after (q .«idx_prev») (c .nodes + 1) (c .nodes) i (k .added);
           mapped = subst (Mapped cells w (at after)) i (mapped-fake (still-mapped after (k .node) (ap (λ (x : EstTime). x .«link_event») (k .found)) others) (omega (arith, k .grown .room)) fake);
-          woven = subst (Woven (at after)) (sym (k .grown .last)) (k .grown .woven);
+          indexed = subst (Indexed (at after)) (sym (k .grown .last)) (k .grown .indexed);
         }
 
     ready-as : (after : Table) (q : Place) (split : Bool) → KeptAs after (Added q split) → Ready after (q .«idx_prev») split
@@ -153,7 +153,7 @@ module _ {w : Layout} {start : List ℕ} {fs : List Float} {us cells : List ℕ}
       ap (λ (x : Table). answeredAs net run e (insertedTable x (net .nodes) join (run .place) e) (inserted x (net .nodes) (w .places) (memberOf (net .ends)) join (run .place) e)) (v .table)
       ∙ ap (λ (n : ℕ). answeredAs net run e (insertedTable (tableOf fs us) n join (run .place) e) (inserted (tableOf fs us) n (w .places) (memberOf (net .ends)) join (run .place) e)) (v .nodes)
       ∙ ap (λ (p : Place). answeredAs net run e (insertedTable (tableOf fs us) (c .nodes) join p e) (inserted (tableOf fs us) (c .nodes) (w .places) (memberOf (net .ends)) join p e)) (u .place)
-      ∙ ap (answeredAs net run e tableThen) (inserted-same (tableOf fs us) (c .nodes) (w .places) (memberOf (net .ends)) (flagged cells (endsAt w)) join (m .place) e (net-woven v) (u .stands) (λ i h. sym (v .ended i (omega (arith, v .within)))))
+      ∙ ap (answeredAs net run e tableThen) (inserted-same (tableOf fs us) (c .nodes) (w .places) (memberOf (net .ends)) (flagged cells (endsAt w)) join (m .place) e (net-indexed v) (u .stands) (λ i h. sym (v .ended i (omega (arith, v .within)))))
 
   -- what the code got from `insert_est_time`
   module _ (fs′ : List Float) (us′ : List ℕ) (a : Inserted) (f : a ≡ answer v join (m .place) e (u .stands)) (l : InsertedInto (tableOf fs us) (c .nodes) join (m .place) e fs′ us′ a) where
@@ -163,15 +163,15 @@ module _ {w : Layout} {start : List ℕ} {fs : List Float} {us cells : List ℕ}
     pub insert-refused : (k : ℕ) → a ≡ Refused k → goesOn (insertEvent (w .places) join net run e) ≡ refused k
     insert-refused k h = answers (Refused k) h
 
-    pub insert-moved : (q : Place) → a ≡ Moved q → GoesAs (goesOn (insertEvent (w .places) join net run e)) w start leg fs′ us′ cells joins c (record { place = q; added = m .added; count = m .count })
+    pub insert-moved : (q : Place) → a ≡ Moved q → GoesAs (goesOn (insertEvent (w .places) join net run e)) w start leg fs′ us′ cells joins c (record { place = q; «has_split» = m .«has_split»; count = m .count })
     unfolding movedTo
     insert-moved q h =
         let k : KeptAs v join (m .place) e (u .stands) (tableOf fs′ us′) (Moved q) = subst (KeptAs v join (m .place) e (u .stands) (tableOf fs′ us′)) h (kept-now v join (m .place) e (u .stands) fs′ us′ a f l) in
         record {
-          after = record { net = net; run = movedTo run q (run .added) };
+          after = record { net = net; run = movedTo run q (run .«has_split») };
           is = answers (Moved q) h;
           net = subst (λ (x : Table). NetIn w start (x .floats) (x .numbers) cells c net) (sym (k .table)) v;
-          run = record { place = refl; leg = u .leg; added = u .added; joins = u .joins; few = u .few; valid = u .valid; stands = k .within };
+          run = record { place = refl; leg = u .leg; has-split = u .has-split; joins = u .joins; few = u .few; valid = u .valid; stands = k .within };
         }
 
     -- and from `net_event_map::insert`
@@ -201,7 +201,7 @@ module _ {w : Layout} {start : List ℕ} {fs : List Float} {us cells : List ℕ}
         sum = added-sum (c .nodes) (q .«idx_prev») (c .added) (c .splits) (c .joined) split (v .sum) (ready .fresh .count);
         room = subst (λ (x : Table). RoomIn x (w .places)) same (inserted-room (tableOf fs us) (c .nodes) (w .places) (flagged cells (endsAt w)) join (m .place) e (v .room));
         within = omega (arith, ready .fresh .below);
-        woven = ready .woven;
+        indexed = ready .indexed;
         apart = apart-same long (v .apart);
         mapped = mapped (nodeAt fs′ us′) (ready .event) (ready .mapped);
         ends = ends-same cells (endsAt w) cells′ (c .«last_end») (c .nodes) (net .ends) (v .ends-below) (λ i g. end-stays i (omega (arith, v .within))) (v .ends);
@@ -210,11 +210,11 @@ module _ {w : Layout} {start : List ℕ} {fs : List Float} {us cells : List ℕ}
         elsewhere = λ x g f. only .stays x (λ j k a b d. omega arith) (λ i a (d : x ≡ w .«nodes_at» + i * 8). f i 0 a (omega arith) (omega arith)) ∙ v .elsewhere x g f;
       }
 
-      pub insert-added : (d : Counts) → d ≡ counts → GoesAs (goesOn (insertEvent (w .places) join net run e)) w start leg fs′ us′ cells′ joins d (record { place = q; added = true; count = m .count })
+      pub insert-added : (d : Counts) → d ≡ counts → GoesAs (goesOn (insertEvent (w .places) join net run e)) w start leg fs′ us′ cells′ joins d (record { place = q; «has_split» = true; count = m .count })
       unfolding movedTo
-      insert-added d z = subst (λ (d : Counts). GoesAs (goesOn (insertEvent (w .places) join net run e)) w start leg fs′ us′ cells′ joins d (record { place = q; added = true; count = m .count })) (sym z) (record {
+      insert-added d z = subst (λ (d : Counts). GoesAs (goesOn (insertEvent (w .places) join net run e)) w start leg fs′ us′ cells′ joins d (record { place = q; «has_split» = true; count = m .count })) (sym z) (record {
         after = record { net = addedTo net tableThen q split (arcTo (run .place) (q .«idx_prev») e); run = movedTo run q true };
         is = answers (Added q split) h;
         net = added-net;
-        run = record { place = refl; leg = u .leg; added = refl; joins = u .joins; few = u .few; valid = valid-more (ready .fresh .grows) (u .valid); stands = omega arith };
+        run = record { place = refl; leg = u .leg; has-split = refl; joins = u .joins; few = u .few; valid = valid-more (ready .fresh .grows) (u .valid); stands = omega arith };
       })

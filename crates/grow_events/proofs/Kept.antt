@@ -38,7 +38,7 @@ module _ {w : Layout} {start : List ℕ} {fs : List Float} {us cells : List ℕ}
     sum = v .sum;
     room = v .room;
     within = v .within;
-    woven = v .woven;
+    indexed = v .indexed;
     apart = v .apart;
     mapped = v .mapped;
     ends = v .ends;
@@ -65,7 +65,7 @@ pub valid-more : {es : List EstJoinPath} {n n′ : ℕ} → n ≤ n′ → Valid
 valid-more l v = record { node = λ k h. omega (arith, v .node k h) }
 
 pub run-more : {n n′ j : ℕ} {list : List ℕ} {m : Mover} {run : Run} → n ≤ n′ → RunIn n j list m run → RunIn n′ j list m run
-run-more l u = record { place = u .place; leg = u .leg; added = u .added; joins = u .joins; few = u .few; valid = valid-more l (u .valid); stands = omega (arith, u .stands) }
+run-more l u = record { place = u .place; leg = u .leg; has-split = u .has-split; joins = u .joins; few = u .few; valid = valid-more l (u .valid); stands = omega (arith, u .stands) }
 
 -- ---- going on
 

@@ -23,11 +23,11 @@ use Rattle.grow_path.specs.Path.{eventAt, eventsAt}
 use Rattle.net_event_map.specs.declared.Layout.{Layout}
 use Rattle.net_event_map.specs.EventMap.{RealKind, Real}
 use Rattle.grow_rules.specs.Run.{Answer, refused, andThen, Net, Run, After, runEvent, nextEvent, runEvents}
-use Rattle.grow_rules.specs.Run.{Outcome as Became}
+use Rattle.grow_rules.specs.Run.{Outcome}
 use Rattle.grow_events.specs.declared.Counts.{Counts}
 use Rattle.grow_events.specs.declared.Mover.{Mover}
-use Rattle.grow_events.specs.declared.Outcome.{Outcome}
-use Rattle.grow_events.specs.declared.Outcome.the-variants.{On, Ended, Refused}
+use Rattle.grow_events.specs.declared.RunAnswer.{RunAnswer}
+use Rattle.grow_events.specs.declared.RunAnswer.the-variants.{On, Ended, Refused}
 use Rattle.grow_events.specs.Held.{NetIn, RunIn, Moving, Along, SomePath, GoesAs, OutcomeAs, NotFewer, unlessBad, stoppedAs}
 use Rattle.grow_events.proofs.Kept.{along-kept}
 
@@ -91,18 +91,18 @@ module _ (b : List ℕ) (reals : List Float) (v : Movement) (w : Layout) (join :
   course = courseOf b reals v
 
   -- what is left of a leg from a network and a run
-  abbrev leftOf : List ℕ → Heads → Net → Run → Answer Became
+  abbrev leftOf : List ℕ → Heads → Net → Run → Answer Outcome
   leftOf path h net run = runEvents (w .places) join (eventsAt b path (passedFrom course h)) (record { net = net; run = run })
 
   -- and behind its next event
-  abbrev thenLeft : List ℕ → Heads → Answer Became → Answer Became
+  abbrev thenLeft : List ℕ → Heads → Answer Outcome → Answer Outcome
   thenLeft path g x = andThen x (nextEvent (runEvents (w .places) join (eventsAt b path (passedFrom course g))))
 
-  abbrev wholeOf : List ℕ → Net → Run → Answer Became
+  abbrev wholeOf : List ℕ → Net → Run → Answer Outcome
   wholeOf path net run = runEvents (w .places) join (eventsAt b path (pointsPassed course)) (record { net = net; run = run })
 
   -- a network and a run on their way, and what the whole leg gives
-  pub record OnWay (start path : List ℕ) (leg : ℕ) (fs : List Float) (us cells joins : List ℕ) (h : Heads) (c : Counts) (m : Mover) (whole : Answer Became) : Type 0 where
+  pub record OnWay (start path : List ℕ) (leg : ℕ) (fs : List Float) (us cells joins : List ℕ) (h : Heads) (c : Counts) (m : Mover) (whole : Answer Outcome) : Type 0 where
     pub net : Net
     pub run : Run
     pub holds : NetIn w start fs us cells c net
@@ -148,7 +148,7 @@ module _ (b : List ℕ) (reals : List Float) (v : Movement) (w : Layout) (join :
         next-ahead = next-all .0
 
         -- it is bad
-        pub going-bad : badPoint p ≡ true → (answer : Answer Became) → unlessBad (someBad (pointsPassed course)) answer ≡ refused 11
+        pub going-bad : badPoint p ≡ true → (answer : Answer Outcome) → unlessBad (someBad (pointsPassed course)) answer ≡ refused 11
         going-bad d answer = ap (λ (t : Bool). unlessBad t answer) (s .fine ∙ bad-first course h g p e d)
 
         -- what is asked of it
@@ -166,7 +166,7 @@ module _ (b : List ℕ) (reals : List Float) (v : Movement) (w : Layout) (join :
           next-real x z = subst (λ (y : TimedEvent). Real (y .«link_event») (w .links)) (sym z) (event-real (way .along) next-ahead)
 
         -- what became of it
-        module _ (x : TimedEvent) (z : x ≡ pointEvent cells p) (fs′ : List Float) (us′ cells′ joins′ : List ℕ) (r : Outcome)
+        module _ (x : TimedEvent) (z : x ≡ pointEvent cells p) (fs′ : List Float) (us′ cells′ joins′ : List ℕ) (r : RunAnswer)
             (f : (start : List ℕ) (leg : ℕ) (net : Net) (run : Run) → NetIn w start fs us cells c net → RunIn (c .nodes) leg joins m run → OutcomeAs (runEvent (w .places) join net run x) w start leg fs′ us′ cells′ joins′ r)
             (k : NotFewer c r) (ok : badPoint p ≡ false) where
           fine-left : someBad (pointsPassed course) ≡ someBad (passedFrom course g)
@@ -178,7 +178,7 @@ module _ (b : List ℕ) (reals : List Float) (v : Movement) (w : Layout) (join :
               ap (λ (ps : List PassedPoint). runEvents (w .places) join (eventsAt b path ps) (record { net = net; run = run })) e
               ∙ ap (λ (y : TimedEvent). thenLeft path g (runEvent (w .places) join net run y)) (sym (z ∙ event-is a next-ahead))
 
-          stopped : (r : Outcome) → ((d : Counts) (n : Mover) → r ≡ On d n → ⊥) → (start path : List ℕ) (leg : ℕ) (net : Net) (run : Run) → Along b reals cells w (v .points) path
+          stopped : (r : RunAnswer) → ((d : Counts) (n : Mover) → r ≡ On d n → ⊥) → (start path : List ℕ) (leg : ℕ) (net : Net) (run : Run) → Along b reals cells w (v .points) path
               → OutcomeAs (runEvent (w .places) join net run x) w start leg fs′ us′ cells′ joins′ r → OutcomeAs (leftOf path h net run) w start leg fs′ us′ cells′ joins′ r
           stopped (On d n) i start path leg net run a o = absurd (i d n refl)
           stopped (Ended d) i start path leg net run a o = record { after = o .after; is = step path net run a ∙ ap (thenLeft path g) (o .is); net = o .net }
@@ -188,10 +188,10 @@ module _ (b : List ℕ) (reals : List Float) (v : Movement) (w : Layout) (join :
               → OutcomeAs (wholeOf path net run) w start leg fs′ us′ cells′ joins′ r
           stays i start path leg net run n u a =
               let o = s .goes start path leg net run n u a in
-              subst (λ (y : Answer Became). OutcomeAs y w start leg fs′ us′ cells′ joins′ r) (o .left) (stopped r i start path leg (o .net) (o .run) (o .along) (f start leg (o .net) (o .run) (o .holds) (o .runs)))
+              subst (λ (y : Answer Outcome). OutcomeAs y w start leg fs′ us′ cells′ joins′ r) (o .left) (stopped r i start path leg (o .net) (o .run) (o .along) (f start leg (o .net) (o .run) (o .holds) (o .runs)))
 
           -- it is the last, unless a bad one is left
-          pub going-stop : ((d : Counts) (n : Mover) → r ≡ On d n → ⊥) → (r′ : Outcome) → r′ ≡ stoppedAs (someBad (passedFrom course g)) r
+          pub going-stop : ((d : Counts) (n : Mover) → r ≡ On d n → ⊥) → (r′ : RunAnswer) → r′ ≡ stoppedAs (someBad (passedFrom course g)) r
               → (start path : List ℕ) (leg : ℕ) (net : Net) (run : Run) → NetIn w start fs₀ us₀ cells₀ c₀ net → RunIn (c₀ .nodes) leg joins₀ m₀ run → Along b reals cells₀ w (v .points) path
               → OutcomeAs (unlessBad (someBad (pointsPassed course)) (wholeOf path net run)) w start leg fs′ us′ cells′ joins′ r′
           going-stop i r′ q start path leg net run n u a =
@@ -202,10 +202,10 @@ module _ (b : List ℕ) (reals : List Float) (v : Movement) (w : Layout) (join :
               go true = refl
               go false = stays i start path leg net run n u a
 
-          pub stop-more : (r′ : Outcome) → r′ ≡ stoppedAs (someBad (passedFrom course g)) r → NotFewer c₀ r′
+          pub stop-more : (r′ : RunAnswer) → r′ ≡ stoppedAs (someBad (passedFrom course g)) r → NotFewer c₀ r′
           stop-more r′ q = subst (NotFewer c₀) (sym q) (either (someBad (passedFrom course g)))
             where
-              go : (r : Outcome) → NotFewer c r → NotFewer c₀ r
+              go : (r : RunAnswer) → NotFewer c r → NotFewer c₀ r
               go (On d n) i = omega (arith, s .more)
               go (Ended d) i = omega (arith, s .more)
               go (Refused n) i = tt

@@ -7,20 +7,20 @@ use mathlib.Core.List.{List, [], _∷_}
 use Prim.Native.Nat.{ℕ, suc, _+_, _*_, _≤_, _<_}
 use lib.ListN.{length, getD}
 use lib.Ieee.{Float}
-use Rattle.net_node.specs.Table.{nodeAt, Room, Woven}
+use Rattle.net_node.specs.Table.{nodeAt, Room, Indexed}
 use Rattle.net_insertion.specs.Insertion.{flagged}
 use Rattle.net_strands.specs.Entries.{entriesIn, Valid}
 use Rattle.net_event_map.specs.declared.Layout.{Layout}
-use Rattle.net_event_map.specs.EventMap.{Apart, Mapped}
+use Rattle.net_event_map.specs.EventMap.{CellsApart, Mapped}
 use Rattle.grow_path.specs.Path.{pointLink}
 use Rattle.grow_path.specs.Kept.{PathIn}
 use Rattle.grow_ends.specs.Ends.{EndsIn, Below}
 use Rattle.grow_rules.specs.Run.{Answer, refused, given, Net, Run, After, memberOf}
-use Rattle.grow_rules.specs.Run.{Outcome as Became, Ended as Left, On as Goes}
+use Rattle.grow_rules.specs.Run.{Outcome, Ended as Left, On as Goes}
 use Rattle.grow_events.specs.declared.Counts.{Counts}
 use Rattle.grow_events.specs.declared.Mover.{Mover}
-use Rattle.grow_events.specs.declared.Outcome.{Outcome}
-use Rattle.grow_events.specs.declared.Outcome.the-variants.{On, Ended, Refused}
+use Rattle.grow_events.specs.declared.RunAnswer.{RunAnswer}
+use Rattle.grow_events.specs.declared.RunAnswer.the-variants.{On, Ended, Refused}
 
 -- where a node's mark of an end stands
 abbrev pub endsAt : Layout → ℕ
@@ -36,8 +36,8 @@ pub record NetIn (w : Layout) (start : List ℕ) (fs : List Float) (us cells : L
   pub sum : c .nodes ≡ 2 + c .added + c .splits + c .joined
   pub room : Room fs us (w .places)
   pub within : c .nodes ≤ w .places
-  pub woven : Woven (nodeAt fs us) (c .nodes)
-  pub apart : Apart cells w
+  pub indexed : Indexed (nodeAt fs us) (c .nodes)
+  pub apart : CellsApart cells w
   pub mapped : Mapped cells w (nodeAt fs us) (c .nodes)
   pub ends : EndsIn cells (endsAt w) (c .«last_end») (net .ends)
   pub ends-below : Below (c .nodes) (net .ends)
@@ -48,7 +48,7 @@ pub record NetIn (w : Layout) (start : List ℕ) (fs : List Float) (us cells : L
 pub record RunIn (n j : ℕ) (list : List ℕ) (m : Mover) (run : Run) : Type 0 where
   pub place : run .place ≡ m .place
   pub leg : run .leg ≡ j
-  pub added : run .added ≡ m .added
+  pub has-split : run .«has_split» ≡ m .«has_split»
   pub joins : run .joins ≡ entriesIn list (m .count)
   pub few : m .count ≤ 1024
   pub valid : Valid (entriesIn list (m .count)) n
@@ -81,24 +81,24 @@ pub record SomePath (b : List ℕ) (reals : List Float) (cells : List ℕ) (w : 
   pub along : Along b reals cells w points path
 
 -- what the code answers to an event, or to all of a leg
-pub record GoesAs (answer : Answer Became) (w : Layout) (start : List ℕ) (leg : ℕ) (fs : List Float) (us cells joins : List ℕ) (c : Counts) (m : Mover) : Type 0 where
+pub record GoesAs (answer : Answer Outcome) (w : Layout) (start : List ℕ) (leg : ℕ) (fs : List Float) (us cells joins : List ℕ) (c : Counts) (m : Mover) : Type 0 where
   pub after : After
   pub is : answer ≡ given (Goes after)
   pub net : NetIn w start fs us cells c (after .net)
   pub run : RunIn (c .nodes) leg joins m (after .run)
 
-pub record LeftAs (answer : Answer Became) (w : Layout) (start : List ℕ) (fs : List Float) (us cells : List ℕ) (c : Counts) : Type 0 where
+pub record LeftAs (answer : Answer Outcome) (w : Layout) (start : List ℕ) (fs : List Float) (us cells : List ℕ) (c : Counts) : Type 0 where
   pub after : Net
   pub is : answer ≡ given (Left after)
   pub net : NetIn w start fs us cells c after
 
-abbrev pub OutcomeAs : Answer Became → Layout → List ℕ → ℕ → List Float → List ℕ → List ℕ → List ℕ → Outcome → Type 0
+abbrev pub OutcomeAs : Answer Outcome → Layout → List ℕ → ℕ → List Float → List ℕ → List ℕ → List ℕ → RunAnswer → Type 0
 OutcomeAs answer w start leg fs us cells joins (On c m) = GoesAs answer w start leg fs us cells joins c m
 OutcomeAs answer w start leg fs us cells joins (Ended c) = LeftAs answer w start fs us cells c
 OutcomeAs answer w start leg fs us cells joins (Refused k) = answer ≡ refused k
 
 -- no node is lost
-abbrev pub NotFewer : Counts → Outcome → Type 0
+abbrev pub NotFewer : Counts → RunAnswer → Type 0
 NotFewer c (On more m) = c .nodes ≤ more .nodes
 NotFewer c (Ended more) = c .nodes ≤ more .nodes
 NotFewer c (Refused k) = Unit
@@ -106,11 +106,11 @@ NotFewer c (Refused k) = Unit
 -- ---- row 11 of a leg, asked as its events come
 
 -- a leg's answer, by whether one of its events is bad: row 11 is asked of all of them before any is inserted
-abbrev pub unlessBad : Bool → Answer Became → Answer Became
+abbrev pub unlessBad : Bool → Answer Outcome → Answer Outcome
 unlessBad true answer = refused 11
 unlessBad false answer = answer
 
 -- what the code answers where a run stops before its leg's end, by whether an event is bad that is left
-abbrev pub stoppedAs : Bool → Outcome → Outcome
+abbrev pub stoppedAs : Bool → RunAnswer → RunAnswer
 stoppedAs true r = Refused 11
 stoppedAs false r = r

@@ -1,12 +1,12 @@
 // A run on its way: one event is joined or inserted, then all of a leg. Contracts: grow_rules' specs/Run.antt, specs/Held.antt.
+use event_walk::Heads;
+use event_walk::Movement;
+use event_walk::Next;
 use net_event_map::Layout;
 use net_insertion::Inserted;
 use net_insertion::Place;
 use net_joins::Step;
 use net_node::TimedEvent;
-use event_walk::Heads;
-use event_walk::Movement;
-use event_walk::Next;
 ghost use mathlib.Core.Path.{_≡_};
 ghost use mathlib.Core.List.{List};
 ghost use Prim.Native.Nat.{ℕ, _+_, _≤_, _<_};
@@ -30,12 +30,12 @@ pub struct Counts {
 // The run that moves: its place, whether it has added since its pop, and how many join entries it has.
 pub struct Mover {
     pub place: Place,
-    pub added: bool,
+    pub has_split: bool,
     pub count: usize,
 }
 
 // What becomes of a run at an event: it goes on, it has ended by a join, or a refusal's number.
-pub enum Outcome {
+pub enum RunAnswer {
     On(Counts, Mover),
     Ended(Counts),
     Refused(u32),
@@ -67,7 +67,7 @@ pub fn insert_event(
     c: Counts,
     m: Mover,
     e: TimedEvent,
-) -> Outcome
+) -> RunAnswer
     requires { ⌜ Growing w (now floats) (now numbers) (now cells) c ⌝ }
     requires { ⌜ m .place .«idx_prev» < c .nodes ⌝ }
     requires { ⌜ Real (e .«link_event») (w .links) ⌝ }
@@ -87,12 +87,12 @@ pub fn insert_event(
         e,
     );
     match inserted {
-        Inserted::Refused(k) => Outcome::Refused(k),
-        Inserted::Moved(place) => Outcome::On(
+        Inserted::Refused(k) => RunAnswer::Refused(k),
+        Inserted::Moved(place) => RunAnswer::On(
             c,
             Mover {
                 place,
-                added: m.added,
+                has_split: m.has_split,
                 count: m.count,
             },
         ),
@@ -100,11 +100,11 @@ pub fn insert_event(
             let event = e.link_event;
             net_event_map::insert(cells, w, place.idx_prev, event);
             let counts = with_added(c, place.idx_prev, split);
-            Outcome::On(
+            RunAnswer::On(
                 counts,
                 Mover {
                     place,
-                    added: true,
+                    has_split: true,
                     count: m.count,
                 },
             )
@@ -140,7 +140,7 @@ pub fn run_event(
     c: Counts,
     m: Mover,
     e: TimedEvent,
-) -> Outcome
+) -> RunAnswer
     requires { ⌜ Moving w (now floats) (now numbers) (now cells) (now joins) c m ⌝ }
     requires { ⌜ Real (e .«link_event») (w .links) ⌝ }
     requires { ⌜ 2048 ≤ length (now joins) ⌝ }
@@ -149,7 +149,7 @@ pub fn run_event(
     ensures outcome { λ r. ⌜ ((start : List ℕ) (leg : ℕ) (net : Net) (run : Run) → NetIn w start (now (floats .entry)) (now (numbers .entry)) (now (cells .entry)) c net → RunIn (c .nodes) leg (now (joins .entry)) m run → OutcomeAs (runEvent (w .places) join net run e) w start leg (now (floats .exit)) (now (numbers .exit)) (now (cells .exit)) (now (joins .exit)) r) ⌝ }
     ensures more { λ r. ⌜ NotFewer c r ⌝ }
 {
-    if !m.added {
+    if !m.has_split {
         return insert_event(floats, numbers, cells, w, join, c, m, e);
     }
     let step = net_joins::join_step(
@@ -166,13 +166,13 @@ pub fn run_event(
         e,
     );
     match step {
-        Step::Refused(k) => Outcome::Refused(k),
-        Step::Joined(_) => Outcome::Ended(with_joined(c)),
+        Step::Refused(k) => RunAnswer::Refused(k),
+        Step::Joined(_) => RunAnswer::Ended(with_joined(c)),
         Step::Waits(count) => {
             let place = m.place;
             let waits = Mover {
                 place,
-                added: m.added,
+                has_split: m.has_split,
                 count,
             };
             insert_event(floats, numbers, cells, w, join, c, waits, e)
@@ -181,14 +181,14 @@ pub fn run_event(
 }
 
 // What a leg gives whose run has stopped, or is refused, before its end: 11, if an event is bad that is left.
-fn stopped(book: &[u8], reals: &[f64], v: Movement, from: Heads, became: Outcome) -> Outcome
+fn stopped(book: &[u8], reals: &[f64], v: Movement, from: Heads, became: RunAnswer) -> RunAnswer
     requires { ⌜ Held (now book) (now reals) v ⌝ }
     requires { ⌜ Walkable (courseOf (now book) (now reals) v) ⌝ }
     requires { ⌜ Within (courseOf (now book) (now reals) v) from ⌝ }
     ensures { λ r. ⌜ r ≡ stoppedAs (someBad (passedFrom (courseOf (now (book .entry)) (now (reals .entry)) v) from)) became ⌝ }
 {
     if grow_path::some_bad(book, reals, v, from) {
-        return Outcome::Refused(11);
+        return RunAnswer::Refused(11);
     }
     became
 }
@@ -209,7 +209,7 @@ pub fn run_events(
     v: Movement,
     c: Counts,
     m: Mover,
-) -> Outcome
+) -> RunAnswer
     requires { ⌜ Held (now book) (now reals) v ⌝ }
     requires { ⌜ Walkable (courseOf (now book) (now reals) v) ⌝ }
     requires { ⌜ SomePath (now book) (now reals) (now cells) w (v .points) ⌝ }
@@ -226,10 +226,10 @@ pub fn run_events(
     loop {
         let next = event_walk::next_event(book, reals, v, h);
         let Next::Passed(p, g) = next else {
-            return Outcome::On(counts, mover);
+            return RunAnswer::On(counts, mover);
         };
         if event_walk::is_bad_point(p) {
-            return Outcome::Refused(11);
+            return RunAnswer::Refused(11);
         }
         let e = grow_path::event_at(cells, p);
         let became = run_event(
@@ -245,7 +245,7 @@ pub fn run_events(
             mover,
             e,
         );
-        let Outcome::On(more, moved) = became else {
+        let RunAnswer::On(more, moved) = became else {
             return stopped(book, reals, v, g, became);
         };
         counts = more;

@@ -12,11 +12,11 @@ use Rattle.book_reader.specs.Reader.{readNumber}
 use Rattle.net_node.specs.Table.{Room}
 use Rattle.net_insertion.specs.Insertion.{Table}
 use Rattle.grow_rules.specs.Run.{Answer, refused, given}
-use Rattle.grow_rules.specs.Growth.{Grown, grow}
+use Rattle.grow_rules.specs.GrownBook.{Grown, grow}
 use Rattle.grow_book.specs.declared.Report.{Report}
-use Rattle.grow_book.specs.declared.Grown.{Grown as Growth}
-use Rattle.grow_book.specs.declared.Grown.the-variants.{Whole, Stopped}
-use Rattle.grow_book.specs.Grower.{WholeAs, GrownAs}
+use Rattle.grow_book.specs.declared.GrownBook.{GrownBook}
+use Rattle.grow_book.specs.declared.GrownBook.the-variants.{Whole, Stopped}
+use Rattle.grow_book.specs.Answers.{WholeAs, GrownAs}
 use Rattle.arcs_growth.specs.Read.{Read}
 use Rattle.arcs_growth.proofs.Theorems.{GrownWell, well}
 use Rattle.grow_for_tests.specs.Network.{zeroTable, unless, network, counted, grownNodes, floatsAs, numbersAs}
@@ -82,7 +82,7 @@ read-as b places f n bytes k e d = d ∙ ap (λ (x : ℕ). readNumber b x bytes)
 
 -- growth on the lent table, which is zero
 pub grown-network : (b : List ℕ) (fs : List Float) (us : List ℕ) (bytes : ℕ) → fs ≡ zeroFloats (length fs) → us ≡ zeros (length us) → readNumber b (placesOf (length fs) (length us)) bytes ≡ 0
-    → (gs : List Float) (vs : List ℕ) (r : Growth) → GrownAs (grow b (placesOf (length fs) (length us)) (record { floats = fs; numbers = us })) gs vs r → GrownAs (network b (length fs) (length us) bytes) gs vs r
+    → (gs : List Float) (vs : List ℕ) (r : GrownBook) → GrownAs (grow b (placesOf (length fs) (length us)) (record { floats = fs; numbers = us })) gs vs r → GrownAs (network b (length fs) (length us) bytes) gs vs r
 unfolding zeroTable
 grown-network b fs us bytes e d z gs vs r = subst (λ (a : Answer Grown). GrownAs a gs vs r) (sym (network-grows b (length fs) (length us) bytes z ∙ ap (grow b (placesOf (length fs) (length us))) same))
   where
@@ -95,18 +95,18 @@ report-is : (g : Grown) (c : Report) → g .nodes ≡ c .nodes → g .added ≡ 
     → c ≡ record { nodes = g .nodes; added = g .added; splits = g .splits; joined = g .joined; finished = g .finished }
 report-is g c p q r s t = λ i. record { nodes = sym p i; added = sym q i; splits = sym r i; joined = sym s i; finished = sym t i }
 
-pub answer-counted : (a : Answer Grown) (fs : List Float) (us : List ℕ) (r : Growth) → GrownAs a fs us r → r ≡ counted a
+pub answer-counted : (a : Answer Grown) (fs : List Float) (us : List ℕ) (r : GrownBook) → GrownAs a fs us r → r ≡ counted a
 answer-counted a fs us (Stopped k) h = sym (ap counted h)
 answer-counted a fs us (Whole c) h = ap Whole (report-is (h .network) c (h .nodes-are) (h .added-are) (h .splits-are) (h .joined-are) (h .finished-are)) ∙ sym (ap counted (h .is))
 
-pub cleared-floats : (a : Answer Grown) (fs : List Float) (us : List ℕ) (r : Growth) (size : ℕ) → GrownAs a fs us r → take (grownNodes r * 4) fs ++ zeroFloats (size - grownNodes r * 4) ≡ floatsAs a size
+pub cleared-floats : (a : Answer Grown) (fs : List Float) (us : List ℕ) (r : GrownBook) (size : ℕ) → GrownAs a fs us r → take (grownNodes r * 4) fs ++ zeroFloats (size - grownNodes r * 4) ≡ floatsAs a size
 cleared-floats a fs us (Stopped k) size h = ap zeroFloats (sub-zero size) ∙ sym (ap (λ (x : Answer Grown). floatsAs x size) h)
 cleared-floats a fs us (Whole c) size h =
     ap (λ (x : ℕ). take (x * 4) fs ++ zeroFloats (size - x * 4)) (sym (h .nodes-are))
     ∙ ap (λ (s : List Float). take (h .network .nodes * 4) s ++ zeroFloats (size - h .network .nodes * 4)) (sym (h .floats))
     ∙ sym (ap (λ (x : Answer Grown). floatsAs x size) (h .is))
 
-pub cleared-numbers : (a : Answer Grown) (fs : List Float) (us : List ℕ) (r : Growth) (size : ℕ) → GrownAs a fs us r → take (grownNodes r * 6) us ++ zeros (size - grownNodes r * 6) ≡ numbersAs a size
+pub cleared-numbers : (a : Answer Grown) (fs : List Float) (us : List ℕ) (r : GrownBook) (size : ℕ) → GrownAs a fs us r → take (grownNodes r * 6) us ++ zeros (size - grownNodes r * 6) ≡ numbersAs a size
 cleared-numbers a fs us (Stopped k) size h = ap zeros (sub-zero size) ∙ sym (ap (λ (x : Answer Grown). numbersAs x size) h)
 cleared-numbers a fs us (Whole c) size h =
     ap (λ (x : ℕ). take (x * 6) us ++ zeros (size - x * 6)) (sym (h .nodes-are))
@@ -114,7 +114,7 @@ cleared-numbers a fs us (Whole c) size h =
     ∙ sym (ap (λ (x : Answer Grown). numbersAs x size) (h .is))
 
 -- no more nodes than a clearing counts
-pub nodes-most : (b : List ℕ) (f n bytes : ℕ) (fs : List Float) (us : List ℕ) (r : Growth) → GrownAs (network b f n bytes) fs us r → grownNodes r ≤ 65535
+pub nodes-most : (b : List ℕ) (f n bytes : ℕ) (fs : List Float) (us : List ℕ) (r : GrownBook) → GrownAs (network b f n bytes) fs us r → grownNodes r ≤ 65535
 nodes-most b f n bytes fs us (Stopped k) h = omega arith
 nodes-most b f n bytes fs us (Whole c) h = let m = sound b f n bytes (h .network) (h .is) .most in let e = h .nodes-are in omega arith
 
@@ -129,7 +129,7 @@ network-moved b f n r c m f′ n′ r′ c′ m′ p q s t u =
 
 -- ---- the whole answer, by the lengths of the slices as they are lent
 
-module _ (b : List ℕ) (f n r c m : ℕ) (fs : List Float) (us : List ℕ) (grown : Growth) (g : GrownAs (network b f n (bytesOf r c m)) fs us grown)
+module _ (b : List ℕ) (f n r c m : ℕ) (fs : List Float) (us : List ℕ) (grown : GrownBook) (g : GrownAs (network b f n (bytesOf r c m)) fs us grown)
     (f′ n′ r′ c′ m′ : ℕ) (p : f ≡ f′) (q : n ≡ n′) (s : r ≡ r′) (t : c ≡ c′) (u : m ≡ m′) where
   abbrev answer : Answer Grown
   answer = network b f′ n′ (bytesOf r′ c′ m′)

@@ -7,10 +7,10 @@ use Rattle.space.specs.Space.{placesOf, zeros, zeroFloats}
 use Rattle.book_reader.specs.Reader.{readNumber}
 use Rattle.net_insertion.specs.Insertion.{Table}
 use Rattle.grow_rules.specs.Run.{Answer, refused, given}
-use Rattle.grow_rules.specs.Growth.{Grown, grow}
+use Rattle.grow_rules.specs.GrownBook.{Grown, grow}
 use Rattle.grow_book.specs.declared.Report.{Report}
-use Rattle.grow_book.specs.declared.Grown.{Grown as Growth}
-use Rattle.grow_book.specs.declared.Grown.the-variants.{Whole, Stopped}
+use Rattle.grow_book.specs.declared.GrownBook.{GrownBook}
+use Rattle.grow_book.specs.declared.GrownBook.the-variants.{Whole, Stopped}
 
 -- a table that is zero, of so many floats and numbers
 unfoldable pub zeroTable : ℕ → ℕ → Table
@@ -26,20 +26,20 @@ unfoldable pub network : List ℕ → ℕ → ℕ → ℕ → Answer Grown
 network b floats numbers bytes = unless (readNumber b (placesOf floats numbers) bytes) (grow b (placesOf floats numbers) (zeroTable floats numbers))
 
 -- the answer's counts, and document 01's number for each
-abbrev pub counted : Answer Grown → Growth
+abbrev pub counted : Answer Grown → GrownBook
 counted (refused k) = Stopped k
 counted (given g) = Whole (record { nodes = g .nodes; added = g .added; splits = g .splits; joined = g .joined; finished = g .finished })
 
-abbrev pub grownNumber : Growth → ℕ
+abbrev pub grownNumber : GrownBook → ℕ
 grownNumber (Stopped k) = k
 grownNumber (Whole r) = 0
 
 -- the report, all zero on a refusal
-abbrev pub reported : Growth → Report
+abbrev pub reported : GrownBook → Report
 reported (Stopped k) = record { nodes = 0; added = 0; splits = 0; joined = 0; finished = 0 }
 reported (Whole r) = r
 
-abbrev pub grownNodes : Growth → ℕ
+abbrev pub grownNodes : GrownBook → ℕ
 grownNodes (Stopped k) = 0
 grownNodes (Whole r) = r .nodes
 

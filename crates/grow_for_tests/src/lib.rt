@@ -1,12 +1,12 @@
 // A book read and grown, rows 1 to 13. Contracts: specs/Network.antt.
-use grow_book::Grown;
 use book_reader::Reading;
+use grow_book::GrownBook;
 ghost use mathlib.Core.Path.{_≡_};
 ghost use mathlib.Core.List.{_++_};
 ghost use Prim.Native.Nat.{_-_, _*_, _≤_};
 ghost use lib.ListN.{length, take};
 ghost use Rattle.space.specs.Space.{bytesOf, zeros, zeroFloats};
-ghost use Rattle.grow_book.specs.Grower.{GrownAs};
+ghost use Rattle.grow_book.specs.Answers.{GrownAs};
 ghost use Rattle.grow_for_tests.specs.Network.{network, counted, grownNodes, floatsAs, numbersAs};
 
 // Reads a book and grows its network, in a table, cells and marks that are zero.
@@ -17,7 +17,7 @@ pub fn read_and_grow(
     reals: &mut [f64],
     cells: &mut [u32],
     marks: &mut [u32],
-) -> Grown
+) -> GrownBook
     requires { ⌜ now floats ≡ zeroFloats (length (now floats)) ⌝ }
     requires { ⌜ now numbers ≡ zeros (length (now numbers)) ⌝ }
     requires { ⌜ now cells ≡ zeros (length (now cells)) ⌝ }
@@ -27,7 +27,7 @@ pub fn read_and_grow(
     let places = space::places(floats.len(), numbers.len());
     let reading = book_reader::read_book(book, places, reals.len(), cells, marks);
     match reading {
-        Reading::Refused(k) => Grown::Stopped(k),
+        Reading::Refused(k) => GrownBook::Stopped(k),
         Reading::Accepted(s, kept) => {
             grow_book::grow_book(book, s, kept, floats, numbers, reals, cells, marks)
         }
@@ -69,12 +69,12 @@ pub fn clear_work(reals: &mut [f64], cells: &mut [u32], marks: &mut [u32])
 }
 
 // How many nodes stay in the table: none on a refusal.
-fn nodes_of(g: Grown) -> usize
+fn nodes_of(g: GrownBook) -> usize
     ensures { λ r. ⌜ r ≡ grownNodes g ⌝ }
 {
     match g {
-        Grown::Whole(r) => r.nodes,
-        Grown::Stopped(_) => 0,
+        GrownBook::Whole(r) => r.nodes,
+        GrownBook::Stopped(_) => 0,
     }
 }
 
@@ -86,7 +86,7 @@ pub fn grow_network(
     reals: &mut [f64],
     cells: &mut [u32],
     marks: &mut [u32],
-) -> Grown
+) -> GrownBook
     ensures answer { λ r. ⌜ r ≡ counted (network (now (book .entry)) (length (now (floats .entry))) (length (now (numbers .entry))) (bytesOf (length (now (reals .entry))) (length (now (cells .entry))) (length (now (marks .entry))))) ⌝ }
     ensures floats { λ _. ⌜ now (floats .exit) ≡ floatsAs (network (now (book .entry)) (length (now (floats .entry))) (length (now (numbers .entry))) (bytesOf (length (now (reals .entry))) (length (now (cells .entry))) (length (now (marks .entry))))) (length (now (floats .entry))) ⌝ }
     ensures numbers { λ _. ⌜ now (numbers .exit) ≡ numbersAs (network (now (book .entry)) (length (now (floats .entry))) (length (now (numbers .entry))) (bytesOf (length (now (reals .entry))) (length (now (cells .entry))) (length (now (marks .entry))))) (length (now (numbers .entry))) ⌝ }

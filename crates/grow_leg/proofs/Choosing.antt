@@ -11,12 +11,12 @@ use Rattle.fields.specs.Below.{someBelow}
 use Rattle.fields.proofs.Below.{some-at, none-at, none-left, none-right, none-more}
 use Rattle.book_format.specs.declared.Link.{Link}
 use Rattle.book_format.specs.Format.{links, origins, destinations, legs, linkAt, linkLength, linkNext, linkNextAlt, linkPrev, linkPrevAlt, originLink, destinationLink}
-use Rattle.book_format.specs.Rows.{noLink, linkZero, badLink, badLegIndex, row5}
-use Rattle.book_options.specs.Options.{Marked, inSet}
+use Rattle.book_format.specs.Rows.{noSuchLink, linkZero, badLink, badLegIndex, row5}
+use Rattle.book_options.specs.Options.{OptionsIn, inSet}
 use Rattle.grow_rules.specs.Run.{refused, andThen, Net, Run}
 use Rattle.grow_rules.specs.Growth.{isDestination, onOver, saveOver, onAs}
 use Rattle.grow_leg.specs.declared.Ways.the-variants.{None, One, Both}
-use Rattle.grow_leg.specs.Turns.{waysAs}
+use Rattle.grow_leg.specs.OneLeg.{waysAs}
 
 -- ---- destinations
 
@@ -48,8 +48,8 @@ module _ (b : List ℕ) (h : row5 b ≡ false) (l : ℕ) (g : l < links b) where
   good-link =
       let a = not (linkZero b) in
       let c = someBelow (links b) (badLink b) in
-      let d = someBelow (origins b) (λ i. noLink b (originLink b i)) in
-      let e = someBelow (destinations b) (λ i. noLink b (destinationLink b i)) in
+      let d = someBelow (origins b) (λ i. noSuchLink b (originLink b i)) in
+      let e = someBelow (destinations b) (λ i. noSuchLink b (destinationLink b i)) in
       none-at (links b) (badLink b) l g (none-right a c (none-left (a || c) d (none-left ((a || c) || d) e (none-left (((a || c) || d) || e) (someBelow (legs b) (badLegIndex b)) h))))
 
   abbrev forked : Bool
@@ -59,26 +59,26 @@ module _ (b : List ℕ) (h : row5 b ≡ false) (l : ℕ) (g : l < links b) where
   short = ltb 0 l && eqb (linkLength b l) 0
 
   abbrev nexts : Bool
-  nexts = noLink b (linkNext b l) || noLink b (linkNextAlt b l)
+  nexts = noSuchLink b (linkNext b l) || noSuchLink b (linkNextAlt b l)
 
   nexts-named : nexts ≡ false
   unfolding badLink
   nexts-named =
-      let p = noLink b (linkPrev b l) in
-      let q = noLink b (linkPrevAlt b l) in
+      let p = noSuchLink b (linkPrev b l) in
+      let q = noSuchLink b (linkPrevAlt b l) in
       none-left nexts p (none-left (nexts || p) q (none-left ((nexts || p) || q) short (none-left (((nexts || p) || q) || short) forked good-link)))
 
   pub next-named : linkNext b l < links b
-  next-named = leb-false (links b) (linkNext b l) (none-left (noLink b (linkNext b l)) (noLink b (linkNextAlt b l)) nexts-named)
+  next-named = leb-false (links b) (linkNext b l) (none-left (noSuchLink b (linkNext b l)) (noSuchLink b (linkNextAlt b l)) nexts-named)
 
   pub next-alt-named : linkNextAlt b l < links b
-  next-alt-named = leb-false (links b) (linkNextAlt b l) (none-right (noLink b (linkNext b l)) (noLink b (linkNextAlt b l)) nexts-named)
+  next-alt-named = leb-false (links b) (linkNextAlt b l) (none-right (noSuchLink b (linkNext b l)) (noSuchLink b (linkNextAlt b l)) nexts-named)
 
   -- a next that is a link is not its own alternative
   pub next-other : eqb (linkNext b l) 0 ≡ false → linkNext b l ≡ linkNextAlt b l → ⊥
   unfolding badLink
   next-other n e =
-      let w = ((nexts || noLink b (linkPrev b l)) || noLink b (linkPrevAlt b l)) || short in
+      let w = ((nexts || noSuchLink b (linkPrev b l)) || noSuchLink b (linkPrevAlt b l)) || short in
       let x : forked ≡ false = none-right w forked good-link in
       let y : ltb 0 (linkNext b l) ≡ false = sym (ap (λ (t : Bool). t && ltb 0 (linkNext b l)) (eq-eqb (linkNext b l) (linkNextAlt b l) e)) ∙ x in
       let z : linkNext b l ≤ 0 = ltb-false 0 (linkNext b l) y in
@@ -105,7 +105,7 @@ module _ (b : List ℕ) (l : ℕ) {x : Link} (e : x ≡ linkAt b l) where
       ∙ ap (waysAs (eqb (linkNext b l) 0) (inSet b (linkNext b l)) (inSet b (linkNextAlt b l)) (linkNext b l)) alt-is
 
   -- what a mark says of one of them
-  module _ {marks : List ℕ} (k : Marked b marks) where
+  module _ {marks : List ℕ} (k : OptionsIn b marks) where
     pub next-in : linkNext b l < links b → (r : Bool) → r ≡ eqb (getD marks (x .«idx_next») 0 % 2) 1 → inSet b (linkNext b l) ≡ r
     next-in h r f = sym (f ∙ ap (λ (n : ℕ). eqb (getD marks n 0 % 2) 1) next-is ∙ k .set (linkNext b l) h)
 

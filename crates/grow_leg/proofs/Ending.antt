@@ -15,15 +15,15 @@ use Rattle.book_format.proofs.Given.{leg-link, leg-parent, leg-named}
 use Rattle.book_options.specs.Options.{inSet}
 use Rattle.grow_path.specs.Path.{linkOf}
 use Rattle.grow_rules.specs.Run.{Answer, refused, andThen, Net, Run}
-use Rattle.grow_rules.specs.Growth.{Growth, onOver, saveOver, goOn, onAs, isDestination, finishes, finishAs, badFinish, endedAs}
+use Rattle.grow_rules.specs.Growth.{Growth, onOver, saveOver, goOn, onAs, isDestination, finishes, finishAs, badFinish, legEndAs}
 use Rattle.grow_state.specs.declared.Plan.{Plan}
 use Rattle.grow_state.specs.declared.State.{State}
-use Rattle.grow_state.specs.declared.Turned.{Turned}
-use Rattle.grow_state.specs.declared.Turned.the-variants.{On, Refused}
+use Rattle.grow_state.specs.declared.GrowthAnswer.{GrowthAnswer}
+use Rattle.grow_state.specs.declared.GrowthAnswer.the-variants.{On, Refused}
 use Rattle.grow_state.specs.Held.{PlanIn, TurnedAs}
 use Rattle.grow_leg.specs.declared.Ways.{Ways}
 use Rattle.grow_leg.specs.declared.Ways.the-variants.{None, One, Both}
-use Rattle.grow_leg.specs.Turns.{AtEnd, Free, SavedOver, SavedAs, SomeLeg, waysAs}
+use Rattle.grow_leg.specs.OneLeg.{AtEnd, Free, SavedOver, SavedAs, SomeLeg, waysAs}
 use Rattle.grow_leg.proofs.GoingOn.{front-leg, front-some}
 use Rattle.grow_leg.proofs.Choosing.{next-other, go-none, go-one, go-both, both-are}
 
@@ -55,7 +55,7 @@ module _ {b : List ℕ} {p : Plan} {fs : List Float} {us : List ℕ} {reals : Li
   pub goes-nowhere : w ≡ None → goOn b (p .w .places) net run rest ≡ refused 9
   goes-nowhere e = go-is ∙ go-none b (p .w .places) net run rest (linkNext b link) (linkNextAlt b link) (eqb (linkNext b link) 0) (inSet b (linkNext b link)) (inSet b (linkNextAlt b link)) (sym e ∙ told)
 
-  pub goes-on : (x : ℕ) → w ≡ One x → (reals′ : List Float) (cells′ : List ℕ) (r : Turned) → TurnedAs (onOver b net run x rest) b p fs us reals′ cells′ joins r → TurnedAs (goOn b (p .w .places) net run rest) b p fs us reals′ cells′ joins r
+  pub goes-on : (x : ℕ) → w ≡ One x → (reals′ : List Float) (cells′ : List ℕ) (r : GrowthAnswer) → TurnedAs (onOver b net run x rest) b p fs us reals′ cells′ joins r → TurnedAs (goOn b (p .w .places) net run rest) b p fs us reals′ cells′ joins r
   goes-on x e reals′ cells′ r t =
       subst (λ (y : Answer Growth). TurnedAs y b p fs us reals′ cells′ joins r)
       (sym (go-is ∙ go-one b (p .w .places) net run rest (linkNext b link) (linkNextAlt b link) (eqb (linkNext b link) 0) (inSet b (linkNext b link)) (inSet b (linkNextAlt b link)) x (sym e ∙ told))) t
@@ -70,7 +70,7 @@ module _ {b : List ℕ} {p : Plan} {fs : List Float} {us : List ℕ} {reals : Li
         let f = both-are (eqb (linkNext b link) 0) (inSet b (linkNext b link)) (inSet b (linkNextAlt b link)) (linkNext b link) (linkNextAlt b link) x y (sym both ∙ told) in
         next-other b h link l (f .some) (sym (f .first) ∙ e ∙ f .second)
 
-    module _ (reals′ : List Float) (cells′ : List ℕ) (s : Turned) (saved : SavedAs (saveOver b (p .w .places) run y rest) b p fs us reals′ cells′ joins net run rest y s) where
+    module _ (reals′ : List Float) (cells′ : List ℕ) (s : GrowthAnswer) (saved : SavedAs (saveOver b (p .w .places) run y rest) b p fs us reals′ cells′ joins net run rest y s) where
       pub fork-refused : (k : ℕ) → s ≡ Refused k → goOn b (p .w .places) net run rest ≡ refused k
       fork-refused k e = fork-is ∙ ap (λ (z : Answer (List Run)). andThen z (onOver b net run x)) (subst (SavedAs (saveOver b (p .w .places) run y rest) b p fs us reals′ cells′ joins net run rest y) e saved)
 
@@ -81,7 +81,7 @@ module _ {b : List ℕ} {p : Plan} {fs : List Float} {us : List ℕ} {reals : Li
       pub fork-free : row5 b ≡ false → link < links b → ((l : ℕ) → Free b run rest l) → (h : State) (e : s ≡ On h) → Free b run (fork-saved h e .more) x
       fork-free k l f h e = fork-saved h e .free x (fork-apart k l) (f x)
 
-      pub fork-goes : (h : State) (e : s ≡ On h) (r : Turned) → TurnedAs (onOver b net run x (fork-saved h e .more)) b p fs us reals′ cells′ joins r → TurnedAs (goOn b (p .w .places) net run rest) b p fs us reals′ cells′ joins r
+      pub fork-goes : (h : State) (e : s ≡ On h) (r : GrowthAnswer) → TurnedAs (onOver b net run x (fork-saved h e .more)) b p fs us reals′ cells′ joins r → TurnedAs (goOn b (p .w .places) net run rest) b p fs us reals′ cells′ joins r
       fork-goes h e r t =
           subst (λ (z : Answer Growth). TurnedAs z b p fs us reals′ cells′ joins r)
           (sym (fork-is ∙ ap (λ (z : Answer (List Run)). andThen z (onOver b net run x)) (fork-saved h e .is))) t
@@ -105,9 +105,9 @@ module _ {b : List ℕ} {p : Plan} {fs : List Float} {us : List ℕ} {reals : Li
         ∙ ap (λ (n : ℕ). isDestination b (linkOf b (g .front .leg)) && ltb 0 n) (leg-parent b (g .front .leg - 1) leg is)
         ∙ ap (λ (j : ℕ). isDestination b (linkOf b j) && ltb 0 (legParent b (j - 1))) (sym (a .front .moves .leg))
 
-    module _ (reals′ : List Float) (cells′ : List ℕ) (r : Turned) where
+    module _ (reals′ : List Float) (cells′ : List ℕ) (r : GrowthAnswer) where
       abbrev Ended : Bool → Type 0
-      Ended t = TurnedAs (endedAs t b (p .w .places) (record { net = net; run = run }) rest) b p fs us reals′ cells′ joins r
+      Ended t = TurnedAs (legEndAs t b (p .w .places) (record { net = net; run = run }) rest) b p fs us reals′ cells′ joins r
 
       pub end-finishes : (there && ltb 0 (leg .parent)) ≡ true → TurnedAs (finishAs (badFinish net run) net run rest) b p fs us reals′ cells′ joins r → Ended (finishes b (run .leg))
       end-finishes e t = subst Ended (sym e ∙ finishes-is) t

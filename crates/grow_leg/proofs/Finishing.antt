@@ -23,7 +23,7 @@ use Rattle.grow_state.specs.declared.Plan.{Plan}
 use Rattle.grow_state.specs.declared.State.{State}
 use Rattle.grow_state.specs.Held.{PlanIn, GivesAs}
 use Rattle.grow_state.proofs.Keeping.{plan-room, apart-same, chained-same, wait-same}
-use Rattle.grow_leg.specs.Turns.{AtEnd}
+use Rattle.grow_leg.specs.OneLeg.{AtEnd}
 
 -- ---- what `grow_ends::finish` asks
 
@@ -84,7 +84,7 @@ module _ {w : Layout} {start : List ℕ} {fs : List Float} {us cells : List ℕ}
         sum = v .sum;
         room = v .room;
         within = v .within;
-        woven = v .woven;
+        indexed = v .indexed;
         apart = apart-same marked-long (v .apart);
         mapped = map-left;
         ends = subst (λ (k : ℕ). EndsIn cells′ (endsAt w) k (run .place .«idx_prev» ∷ net .ends)) (ap (λ (q : Place). q .«idx_prev») same) (done .chained);
@@ -134,7 +134,7 @@ module _ {b : List ℕ} {p : Plan} {fs : List Float} {us : List ℕ} {reals : Li
             reals = λ q l. refl;
           }) (a .waiting);
           sound = a .sound .1;
-          beneath = a .beneath;
-          clear = a .clear;
+          prefixes = a .prefixes;
+          separate = a .separate;
         };
       }

@@ -16,8 +16,8 @@ use Rattle.book_legs.specs.declared.Taken.the-variants.{Leg, Refused}
 use Rattle.book_legs.specs.Legs.{searchOf, legSearch, takenBy, takenLeg}
 use Rattle.net_strands.specs.Entries.{entriesIn}
 use Rattle.net_strands.proofs.Entries.{entries-count}
-use Rattle.grow_waiting.specs.Saved.{Waiting, SavedIn, Elsewhere, waitingOf}
-use Rattle.grow_waiting.specs.Saved.{Apart as Others}
+use Rattle.grow_waiting.specs.Held.{Waiting, SavedIn, SavedElsewhere, waitingOf}
+use Rattle.grow_waiting.specs.Held.{Untaken}
 use Rattle.grow_waiting.proofs.Kept.{save-chained, save-path, save-mapped, node-left, saved-room}
 use Rattle.grow_path.specs.Path.{pathOf}
 use Rattle.grow_rules.specs.Run.{refused, given, andThen, Net, Run}
@@ -25,9 +25,9 @@ use Rattle.grow_rules.specs.Growth.{takes, seekLeg, onOver, waiting, fitsIn, sa
 use Rattle.grow_events.specs.Held.{endsAt}
 use Rattle.grow_state.specs.declared.Plan.{Plan}
 use Rattle.grow_state.specs.declared.State.{State}
-use Rattle.grow_state.specs.Held.{PlanIn, GivesAs, RunSound, Begins, Beneath, pathBefore}
+use Rattle.grow_state.specs.Held.{PlanIn, GivesAs, RunSound, Begins, Prefixes, pathBefore}
 use Rattle.grow_state.proofs.Keeping.{plan-legs, plan-room, net-same}
-use Rattle.grow_leg.specs.Turns.{AtEnd, Free, SavedOver}
+use Rattle.grow_leg.specs.OneLeg.{AtEnd, Free, SavedOver}
 use Rattle.grow_leg.proofs.Paths.{LegOf, leg-found, path-long, before-child}
 use Rattle.grow_leg.proofs.Clearing.{free-more, clear-others}
 use Rattle.grow_leg.proofs.Keeping.{plan-above, wait-used, append-nil}
@@ -86,7 +86,7 @@ module _ {b : List ℕ} {p : Plan} {fs : List Float} {us : List ℕ} {reals : Li
     unfolding onOver seekLeg
     on-refused k e =
         let n = taken-none b (run .leg) link t at-run k e in
-        ap (λ (j : ℕ). andThen (takes run j) (λ (r : Run). given (record { net = net; saved = record { place = r .place; leg = r .leg; added = run .added; joins = r .joins } ∷ rest }))) (n .0) ∙ ap refused (sym (n .1))
+        ap (λ (j : ℕ). andThen (takes run j) (λ (r : Run). given (record { net = net; saved = record { place = r .place; leg = r .leg; «has_split» = run .«has_split»; joins = r .joins } ∷ rest }))) (n .0) ∙ ap refused (sym (n .1))
 
     pub save-none : (k : ℕ) → t ≡ Refused k → saveOver b (p .w .places) run link rest ≡ refused 10
     unfolding saveOver seekLeg
@@ -107,23 +107,23 @@ module _ {b : List ℕ} {p : Plan} {fs : List Float} {us : List ℕ} {reals : Li
       deeper = omega (arith, a .front .depth, path-long (plan-above plan) (run .leg) (a .sound .0 .some) (a .sound .0 .within), ap length before)
 
       abbrev taking : Bool → Run
-      taking added = record { place = run .place; leg = suc i; added = added; joins = run .joins }
+      taking added = record { place = run .place; leg = suc i; «has_split» = added; joins = run .joins }
 
       sound : (added : Bool) → RunSound b (g .counts .nodes) (taking added)
       sound added = record { some = omega arith; within = child .of .within; stands = a .sound .0 .stands; few = a .sound .0 .few; valid = a .sound .0 .valid }
 
-      begins : Begins (pathOf b (run .leg)) (pathBefore b (suc i)) × Beneath b (pathBefore b (suc i)) rest
-      begins = (record { rest = []; is = sym before ∙ append-nil (pathBefore b (suc i)) }, subst (λ (xs : List ℕ). Beneath b xs rest) (sym before) (a .beneath))
+      begins : Begins (pathOf b (run .leg)) (pathBefore b (suc i)) × Prefixes b (pathBefore b (suc i)) rest
+      begins = (record { rest = []; is = sym before ∙ append-nil (pathBefore b (suc i)) }, subst (λ (xs : List ℕ). Prefixes b xs rest) (sym before) (a .prefixes))
 
-      on-is : onOver b net run link rest ≡ given (record { net = net; saved = taking (run .added) ∷ rest })
+      on-is : onOver b net run link rest ≡ given (record { net = net; saved = taking (run .«has_split») ∷ rest })
       unfolding onOver seekLeg
-      on-is = ap (λ (j : ℕ). andThen (takes run j) (λ (r : Run). given (record { net = net; saved = record { place = r .place; leg = r .leg; added = run .added; joins = r .joins } ∷ rest }))) (child .found)
+      on-is = ap (λ (j : ℕ). andThen (takes run j) (λ (r : Run). given (record { net = net; saved = record { place = r .place; leg = r .leg; «has_split» = run .«has_split»; joins = r .joins } ∷ rest }))) (child .found)
 
       -- the run takes it next
       pub on-gives : Free b run rest link
           → GivesAs (onOver b net run link rest) b p fs us reals cells joins (record { counts = g .counts; top = g .top; used = g .used; front = record { moves = true; mover = g .front .mover; leg = x .number; depth = g .front .depth + 1 } })
       on-gives f = record {
-        growth = record { net = net; saved = taking (run .added) ∷ rest };
+        growth = record { net = net; saved = taking (run .«has_split») ∷ rest };
         is = on-is;
         path = pathOf b (run .leg);
         holds = record {
@@ -136,7 +136,7 @@ module _ {b : List ℕ} {p : Plan} {fs : List Float} {us : List ℕ} {reals : Li
               moves = record {
                 place = a .front .moves .place;
                 leg = sym (child .number);
-                added = a .front .moves .added;
+                has-split = a .front .moves .has-split;
                 joins = a .front .moves .joins;
                 few = a .front .moves .few;
                 valid = a .front .moves .valid;
@@ -146,9 +146,9 @@ module _ {b : List ℕ} {p : Plan} {fs : List Float} {us : List ℕ} {reals : Li
             },
             a .waiting,
           );
-          sound = (sound (run .added), a .sound .1);
-          beneath = begins;
-          clear = (f .legs-clear i (child .of .within) (child .of .parent) (child .of .link), a .clear);
+          sound = (sound (run .«has_split»), a .sound .1);
+          prefixes = begins;
+          separate = (f .legs-separate i (child .of .within) (child .of .parent) (child .of .link), a .separate);
         };
       }
 
@@ -172,16 +172,16 @@ module _ {b : List ℕ} {p : Plan} {fs : List Float} {us : List ℕ} {reals : Li
       pub save-leg : (0 < x .number) × (x .number ≤ p .r .legs)
       save-leg = (omega (arith, child .number), omega (arith, child .number, child .of .within, plan .all-legs))
 
-      module _ (room : g .used + g .front .mover .count ≤ p .r .places) (reals′ : List Float) (cells′ : List ℕ) (long : length cells′ ≡ length cells) (else : Elsewhere cells cells′ reals reals′ (p .r))
-          (saved : (ws : List Waiting) → SavedIn cells reals (p .r) (g .top) (g .used) ws → Others (x .number) ws → SavedIn cells′ reals′ (p .r) (x .number) (g .used + g .front .mover .count) (waitingOf (g .front .mover .place) (x .number) (g .front .depth + 1) (entriesIn joins (g .front .mover .count)) ∷ ws))
+      module _ (room : g .used + g .front .mover .count ≤ p .r .places) (reals′ : List Float) (cells′ : List ℕ) (long : length cells′ ≡ length cells) (else : SavedElsewhere cells cells′ reals reals′ (p .r))
+          (saved : (ws : List Waiting) → SavedIn cells reals (p .r) (g .top) (g .used) ws → Untaken (x .number) ws → SavedIn cells′ reals′ (p .r) (x .number) (g .used + g .front .mover .count) (waitingOf (g .front .mover .place) (x .number) (g .front .depth + 1) (entriesIn joins (g .front .mover .count)) ∷ ws))
           (free : Free b run rest link) where
         ends-left : (k : ℕ) → k < p .w .places → getD cells′ (endsAt (p .w) + k * 8) 0 ≡ getD cells (endsAt (p .w) + k * 8) 0
         ends-left k h =
             let e : p .r .«nodes_at» + k * 8 + 2 ≡ endsAt (p .w) + k * 8 = omega (arith, plan .same-nodes) in
             subst (λ (q : ℕ). getD cells′ q 0 ≡ getD cells q 0) e (node-left else (plan-room plan) k 2 (omega (arith, plan .same-places)) (omega arith))
 
-        others : Others (x .number) (a .waiting .runs)
-        others = subst (λ (j : ℕ). Others j (a .waiting .runs)) (sym (child .number)) (clear-others (plan-above plan) (suc i) (g .counts .nodes) (a .waiting .runs) rest (a .sound .1) (a .waiting .same) (free .legs-clear i (child .of .within) (child .of .parent) (child .of .link)))
+        others : Untaken (x .number) (a .waiting .runs)
+        others = subst (λ (j : ℕ). Untaken j (a .waiting .runs)) (sym (child .number)) (clear-others (plan-above plan) (suc i) (g .counts .nodes) (a .waiting .runs) rest (a .sound .1) (a .waiting .same) (free .legs-separate i (child .of .within) (child .of .parent) (child .of .link)))
 
         save-kept : SavedOver (saveOver b (p .w .places) run link rest) b p fs us reals′ cells′ joins (record { counts = g .counts; top = x .number; used = g .used + g .front .mover .count; front = g .front }) net run rest link
         unfolding waitingOf
@@ -198,11 +198,11 @@ module _ {b : List ℕ} {p : Plan} {fs : List Float} {us : List ℕ} {reals : Li
             waiting = record {
               runs = waitingOf (g .front .mover .place) (x .number) (g .front .depth + 1) (entriesIn joins (g .front .mover .count)) ∷ a .waiting .runs;
               kept = saved (a .waiting .runs) (a .waiting .kept) others;
-              same = (record { place = sym (a .front .moves .place); leg = child .number; depth = deeper; joins = sym (a .front .moves .joins); added = refl }, a .waiting .same);
+              same = (record { place = sym (a .front .moves .place); leg = child .number; depth = deeper; joins = sym (a .front .moves .joins); has-split = refl }, a .waiting .same);
             };
             sound = (a .sound .0, (sound false, a .sound .1));
-            beneath = begins;
-            clear = (free .legs-clear i (child .of .within) (child .of .parent) (child .of .link), a .clear);
+            prefixes = begins;
+            separate = (free .legs-separate i (child .of .within) (child .of .parent) (child .of .link), a .separate);
           };
           free = λ l d f. free-more (plan-above plan) run (taking false) i rest link (child .of .within) (child .of .parent) (child .of .link) refl l d f;
         }

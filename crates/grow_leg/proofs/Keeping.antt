@@ -7,11 +7,11 @@ use lib.ListN.{length}
 use lib.Ieee.{Float}
 use Rattle.book_format.proofs.Given.{leg-above}
 use Rattle.grow_waiting.specs.declared.Rooms.{Rooms}
-use Rattle.grow_waiting.specs.Saved.{Waiting, SavedIn}
+use Rattle.grow_waiting.specs.Held.{Waiting, SavedIn}
 use Rattle.grow_rules.specs.Run.{Run}
 use Rattle.grow_rules.specs.Growth.{waiting}
 use Rattle.grow_state.specs.declared.Plan.{Plan}
-use Rattle.grow_state.specs.Held.{PlanIn, WaitIn, SameRuns, Beneath, pathBefore}
+use Rattle.grow_state.specs.Held.{PlanIn, WaitIn, SameRuns, Prefixes, pathBefore}
 use Rattle.grow_leg.proofs.Paths.{Above}
 
 -- ---- the plan
@@ -45,6 +45,6 @@ pub append-nil : (xs : List ℕ) → xs ≡ xs ++ []
 append-nil [] = refl
 append-nil (x ∷ xs) = ap {B = List ℕ} (λ (ws : List ℕ). x ∷ ws) (append-nil xs)
 
-pub beneath-more : (b path more : List ℕ) (runs : List Run) → Beneath b path runs → Beneath b (path ++ more) runs
-beneath-more b path more [] h = tt
-beneath-more b path more (r ∷ rs) h = (record { rest = h .0 .rest ++ more; is = ap (λ (xs : List ℕ). xs ++ more) (h .0 .is) ∙ append-assoc (pathBefore b (r .leg)) (h .0 .rest) more }, h .1)
+pub prefixes-more : (b path more : List ℕ) (runs : List Run) → Prefixes b path runs → Prefixes b (path ++ more) runs
+prefixes-more b path more [] h = tt
+prefixes-more b path more (r ∷ rs) h = (record { rest = h .0 .rest ++ more; is = ap (λ (xs : List ℕ). xs ++ more) (h .0 .is) ∙ append-assoc (pathBefore b (r .leg)) (h .0 .rest) more }, h .1)

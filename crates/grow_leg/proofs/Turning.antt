@@ -17,22 +17,22 @@ use Rattle.net_insertion.specs.declared.Place.{Place}
 use Rattle.grow_path.specs.Path.{pathOf, linkOf, legCourse}
 use Rattle.grow_path.specs.Kept.{PathIn}
 use Rattle.grow_rules.specs.Run.{Answer, refused, andThen, Net, Run, Outcome}
-use Rattle.grow_rules.specs.Growth.{Growth, legAs, legDone, endedAs, finishes, takeLeg}
+use Rattle.grow_rules.specs.Growth.{Growth, legAs, legDone, legEndAs, finishes, takeLeg}
 use Rattle.grow_events.specs.declared.Counts.{Counts}
 use Rattle.grow_events.specs.declared.Mover.{Mover}
-use Rattle.grow_events.specs.declared.Outcome.{Outcome as Became}
-use Rattle.grow_events.specs.declared.Outcome.the-variants.{On, Ended, Refused}
+use Rattle.grow_events.specs.declared.RunAnswer.{RunAnswer}
+use Rattle.grow_events.specs.declared.RunAnswer.the-variants.{On, Ended, Refused}
 use Rattle.grow_events.specs.Held.{NetIn, RunIn, GoesAs, LeftAs, OutcomeAs, NotFewer}
 use Rattle.grow_events.proofs.Kept.{before-kept, unit-kept, net-restart}
 use Rattle.grow_state.specs.declared.Plan.{Plan}
 use Rattle.grow_state.specs.declared.State.{State}
-use Rattle.grow_state.specs.declared.Turned.{Turned}
-use Rattle.grow_state.specs.Held.{PlanIn, DriveIn, WaitIn, AllSound, Beneath, ClearOf, GivesAs, TurnedAs, pathBefore}
+use Rattle.grow_state.specs.declared.GrowthAnswer.{GrowthAnswer}
+use Rattle.grow_state.specs.Held.{PlanIn, DriveIn, WaitIn, AllSound, Prefixes, SeparateFrom, GivesAs, TurnedAs, pathBefore}
 use Rattle.grow_state.proofs.Keeping.{plan-room, chained-same, wait-same, sound-more}
-use Rattle.grow_leg.specs.Turns.{outcomeAs, legOutcome, WalkedAs, AtEnd, SomeWay, Free}
+use Rattle.grow_leg.specs.OneLeg.{outcomeAs, legOutcome, WalkedAs, AtEnd, SomeWay, Free}
 use Rattle.grow_leg.proofs.Paths.{path-is, path-most}
 use Rattle.grow_leg.proofs.Clearing.{all-free}
-use Rattle.grow_leg.proofs.Keeping.{plan-above, beneath-more}
+use Rattle.grow_leg.proofs.Keeping.{plan-above, prefixes-more}
 use Rattle.grow_leg.proofs.Walking.{front-in, wait-in, same-leg, depth-inside}
 
 -- a leg's events, then what becomes of the run
@@ -46,7 +46,7 @@ take-is b places net run saved = go (row11 (legCourse b (run .leg)))
 
 module _ {b : List ℕ} {p : Plan} {fs : List Float} {us : List ℕ} {reals : List Float} {cells joins path : List ℕ} {g : State} {net : Net} {run : Run} {saved : List Run}
     (plan : PlanIn b p (length reals)) (moves : g .front .moves ≡ true) (d : DriveIn b p fs us reals cells joins path g net (run ∷ saved))
-    (fs′ : List Float) (us′ : List ℕ) (reals′ : List Float) (cells′ joins′ : List ℕ) (long : length cells′ ≡ length cells) (r : Became)
+    (fs′ : List Float) (us′ : List ℕ) (reals′ : List Float) (cells′ joins′ : List ℕ) (long : length cells′ ≡ length cells) (r : RunAnswer)
     (w : WalkedAs b p (run .leg) (g .front .depth) (legOutcome b (p .w .places) net run) reals cells fs′ us′ reals′ cells′ joins′ r) (more : NotFewer (g .counts) r) where
   abbrev start : List ℕ
   start = set cells (g .front .depth * 8 + 3) (linkOf b (run .leg))
@@ -61,8 +61,8 @@ module _ {b : List ℕ} {p : Plan} {fs : List Float} {us : List ℕ} {reals : Li
   short : length (pathOf b (run .leg)) ≤ legs b
   short = omega (arith, path-most b (run .leg), d .sound .0 .within)
 
-  beneath : Beneath b (pathOf b (run .leg)) saved
-  beneath = subst (λ (xs : List ℕ). Beneath b xs saved) (sym (path-is (plan-above plan) (run .leg) (d .sound .0 .some) (d .sound .0 .within))) (beneath-more b (pathBefore b (run .leg)) (run .leg ∷ []) saved (d .beneath .1))
+  prefixes : Prefixes b (pathOf b (run .leg)) saved
+  prefixes = subst (λ (xs : List ℕ). Prefixes b xs saved) (sym (path-is (plan-above plan) (run .leg) (d .sound .0 .some) (d .sound .0 .within))) (prefixes-more b (pathBefore b (run .leg)) (run .leg ∷ []) saved (d .prefixes .1))
 
   module _ {c : Counts} {after : Net} (v : NetIn (p .w) start fs′ us′ cells′ c after) where
     left : (q : ℕ) → q < p .w .«nodes_at» → (q ≡ g .front .depth * 8 + 3 → ⊥) → getD cells′ q 0 ≡ getD cells q 0
@@ -111,8 +111,8 @@ module _ {b : List ℕ} {p : Plan} {fs : List Float} {us : List ℕ} {reals : Li
           short = short;
           waiting = waits (o .net);
           sound = sound-more b (g .counts .nodes) (c .nodes) saved grows (d .sound .1);
-          beneath = beneath;
-          clear = d .clear .1;
+          prefixes = prefixes;
+          separate = d .separate .1;
         };
       }
 
@@ -158,16 +158,16 @@ module _ {b : List ℕ} {p : Plan} {fs : List Float} {us : List ℕ} {reals : Li
           };
           waiting = waits (took .net);
           sound = sound;
-          beneath = subst (λ (j : ℕ). Beneath b (pathOf b j) saved) (sym leg-same) beneath;
-          clear = d .clear .1;
+          prefixes = subst (λ (j : ℕ). Prefixes b (pathOf b j) saved) (sym leg-same) prefixes;
+          separate = d .separate .1;
         })
 
     pub took-free : (l : ℕ) → Free b on saved l
-    took-free = all-free (plan-above plan) on (c .nodes) saved sound (subst (λ (j : ℕ). ClearOf b j saved) (sym leg-same) (d .clear .0))
+    took-free = all-free (plan-above plan) on (c .nodes) saved sound (subst (λ (j : ℕ). SeparateFrom b j saved) (sym leg-same) (d .separate .0))
 
     pub took-way : SomeWay b p fs′ us′ reals′ cells′ joins′ h
     took-way = record { net = took .after .net; run = on; rest = saved; ends = took-ends; free = took-free }
 
-    pub take-on : (reals″ : List Float) (cells″ : List ℕ) (t : Turned) → TurnedAs (endedAs (finishes b (on .leg)) b (p .w .places) (took .after) saved) b p fs′ us′ reals″ cells″ joins′ t → TurnedAs (takeLeg b (p .w .places) net run saved) b p fs′ us′ reals″ cells″ joins′ t
+    pub take-on : (reals″ : List Float) (cells″ : List ℕ) (t : GrowthAnswer) → TurnedAs (legEndAs (finishes b (on .leg)) b (p .w .places) (took .after) saved) b p fs′ us′ reals″ cells″ joins′ t → TurnedAs (takeLeg b (p .w .places) net run saved) b p fs′ us′ reals″ cells″ joins′ t
     take-on reals″ cells″ t x =
         subst (λ (y : Answer Growth). TurnedAs y b p fs′ us′ reals″ cells″ joins′ t) (sym (take-is b (p .w .places) net run saved ∙ ap (λ (y : Answer Outcome). andThen y (legDone b (p .w .places) saved)) (took .is))) x

@@ -33,14 +33,14 @@ use Rattle.grow_path.proofs.Legs.{leg-held, leg-sound, leg-alike}
 use Rattle.grow_path.proofs.Testing.{reaches, passes, walkable}
 use Rattle.grow_rules.specs.Run.{Answer, Net, Run, Outcome, runEvents}
 use Rattle.grow_rules.specs.Growth.{joinGap}
-use Rattle.grow_events.specs.declared.Outcome.{Outcome as Became}
-use Rattle.grow_events.specs.declared.Outcome.the-variants.{Refused}
+use Rattle.grow_events.specs.declared.RunAnswer.{RunAnswer}
+use Rattle.grow_events.specs.declared.RunAnswer.the-variants.{Refused}
 use Rattle.grow_events.specs.Held.{NetIn, RunIn, Moving, Along, SomePath, OutcomeAs, unlessBad}
 use Rattle.grow_state.specs.declared.Plan.{Plan}
 use Rattle.grow_state.specs.declared.State.{State}
 use Rattle.grow_state.specs.Held.{PlanIn, DriveIn, Driving, FrontIn, WaitIn, RunsIn, pathBefore}
 use Rattle.grow_state.proofs.Keeping.{net-same}
-use Rattle.grow_leg.specs.Turns.{outcomeAs, legOutcome, WalkedAs}
+use Rattle.grow_leg.specs.OneLeg.{outcomeAs, legOutcome, WalkedAs}
 use Rattle.grow_leg.proofs.Paths.{path-is, path-long, path-most, path-named}
 use Rattle.grow_leg.proofs.Keeping.{plan-above}
 use Rattle.grow_leg.proofs.Ending.{link-named}
@@ -111,7 +111,7 @@ module _ {b : List ℕ} {p : Plan} {fs : List Float} {us : List ℕ} {reals : Li
   depth-inside = omega (arith, path-length, path-most b (run .leg), d .sound .0 .within)
 
   before : PathIn b reals cells (pathBefore b (run .leg))
-  before = path-begins b reals cells (pathBefore b (run .leg)) (d .beneath .0 .rest) (subst (PathIn b reals cells) (d .beneath .0 .is) (d .kept))
+  before = path-begins b reals cells (pathBefore b (run .leg)) (d .prefixes .0 .rest) (subst (PathIn b reals cells) (d .prefixes .0 .is) (d .kept))
 
   -- ---- its link
 
@@ -230,7 +230,7 @@ module _ {b : List ℕ} {p : Plan} {fs : List Float} {us : List ℕ} {reals : Li
     row-is : row11 (courseOf b reals′ v) ≡ row11 (legCourse b (run .leg))
     row-is = row-alike (courseOf b reals′ v) (legCourse b (run .leg)) walk-sound alike
 
-    walked : {answer : Answer Outcome} (fs′ : List Float) (us′ cells″ joins′ : List ℕ) (r : Became) → OutcomeAs answer (p .w) cells′ (run .leg) fs′ us′ cells″ joins′ r → WalkedAs b p (run .leg) (g .front .depth) answer reals cells fs′ us′ reals′ cells″ joins′ r
+    walked : {answer : Answer Outcome} (fs′ : List Float) (us′ cells″ joins′ : List ℕ) (r : RunAnswer) → OutcomeAs answer (p .w) cells′ (run .leg) fs′ us′ cells″ joins′ r → WalkedAs b p (run .leg) (g .front .depth) answer reals cells fs′ us′ reals′ cells″ joins′ r
     walked {answer} fs′ us′ cells″ joins′ r o = record {
       kept = subst (λ (xs : List ℕ). PathIn b reals′ xs (pathOf b (run .leg))) cells-are kept;
       reals-left = reals-else;
@@ -280,7 +280,7 @@ module _ {b : List ℕ} {p : Plan} {fs : List Float} {us : List ℕ} {reals : Li
           as-tested true = refl
           as-tested false = refl
 
-      pub walk-goes : (fs′ : List Float) (us′ cells″ joins′ : List ℕ) (r : Became)
+      pub walk-goes : (fs′ : List Float) (us′ cells″ joins′ : List ℕ) (r : RunAnswer)
           → ((start path : List ℕ) (leg : ℕ) (net : Net) (run : Run) → NetIn (p .w) start fs us cells′ (g .counts) net → RunIn (g .counts .nodes) leg joins (g .front .mover) run → Along b reals′ cells′ (p .w) (v .points) path
           → OutcomeAs (unlessBad (someBad (pointsPassed (courseOf b reals′ v))) (runEvents (p .w .places) (p .join) (eventsAt b path (pointsPassed (courseOf b reals′ v))) (record { net = net; run = run }))) (p .w) start leg fs′ us′ cells″ joins′ r)
           → WalkedAs b p (run .leg) (g .front .depth) (legOutcome b (p .w .places) net run) reals cells fs′ us′ reals′ cells″ joins′ r

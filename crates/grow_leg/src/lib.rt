@@ -1,13 +1,13 @@
-// One leg of the run at the front: its events, then a finish or the way on. Contracts: grow_rules' specs/Growth.antt, grow_state's specs/Held.antt, specs/Turns.antt.
+// One leg of the run at the front: its events, then a finish or the way on. Contracts: grow_rules' specs/Growth.antt, grow_state's specs/Held.antt, specs/OneLeg.antt.
 use book_format::Sections;
 use book_legs::Taken;
 use grow_events::Counts;
 use grow_events::Mover;
-use grow_events::Outcome;
+use grow_events::RunAnswer;
 use grow_state::Front;
+use grow_state::GrowthAnswer;
 use grow_state::Plan;
 use grow_state::State;
-use grow_state::Turned;
 ghost use mathlib.Core.Path.{_≡_};
 ghost use mathlib.Core.Bool.{true, false};
 ghost use mathlib.Core.List.{List, _∷_};
@@ -17,13 +17,13 @@ ghost use lib.ListN.{length, getD};
 ghost use lib.Ieee.{Float};
 ghost use Rattle.book_format.specs.Format.{Sized, links, linkNext, linkNextAlt};
 ghost use Rattle.book_format.specs.Chains.{Readable};
-ghost use Rattle.book_options.specs.Options.{Marked, inSet};
+ghost use Rattle.book_options.specs.Options.{OptionsIn, inSet};
 ghost use Rattle.grow_path.specs.Path.{linkOf};
 ghost use Rattle.grow_rules.specs.Run.{Net, Run};
-ghost use Rattle.grow_rules.specs.Growth.{isDestination, onOver, saveOver, finishAs, badFinish, goOn, endedAs, finishes, takeLeg};
+ghost use Rattle.grow_rules.specs.Growth.{isDestination, onOver, saveOver, finishAs, badFinish, goOn, legEndAs, finishes, takeLeg};
 ghost use Rattle.grow_events.specs.Held.{NotFewer};
 ghost use Rattle.grow_state.specs.Held.{PlanIn, DriveIn, Driving, TurnedAs};
-ghost use Rattle.grow_leg.specs.Turns.{legOutcome, WalkedAs, AtEnd, SomeFinish, SomeLeg, SomeEnding, SomeWay, SomeGoing, Free, SavedAs, waysAs};
+ghost use Rattle.grow_leg.specs.OneLeg.{legOutcome, WalkedAs, AtEnd, SomeFinish, SomeLeg, SomeEnding, SomeWay, SomeGoing, Free, SavedAs, waysAs};
 
 // The links over which a run can go on. Of two the alternative is saved.
 pub enum Ways {
@@ -76,7 +76,7 @@ fn leads_on(marks: &[u32], link_idx: u32) -> bool
 // The links over which a run goes on behind a link. Row 9: there are none.
 fn ways_behind(book: &[u8], s: Sections, marks: &[u32], link_idx: u32) -> Ways
     requires { ⌜ Readable (now book) s ⌝ }
-    requires { ⌜ Marked (now book) (now marks) ⌝ }
+    requires { ⌜ OptionsIn (now book) (now marks) ⌝ }
     requires { ⌜ links (now book) ≤ length (now marks) ⌝ }
     requires { ⌜ «link_idx» < links (now book) ⌝ }
     ensures { λ r. ⌜ r ≡ waysAs (eqb (linkNext (now (book .entry)) «link_idx») 0) (inSet (now (book .entry)) (linkNext (now (book .entry)) «link_idx»)) (inSet (now (book .entry)) (linkNextAlt (now (book .entry)) «link_idx»)) (linkNext (now (book .entry)) «link_idx») (linkNextAlt (now (book .entry)) «link_idx») ⌝ }
@@ -99,7 +99,7 @@ fn ways_behind(book: &[u8], s: Sections, marks: &[u32], link_idx: u32) -> Ways
 }
 
 // The run at the front finishes, unless row 13 holds.
-fn finish_run(floats: &[f64], numbers: &[u32], cells: &mut [u32], p: Plan, g: State) -> Turned
+fn finish_run(floats: &[f64], numbers: &[u32], cells: &mut [u32], p: Plan, g: State) -> GrowthAnswer
     requires { ⌜ SomeFinish p (now floats) (now numbers) (now cells) g ⌝ }
     ensures { λ r. ⌜ ((b : List ℕ) (reals : List Float) (joins : List ℕ) (net : Net) (run : Run) (rest : List Run) → PlanIn b p (length reals) → AtEnd b p (now (floats .entry)) (now (numbers .entry)) reals (now (cells .entry)) joins g net run rest → TurnedAs (finishAs (badFinish net run) net run rest) b p (now (floats .entry)) (now (numbers .entry)) reals (now (cells .exit)) joins r) ⌝ }
 {
@@ -117,7 +117,7 @@ fn finish_run(floats: &[f64], numbers: &[u32], cells: &mut [u32], p: Plan, g: St
         counts.last_end,
         place,
     ) {
-        return Turned::Refused(13);
+        return GrowthAnswer::Refused(13);
     }
     let ended = Counts {
         nodes: counts.nodes,
@@ -126,11 +126,11 @@ fn finish_run(floats: &[f64], numbers: &[u32], cells: &mut [u32], p: Plan, g: St
         joined: counts.joined,
         last_end: place.idx_prev,
     };
-    Turned::On(standing(g, ended, mover, false))
+    GrowthAnswer::On(standing(g, ended, mover, false))
 }
 
 // The run at the front goes on over a link: "The leg is found or the book is refused with 10".
-fn on_over(book: &[u8], cells: &[u32], p: Plan, g: State, link_idx: u32) -> Turned
+fn on_over(book: &[u8], cells: &[u32], p: Plan, g: State, link_idx: u32) -> GrowthAnswer
     requires { ⌜ SomeLeg (now book) (now cells) p g ⌝ }
     ensures { λ r. ⌜ ((fs : List Float) (us : List ℕ) (reals : List Float) (joins : List ℕ) (net : Net) (run : Run) (rest : List Run) → PlanIn (now (book .entry)) p (length reals) → AtEnd (now (book .entry)) p fs us reals (now (cells .entry)) joins g net run rest → Free (now (book .entry)) run rest «link_idx» → TurnedAs (onOver (now (book .entry)) net run «link_idx» rest) (now (book .entry)) p fs us reals (now (cells .entry)) joins r) ⌝ }
 {
@@ -140,8 +140,8 @@ fn on_over(book: &[u8], cells: &[u32], p: Plan, g: State, link_idx: u32) -> Turn
     let mover = front.mover;
     let taken = book_legs::take_leg(book, s, cells, front.leg, link_idx);
     match taken {
-        Taken::Refused(k) => Turned::Refused(k),
-        Taken::Leg(leg) => Turned::On(State {
+        Taken::Refused(k) => GrowthAnswer::Refused(k),
+        Taken::Leg(leg) => GrowthAnswer::On(State {
             counts,
             top: g.top,
             used: g.used,
@@ -173,7 +173,7 @@ fn save_over(
     p: Plan,
     g: State,
     link_idx: u32,
-) -> Turned
+) -> GrowthAnswer
     requires { ⌜ PlanIn (now book) p (length (now reals)) ⌝ }
     requires { ⌜ SomeEnding (now book) p (now reals) (now cells) (now joins) g ⌝ }
     requires { ⌜ 2048 ≤ length (now joins) ⌝ }
@@ -187,11 +187,11 @@ fn save_over(
     let place = mover.place;
     let taken = book_legs::take_leg(book, s, cells, front.leg, link_idx);
     let Taken::Leg(leg) = taken else {
-        return Turned::Refused(10);
+        return GrowthAnswer::Refused(10);
     };
     let used = waiting_entries(g.used, mover.count);
     if r.places < used {
-        return Turned::Refused(12);
+        return GrowthAnswer::Refused(12);
     }
     grow_waiting::save(
         cells,
@@ -205,7 +205,7 @@ fn save_over(
         joins,
         mover.count,
     );
-    Turned::On(State {
+    GrowthAnswer::On(State {
         counts,
         top: leg.number,
         used,
@@ -223,9 +223,9 @@ fn go_on(
     p: Plan,
     g: State,
     link_idx: u32,
-) -> Turned
+) -> GrowthAnswer
     requires { ⌜ PlanIn (now book) p (length (now reals)) ⌝ }
-    requires { ⌜ Marked (now book) (now marks) ⌝ }
+    requires { ⌜ OptionsIn (now book) (now marks) ⌝ }
     requires { ⌜ links (now book) ≤ length (now marks) ⌝ }
     requires { ⌜ SomeGoing (now book) p (now reals) (now cells) (now joins) g ⌝ }
     requires { ⌜ «link_idx» ≡ linkOf (now book) (g .front .leg) ⌝ }
@@ -235,13 +235,13 @@ fn go_on(
     let s = p.s;
     let ways = ways_behind(book, s, marks, link_idx);
     match ways {
-        Ways::None => Turned::Refused(9),
+        Ways::None => GrowthAnswer::Refused(9),
         Ways::One(next) => on_over(book, cells, p, g, next),
         Ways::Both(next, alt) => {
             let saved = save_over(book, reals, cells, joins, p, g, alt);
             match saved {
-                Turned::Refused(k) => Turned::Refused(k),
-                Turned::On(h) => on_over(book, cells, p, h, next),
+                GrowthAnswer::Refused(k) => GrowthAnswer::Refused(k),
+                GrowthAnswer::On(h) => on_over(book, cells, p, h, next),
             }
         }
     }
@@ -258,13 +258,13 @@ fn end_leg(
     joins: &[u32],
     p: Plan,
     g: State,
-) -> Turned
+) -> GrowthAnswer
     requires { ⌜ PlanIn (now book) p (length (now reals)) ⌝ }
-    requires { ⌜ Marked (now book) (now marks) ⌝ }
+    requires { ⌜ OptionsIn (now book) (now marks) ⌝ }
     requires { ⌜ links (now book) ≤ length (now marks) ⌝ }
     requires { ⌜ SomeWay (now book) p (now floats) (now numbers) (now reals) (now cells) (now joins) g ⌝ }
     requires { ⌜ 2048 ≤ length (now joins) ⌝ }
-    ensures { λ r. ⌜ ((net : Net) (run : Run) (rest : List Run) → AtEnd (now (book .entry)) p (now (floats .entry)) (now (numbers .entry)) (now (reals .entry)) (now (cells .entry)) (now (joins .entry)) g net run rest → ((l : ℕ) → Free (now (book .entry)) run rest l) → TurnedAs (endedAs (finishes (now (book .entry)) (run .leg)) (now (book .entry)) (p .w .places) (record { net = net; run = run }) rest) (now (book .entry)) p (now (floats .entry)) (now (numbers .entry)) (now (reals .exit)) (now (cells .exit)) (now (joins .entry)) r) ⌝ }
+    ensures { λ r. ⌜ ((net : Net) (run : Run) (rest : List Run) → AtEnd (now (book .entry)) p (now (floats .entry)) (now (numbers .entry)) (now (reals .entry)) (now (cells .entry)) (now (joins .entry)) g net run rest → ((l : ℕ) → Free (now (book .entry)) run rest l) → TurnedAs (legEndAs (finishes (now (book .entry)) (run .leg)) (now (book .entry)) (p .w .places) (record { net = net; run = run }) rest) (now (book .entry)) p (now (floats .entry)) (now (numbers .entry)) (now (reals .exit)) (now (cells .exit)) (now (joins .entry)) r) ⌝ }
 {
     let s = p.s;
     let front = g.front;
@@ -288,7 +288,7 @@ fn walk_leg(
     stack: &mut [u32],
     p: Plan,
     g: State,
-) -> Outcome
+) -> RunAnswer
     requires { ⌜ PlanIn (now book) p (length (now reals)) ⌝ }
     requires { ⌜ Driving (now book) p (now floats) (now numbers) (now reals) (now cells) (now joins) g ⌝ }
     requires { ⌜ g .front .moves ≡ true ⌝ }
@@ -308,7 +308,7 @@ fn walk_leg(
     grow_path::extend_path(book, s, reals, cells, front.depth, leg.link_idx);
     let v = grow_path::movement_of(s, taken, front.depth + 1, p.length);
     if event_walk::reaches_last(book, reals, v) {
-        return Outcome::Refused(11);
+        return RunAnswer::Refused(11);
     }
     grow_events::run_events(
         book,
@@ -340,9 +340,9 @@ pub fn turn(
     stack: &mut [u32],
     p: Plan,
     g: State,
-) -> Turned
+) -> GrowthAnswer
     requires { ⌜ PlanIn (now book) p (length (now reals)) ⌝ }
-    requires { ⌜ Marked (now book) (now marks) ⌝ }
+    requires { ⌜ OptionsIn (now book) (now marks) ⌝ }
     requires { ⌜ links (now book) ≤ length (now marks) ⌝ }
     requires { ⌜ Driving (now book) p (now floats) (now numbers) (now reals) (now cells) (now joins) g ⌝ }
     requires { ⌜ g .front .moves ≡ true ⌝ }
@@ -366,9 +366,9 @@ pub fn turn(
         g,
     );
     match became {
-        Outcome::Refused(k) => Turned::Refused(k),
-        Outcome::Ended(counts) => Turned::On(standing(g, counts, before, false)),
-        Outcome::On(counts, mover) => {
+        RunAnswer::Refused(k) => GrowthAnswer::Refused(k),
+        RunAnswer::Ended(counts) => GrowthAnswer::On(standing(g, counts, before, false)),
+        RunAnswer::On(counts, mover) => {
             let h = standing(g, counts, mover, true);
             end_leg(book, floats, numbers, reals, cells, marks, joins, p, h)
         }

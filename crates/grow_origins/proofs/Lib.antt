@@ -1,6 +1,6 @@
 pub mod Planning
 pub mod Starting
-pub mod Sowing
+pub mod OriginEvents
 pub mod Following
 pub mod Saving
-pub mod Planting
+pub mod OriginLoop

@@ -89,6 +89,6 @@ module _ (b : List ℕ) (s : Sections) (v : Readable b s) (head : HeadPatterns) 
 
 -- ---- the first state
 
-pub first-is : (m : Mover) → m ≡ record { place = record { «time_to_next» = ofBits binary64 0; «dist_to_next» = ofBits binary64 0; «idx_prev» = 1 }; added = false; count = 0 } → record { counts = record { nodes = 2; added = 0; splits = 0; joined = 0; «last_end» = 0 }; top = 0; used = 0; front = record { moves = false; mover = m; leg = 0; depth = 0 } } ≡ startState
+pub first-is : (m : Mover) → m ≡ record { place = record { «time_to_next» = ofBits binary64 0; «dist_to_next» = ofBits binary64 0; «idx_prev» = 1 }; «has_split» = false; count = 0 } → record { counts = record { nodes = 2; added = 0; splits = 0; joined = 0; «last_end» = 0 }; top = 0; used = 0; front = record { moves = false; mover = m; leg = 0; depth = 0 } } ≡ startState
 unfolding startState
 first-is m e = ap {B = State} (λ (x : Mover). record { counts = record { nodes = 2; added = 0; splits = 0; joined = 0; «last_end» = 0 }; top = 0; used = 0; front = record { moves = false; mover = x; leg = 0; depth = 0 } }) e

@@ -22,8 +22,8 @@ use Rattle.net_strands.specs.Entries.{entriesIn, Valid}
 use Rattle.net_event_map.specs.declared.Layout.{Layout}
 use Rattle.grow_path.specs.Path.{legsTo, pathOf}
 use Rattle.grow_waiting.specs.declared.Rooms.{Rooms}
-use Rattle.grow_waiting.specs.Saved.{Waiting, Apart, SavedIn, waitingOf}
-use Rattle.grow_waiting.specs.Saved.{Elsewhere as Untouched}
+use Rattle.grow_waiting.specs.Held.{Waiting, Untaken, SavedIn, waitingOf}
+use Rattle.grow_waiting.specs.Held.{SavedElsewhere}
 use Rattle.grow_waiting.proofs.Kept.{node-left, save-chained, save-path, save-mapped, saved-room}
 use Rattle.arcs_growth.proofs.Paths.{LegOf, leg-found}
 use Rattle.grow_rules.specs.Run.{refused, given, andThen, Net, Run, memberOf}
@@ -33,18 +33,18 @@ use Rattle.grow_events.specs.Held.{NetIn, endsAt}
 use Rattle.grow_events.proofs.Kept.{before-kept, unit-kept, net-restart, path-kept}
 use Rattle.grow_state.specs.declared.Plan.{Plan}
 use Rattle.grow_state.specs.declared.State.{State}
-use Rattle.grow_state.specs.declared.Turned.the-variants.{On}
-use Rattle.grow_state.specs.Held.{PlanIn, pathBefore, Beneath, Clear, ClearOf, RunSound, AllSound, SameRuns, WaitIn, RunsIn, DriveIn}
+use Rattle.grow_state.specs.declared.GrowthAnswer.the-variants.{On}
+use Rattle.grow_state.specs.Held.{PlanIn, pathBefore, Prefixes, Separate, SeparateFrom, RunSound, AllSound, SameRuns, WaitIn, RunsIn, DriveIn}
 use Rattle.grow_state.proofs.Keeping.{plan-legs, plan-room, net-same, chained-same, wait-same, idle-waits, sound-more}
-use Rattle.grow_origins.specs.Origins.{Elsewhere, AllFirst, NotOver, OriginsAs, savedOrigin, Sown}
+use Rattle.grow_origins.specs.Origins.{OtherLinks, AllFirst, NotOver, OriginsAs, savedOrigin, OriginInserted}
 
 -- ---- the leg
 
 -- the leg that was found, by its row
 record FoundLeg (b : List ℕ) (link : ℕ) (leg : TakenLeg) : Type 0 where
-  row : ℕ
-  below : legBelow b (legs b) 0 link ≡ suc row
-  number : leg .number ≡ suc row
+  idx : ℕ
+  below : legBelow b (legs b) 0 link ≡ suc idx
+  number : leg .number ≡ suc idx
 
 abbrev NotMissing : Taken → Type 0
 NotMissing (Leg t) = Unit
@@ -65,7 +65,7 @@ found-leg b link t leg e d = go (legBelow b (legs b) 0 link) refl
     go : (n : ℕ) → legBelow b (legs b) 0 link ≡ n → FoundLeg b link leg
     go n q =
         let h = leg-number b n leg (ap (λ (x : ℕ). takenBy b (searchOf x)) (sym q) ∙ sym e ∙ d) in
-        record { row = n - 1; below = omega (arith, q, h .0); number = omega (arith, h .0, h .1) }
+        record { idx = n - 1; below = omega (arith, q, h .0); number = omega (arith, h .0, h .1) }
 
 no-leg : (b : List ℕ) (n : ℕ) (k : ℕ) → takenBy b (searchOf n) ≡ NoLeg k → n ≡ 0
 no-leg b zero k e = refl
@@ -73,8 +73,8 @@ no-leg b (suc n) k e = absurd (subst NotMissing e tt)
 
 -- ---- paths of one leg
 
-row-of : (i : ℕ) → suc i - 1 ≡ i
-row-of i = omega arith
+idx-of : (i : ℕ) → suc i - 1 ≡ i
+idx-of i = omega arith
 
 none-before : (k : ℕ) (b : List ℕ) → legsTo k b 0 ≡ []
 unfolding legsTo
@@ -92,10 +92,10 @@ before-first b j e = ap (λ (p : ℕ). pathOf b p) e ∙ none-before 0 b
 not-member : (i j : ℕ) → (i ≡ j → ⊥) → memberOf (i ∷ []) j ≡ false
 not-member i j d = ap (λ (t : Bool). t || false) (ne-eqb i j d)
 
-first-clear : (b : List ℕ) (i j : ℕ) → 0 < j → legParent b i ≡ 0 → legParent b (j - 1) ≡ 0 → (suc i ≡ j → ⊥) → Clear b (suc i) j
-first-clear b i zero h p q d = absurd (omega arith)
-first-clear b i (suc j) h p q d = record {
-  no-there = ap (λ (xs : List ℕ). memberOf xs (suc i)) (path-first b j (ap (legParent b) (sym (row-of j)) ∙ q)) ∙ not-member (suc j) (suc i) (λ (e : suc j ≡ suc i). d (sym e));
+first-separate : (b : List ℕ) (i j : ℕ) → 0 < j → legParent b i ≡ 0 → legParent b (j - 1) ≡ 0 → (suc i ≡ j → ⊥) → Separate b (suc i) j
+first-separate b i zero h p q d = absurd (omega arith)
+first-separate b i (suc j) h p q d = record {
+  no-there = ap (λ (xs : List ℕ). memberOf xs (suc i)) (path-first b j (ap (legParent b) (sym (idx-of j)) ∙ q)) ∙ not-member (suc j) (suc i) (λ (e : suc j ≡ suc i). d (sym e));
   no-back = ap (λ (xs : List ℕ). memberOf xs (suc j)) (path-first b i p) ∙ not-member (suc i) (suc j) d;
 }
 
@@ -104,24 +104,24 @@ first-clear b i (suc j) h p q d = record {
 module _ (b : List ℕ) (link i : ℕ) (e : legLink b i ≡ link) where
   -- a run over another link takes another leg
   other-leg : (j : ℕ) → legLink b (j - 1) ≢ link → suc i ≡ j → ⊥
-  other-leg j d q = d (ap (λ (x : ℕ). legLink b (x - 1)) (sym q) ∙ ap (legLink b) (row-of i) ∙ e)
+  other-leg j d q = d (ap (λ (x : ℕ). legLink b (x - 1)) (sym q) ∙ ap (legLink b) (idx-of i) ∙ e)
 
-  all-others : (n : ℕ) (rows : List ℕ) (runs : List Run) → legParent b i ≡ 0 → AllSound b n runs → AllFirst b rows runs → NotOver b link runs → ClearOf b (suc i) runs
-  all-others n rows [] p s f o = tt
-  all-others n rows (r ∷ rs) p s f o = (first-clear b i (r .leg) (s .0 .some) p (f .0) (other-leg (r .leg) (o .0)), all-others n rows rs p (s .1) (f .1 .1) (o .1))
+  all-others : (n : ℕ) (idxs : List ℕ) (runs : List Run) → legParent b i ≡ 0 → AllSound b n runs → AllFirst b idxs runs → NotOver b link runs → SeparateFrom b (suc i) runs
+  all-others n idxs [] p s f o = tt
+  all-others n idxs (r ∷ rs) p s f o = (first-separate b i (r .leg) (s .0 .some) p (f .0) (other-leg (r .leg) (o .0)), all-others n idxs rs p (s .1) (f .1 .1) (o .1))
 
-  apart-others : (ws : List Waiting) (runs : List Run) → SameRuns b ws runs → NotOver b link runs → Apart (suc i) ws
+  apart-others : (ws : List Waiting) (runs : List Run) → SameRuns b ws runs → NotOver b link runs → Untaken (suc i) ws
   apart-others [] runs s o = tt
   apart-others (w ∷ ws) [] s o = absurd s
   apart-others (w ∷ ws) (r ∷ rs) s o = (λ (q : suc i ≡ w .leg). other-leg (r .leg) (o .0) (q ∙ s .0 .leg), apart-others ws rs (s .1) (o .1))
 
-beneath-none : (b : List ℕ) (runs : List Run) (path : List ℕ) → path ≡ [] → Beneath b [] runs → Beneath b path runs
-beneath-none b runs path e h = subst (λ (p : List ℕ). Beneath b p runs) (sym e) h
+prefixes-none : (b : List ℕ) (runs : List Run) (path : List ℕ) → path ≡ [] → Prefixes b [] runs → Prefixes b path runs
+prefixes-none b runs path e h = subst (λ (p : List ℕ). Prefixes b p runs) (sym e) h
 
 -- ---- the network while a run is saved
 
 module _ {w : Layout} {r : Rooms} {fs : List Float} {us cells : List ℕ} {c : Counts} {net : Net} (v : NetIn w cells fs us cells c net) {cells′ : List ℕ} {reals reals′ : List Float}
-    (s : Untouched cells cells′ reals reals′ r) (room : (r .legs + 1) * 8 ≤ r .«nodes_at») (same-nodes : r .«nodes_at» ≡ w .«nodes_at») (same-places : r .places ≡ w .places) (long : length cells′ ≡ length cells) where
+    (s : SavedElsewhere cells cells′ reals reals′ r) (room : (r .legs + 1) * 8 ≤ r .«nodes_at») (same-nodes : r .«nodes_at» ≡ w .«nodes_at») (same-places : r .places ≡ w .places) (long : length cells′ ≡ length cells) where
   mark-left : (i : ℕ) → i < w .places → getD cells′ (endsAt w + i * 8) 0 ≡ getD cells (endsAt w + i * 8) 0
   mark-left i h =
       let e : r .«nodes_at» + i * 8 + 2 ≡ endsAt w + i * 8 = omega (arith, same-nodes) in
@@ -152,14 +152,14 @@ module _ {b : List ℕ} {p : Plan} {fs : List Float} {us : List ℕ} {reals : Li
       short = d .short;
       waiting = subst (λ (t : Bool). RunsIn t b (p .r) reals cells′ joins (record { counts = c′; top = g .top; used = g .used; front = g .front }) runs) (sym idle) waits-grown;
       sound = sound-more b (g .counts .nodes) (c′ .nodes) runs more (d .sound);
-      beneath = d .beneath;
-      clear = d .clear;
+      prefixes = d .prefixes;
+      separate = d .separate;
     }
 
 -- ---- the run is saved
 
-module _ (b : List ℕ) (p : Plan) (fs : List Float) (us : List ℕ) (reals : List Float) (cells joins rows : List ℕ) (g : State) (c : Counts) (place : Place) (link : ℕ) (net : Net) (run : Run) (runs : List Run)
-    (plan : PlanIn b p (length reals)) (v : Sown b p fs us reals cells joins rows g c place link net run runs) (t : Taken) (told : t ≡ takenLeg b 0 link) where
+module _ (b : List ℕ) (p : Plan) (fs : List Float) (us : List ℕ) (reals : List Float) (cells joins idxs : List ℕ) (g : State) (c : Counts) (place : Place) (link : ℕ) (net : Net) (run : Run) (runs : List Run)
+    (plan : PlanIn b p (length reals)) (v : OriginInserted b p fs us reals cells joins idxs g c place link net run runs) (t : Taken) (told : t ≡ takenLeg b 0 link) where
   -- row 10
   pub origin-no-leg : (k : ℕ) → t ≡ NoLeg k → savedOrigin b link net run runs ≡ refused 10
   unfolding savedOrigin seekLeg takenLeg legSearch
@@ -169,8 +169,8 @@ module _ (b : List ℕ) (p : Plan) (fs : List Float) (us : List ℕ) (reals : Li
     leg-is : FoundLeg b link leg
     leg-is = found-leg b link t leg told is
 
-    of : LegOf b (legs b) 0 link (leg-is .row)
-    of = leg-found b (legs b) 0 link (leg-is .row) (leg-is .below)
+    of : LegOf b (legs b) 0 link (leg-is .idx)
+    of = leg-found b (legs b) 0 link (leg-is .idx) (leg-is .below)
 
     held : DriveIn b p fs us reals cells joins [] (record { counts = c; top = g .top; used = g .used; front = g .front }) net runs
     held = v .origins .holds
@@ -201,26 +201,26 @@ module _ (b : List ℕ) (p : Plan) (fs : List Float) (us : List ℕ) (reals : Li
     )
 
     then : Run
-    then = record { place = run .place; leg = suc (leg-is .row); added = false; joins = run .joins }
+    then = record { place = run .place; leg = suc (leg-is .idx); «has_split» = false; joins = run .joins }
 
     answer-is : savedOrigin b link net run runs ≡ given (record { net = net; saved = then ∷ runs })
     unfolding savedOrigin seekLeg then
     answer-is = ap (λ (n : ℕ). andThen (takes run n) (λ (r : Run). given (record { net = net; saved = r ∷ runs }))) (leg-is .below)
 
-    module _ (reals′ : List Float) (cells′ : List ℕ) (long : length cells′ ≡ length cells) (s : Untouched cells cells′ reals reals′ (p .r))
-        (saved : (ws : List Waiting) → SavedIn cells reals (p .r) (g .top) (g .used) ws → Apart (leg .number) ws → SavedIn cells′ reals′ (p .r) (leg .number) (g .used + 0) (waitingOf place (leg .number) 0 (entriesIn joins 0) ∷ ws)) where
+    module _ (reals′ : List Float) (cells′ : List ℕ) (long : length cells′ ≡ length cells) (s : SavedElsewhere cells cells′ reals reals′ (p .r))
+        (saved : (ws : List Waiting) → SavedIn cells reals (p .r) (g .top) (g .used) ws → Untaken (leg .number) ws → SavedIn cells′ reals′ (p .r) (leg .number) (g .used + 0) (waitingOf place (leg .number) 0 (entriesIn joins 0) ∷ ws)) where
       abbrev state : State
       state = record { counts = c; top = leg .number; used = g .used; front = g .front }
 
-      path-none : pathBefore b (suc (leg-is .row)) ≡ []
-      path-none = before-first b (suc (leg-is .row)) (ap (legParent b) (row-of (leg-is .row)) ∙ of .parent)
+      path-none : pathBefore b (suc (leg-is .idx)) ≡ []
+      path-none = before-first b (suc (leg-is .idx)) (ap (legParent b) (idx-of (leg-is .idx)) ∙ of .parent)
 
       wait-more : WaitIn b (p .r) reals′ cells′ (leg .number) (g .used) (then ∷ runs)
       unfolding waitingOf entriesIn then
       wait-more = record {
         runs = waitingOf place (leg .number) 0 (entriesIn joins 0) ∷ wait .runs;
-        kept = subst (λ (n : ℕ). SavedIn cells′ reals′ (p .r) (leg .number) n (waitingOf place (leg .number) 0 (entriesIn joins 0) ∷ wait .runs)) (omega arith) (saved (wait .runs) (wait .kept) (subst (λ (j : ℕ). Apart j (wait .runs)) (sym (leg-is .number)) (apart-others b link (leg-is .row) (of .link) (wait .runs) runs (wait .same) (v .others))));
-        same = (record { place = sym (v .stands); leg = leg-is .number; depth = sym (ap length path-none); joins = sym (v .no-joins); added = refl }, wait .same);
+        kept = subst (λ (n : ℕ). SavedIn cells′ reals′ (p .r) (leg .number) n (waitingOf place (leg .number) 0 (entriesIn joins 0) ∷ wait .runs)) (omega arith) (saved (wait .runs) (wait .kept) (subst (λ (j : ℕ). Untaken j (wait .runs)) (sym (leg-is .number)) (apart-others b link (leg-is .idx) (of .link) (wait .runs) runs (wait .same) (v .others))));
+        same = (record { place = sym (v .stands); leg = leg-is .number; depth = sym (ap length path-none); joins = sym (v .no-joins); has-split = refl }, wait .same);
       }
 
       run-sound : RunSound b (c .nodes) then
@@ -233,7 +233,7 @@ module _ (b : List ℕ) (p : Plan) (fs : List Float) (us : List ℕ) (reals : Li
         valid = subst (λ (es : List EstJoinPath). Valid es (c .nodes)) (sym (v .no-joins)) (record { node = λ k h. absurd (omega arith) });
       }
 
-      pub origin-saved : OriginsAs (savedOrigin b link net run runs) b p fs us reals′ cells′ joins rows (On state)
+      pub origin-saved : OriginsAs (savedOrigin b link net run runs) b p fs us reals′ cells′ joins idxs (On state)
       unfolding then
       origin-saved = record {
         growth = record { net = net; saved = then ∷ runs };
@@ -246,10 +246,10 @@ module _ (b : List ℕ) (p : Plan) (fs : List Float) (us : List ℕ) (reals : Li
             short = omega arith;
             waiting = subst (λ (x : Bool). RunsIn x b (p .r) reals′ cells′ joins state (then ∷ runs)) (sym (v .origins .idle)) wait-more;
             sound = (run-sound, held .sound);
-            beneath = (record { rest = []; is = sym (ap (λ (xs : List ℕ). xs ++ []) path-none) }, beneath-none b runs (pathBefore b (suc (leg-is .row))) path-none (held .beneath));
-            clear = (all-others b link (leg-is .row) (of .link) (c .nodes) rows runs (of .parent) (held .sound) (v .origins .firsts) (v .others), held .clear);
+            prefixes = (record { rest = []; is = sym (ap (λ (xs : List ℕ). xs ++ []) path-none) }, prefixes-none b runs (pathBefore b (suc (leg-is .idx))) path-none (held .prefixes));
+            separate = (all-others b link (leg-is .idx) (of .link) (c .nodes) idxs runs (of .parent) (held .sound) (v .origins .firsts) (v .others), held .separate);
           };
           idle = v .origins .idle;
-          firsts = (ap (legParent b) (row-of (leg-is .row)) ∙ of .parent, (subst (λ (l : ℕ). Elsewhere b l rows) (sym (ap (legLink b) (row-of (leg-is .row)) ∙ of .link)) (v .apart), v .origins .firsts));
+          firsts = (ap (legParent b) (idx-of (leg-is .idx)) ∙ of .parent, (subst (λ (l : ℕ). OtherLinks b l idxs) (sym (ap (legLink b) (idx-of (leg-is .idx)) ∙ of .link)) (v .apart), v .origins .firsts));
         };
       }

@@ -12,13 +12,13 @@ use Rattle.book_format.specs.Format.{originLink}
 use Rattle.net_node.specs.declared.EstTime.{EstTime}
 use Rattle.net_node.specs.declared.TimedEvent.{TimedEvent}
 use Rattle.net_node.specs.declared.LinkEvent.{LinkEvent}
-use Rattle.net_node.specs.Table.{Woven, sameEvent}
+use Rattle.net_node.specs.Table.{Indexed, sameEvent}
 use Rattle.net_insertion.specs.declared.Place.{Place}
 use Rattle.net_insertion.specs.declared.Inserted.the-variants.{Added}
 use Rattle.net_insertion.specs.Insertion.{Table, at, matches, found, seek, linkedTo, splitFake, alternating, addBehind, splitAt, placeAt, addedAs, insertedAs, tableAs, soughtIn, inserted, insertedTable}
 use Rattle.net_insertion.proofs.Seeking.{seek-turn}
 use Rattle.net_insertion.proofs.Puts.{either}
-use Rattle.grow_origins.specs.Origins.{Elsewhere, placeOn, LeadsFrom, OnlyStart}
+use Rattle.grow_origins.specs.Origins.{OtherLinks, placeOn, LeadsFrom, OnlyStart}
 
 -- ---- a turn of the search
 
@@ -79,13 +79,13 @@ fake-same t i n time offset a b = refl
 
 -- a link of one of these origins: a link elsewhere is another
 abbrev pub Comes : List ℕ → List ℕ → ℕ → Type 0
-Comes b rows l = (m : ℕ) → Elsewhere b m rows → m ≢ l
+Comes b idxs l = (m : ℕ) → OtherLinks b m idxs → m ≢ l
 
-pub comes-first : (b : List ℕ) (row : ℕ) (rows : List ℕ) (l : ℕ) → l ≡ originLink b row → Comes b (row ∷ rows) l
-comes-first b row rows l e m o = λ (q : m ≡ l). o .0 (q ∙ e)
+pub comes-first : (b : List ℕ) (idx : ℕ) (idxs : List ℕ) (l : ℕ) → l ≡ originLink b idx → Comes b (idx ∷ idxs) l
+comes-first b idx idxs l e m o = λ (q : m ≡ l). o .0 (q ∙ e)
 
-comes-later : (b : List ℕ) (row : ℕ) (rows : List ℕ) (l : ℕ) → Comes b rows l → Comes b (row ∷ rows) l
-comes-later b row rows l f m o = f m (o .1)
+comes-later : (b : List ℕ) (idx : ℕ) (idxs : List ℕ) (l : ℕ) → Comes b idxs l → Comes b (idx ∷ idxs) l
+comes-later b idx idxs l f m o = f m (o .1)
 
 -- nodes that differ from a table's at most in one, and in no event
 pub record Like (t : Table) (n last : ℕ) (node : ℕ → EstTime) : Type 0 where
@@ -99,22 +99,22 @@ pub record Alone (t : Table) (n last : ℕ) : Type 0 where
   pub no-next : at t last .«idx_next» ≡ 0
 
 -- then it leads to a link elsewhere
-pub record Leading (b rows : List ℕ) (t : Table) (n last : ℕ) : Type 0 where
+pub record Leading (b idxs : List ℕ) (t : Table) (n last : ℕ) : Type 0 where
   pub more : 2 < n
   pub next : 0 < at t last .«idx_next»
-  pub other : Elsewhere b (at t (at t last .«idx_next») .«link_event» .«link_idx») rows
+  pub other : OtherLinks b (at t (at t last .«idx_next») .«link_event» .«link_idx») idxs
 
 -- Node `last` is the start's last alternative, these origins being still to come: for each of their events the search passes all alternatives before it.
-pub record AtLast (b rows : List ℕ) (t : Table) (n last : ℕ) : Type 0 where
+pub record AtLast (b idxs : List ℕ) (t : Table) (n last : ℕ) : Type 0 where
   pub within : last < n
   pub no-alt : at t last .«idx_next_alt» ≡ 0
-  pub leads : Alone t n last ⊎ Leading b rows t n last
+  pub leads : Alone t n last ⊎ Leading b idxs t n last
   pub passed : ℕ
   pub fewer : passed < n
-  pub skips : (node : ℕ → EstTime) → Like t n last node → (join : Float) (e : TimedEvent) → Comes b rows (e .«link_event» .«link_idx») → (k : ℕ) → seek (passed + k) node join e 1 ≡ seek k node join e last
+  pub skips : (node : ℕ → EstTime) → Like t n last node → (join : Float) (e : TimedEvent) → Comes b idxs (e .«link_event» .«link_idx») → (k : ℕ) → seek (passed + k) node join e 1 ≡ seek k node join e last
 
-pub at-start : (b rows : List ℕ) (t : Table) (n : ℕ) → OnlyStart (at t) n → AtLast b rows t n 1
-at-start b rows t n s = record {
+pub at-start : (b idxs : List ℕ) (t : Table) (n : ℕ) → OnlyStart (at t) n → AtLast b idxs t n 1
+at-start b idxs t n s = record {
   within = omega (arith, s .two);
   no-alt = s .no-alt;
   leads = inl (record { two = s .two; start = refl; no-next = s .no-next });
@@ -125,14 +125,14 @@ at-start b rows t n s = record {
 
 -- ---- what is found from there
 
-module _ (b rows : List ℕ) (t : Table) (n last : ℕ) (v : AtLast b rows t n last) (join : Float) (e : TimedEvent) (comes : Comes b rows (e .«link_event» .«link_idx»)) where
-  pub last-past : Leading b rows t n last → Past (at t) join e last
+module _ (b idxs : List ℕ) (t : Table) (n last : ℕ) (v : AtLast b idxs t n last) (join : Float) (e : TimedEvent) (comes : Comes b idxs (e .«link_event» .«link_idx»)) where
+  pub last-past : Leading b idxs t n last → Past (at t) join e last
   last-past a = record { next = a .next; other = comes (at t (at t last .«idx_next») .«link_event» .«link_idx») (a .other) }
 
   last-stops : (k : ℕ) → seek (suc k) (at t) join e last ≡ seek 1 (at t) join e last
   last-stops = go (v .leads)
     where
-      go : Alone t n last ⊎ Leading b rows t n last → (k : ℕ) → seek (suc k) (at t) join e last ≡ seek 1 (at t) join e last
+      go : Alone t n last ⊎ Leading b idxs t n last → (k : ℕ) → seek (suc k) (at t) join e last ≡ seek 1 (at t) join e last
       go (inl a) = open-stops (at t) join e last (a .no-next)
       go (inr a) = past-stops (at t) join e last (last-past a) (v .no-alt)
 
@@ -151,23 +151,23 @@ module _ (b rows : List ℕ) (t : Table) (n last : ℕ) (v : AtLast b rows t n l
   last-table : (time offset : Float) → insertedTable t n join (placeOn time offset last) e ≡ insertedTable t n join (placeOn time offset 1) e
   last-table time offset = go (v .leads)
     where
-      go : Alone t n last ⊎ Leading b rows t n last → insertedTable t n join (placeOn time offset last) e ≡ insertedTable t n join (placeOn time offset 1) e
+      go : Alone t n last ⊎ Leading b idxs t n last → insertedTable t n join (placeOn time offset last) e ≡ insertedTable t n join (placeOn time offset 1) e
       go (inl a) = open-table t n join (placeOn time offset last) e last last-finds (a .no-next) ∙ sym (open-table t n join (placeOn time offset 1) e last first-finds (a .no-next))
       go (inr a) =
           past-table t n join (placeOn time offset last) e last last-finds (last-past a) (v .no-alt)
           ∙ ap (λ (u : Table). addBehind u n (n + 1) e) (fake-same t last n time offset last 1)
           ∙ sym (past-table t n join (placeOn time offset 1) e last first-finds (last-past a) (v .no-alt))
 
-pub leads-from : (b rows : List ℕ) (t : Table) (n last link : ℕ) → AtLast b rows t n last → Comes b rows link → LeadsFrom t n last link
-leads-from b rows t n last link v f = record {
+pub leads-from : (b idxs : List ℕ) (t : Table) (n last link : ℕ) → AtLast b idxs t n last → Comes b idxs link → LeadsFrom t n last link
+leads-from b idxs t n last link v f = record {
   within = v .within;
-  answer = λ places ended join time offset e d. last-answer b rows t n last v join e (subst (Comes b rows) (sym d) f) places ended time offset;
-  table = λ join time offset e d. last-table b rows t n last v join e (subst (Comes b rows) (sym d) f) time offset;
+  answer = λ places ended join time offset e d. last-answer b idxs t n last v join e (subst (Comes b idxs) (sym d) f) places ended time offset;
+  table = λ join time offset e d. last-table b idxs t n last v join e (subst (Comes b idxs) (sym d) f) time offset;
 }
 
 -- ---- after an origin
 
-module _ (b : List ℕ) (row : ℕ) (rows : List ℕ) (t : Table) (n last : ℕ) (v : AtLast b (row ∷ rows) t n last) (u : Table) (e : TimedEvent) (apart : Elsewhere b (e .«link_event» .«link_idx») rows)
+module _ (b : List ℕ) (idx : ℕ) (idxs : List ℕ) (t : Table) (n last : ℕ) (v : AtLast b (idx ∷ idxs) t n last) (u : Table) (e : TimedEvent) (apart : OtherLinks b (e .«link_event» .«link_idx») idxs)
     (others : (i : ℕ) → i < n → i ≢ last → at u i ≡ at t i) where
   -- what is like the table then is like the table before
   like-before : (m last′ : ℕ) (node : ℕ → EstTime) → n ≤ m → ((i : ℕ) → i < n → i ≢ last → i ≢ last′) → at u last .«link_event» ≡ at t last .«link_event» → Like u m last′ node → Like t n last node
@@ -194,22 +194,22 @@ module _ (b : List ℕ) (row : ℕ) (rows : List ℕ) (t : Table) (n last : ℕ)
     unfolding linkedTo
     behind-event = ap (λ (x : EstTime). x .«link_event») led
 
-    pub last-behind : 2 ≤ n → AtLast b rows u m last
+    pub last-behind : 2 ≤ n → AtLast b idxs u m last
     last-behind two = record {
       within = omega (arith, v .within);
       no-alt = behind-alt;
       leads = inr (record {
         more = omega arith;
         next = omega (arith, behind-next);
-        other = subst (λ (l : ℕ). Elsewhere b l rows) (sym (ap (λ (j : ℕ). at u j .«link_event» .«link_idx») behind-next ∙ ap (λ (x : LinkEvent). x .«link_idx») event)) apart;
+        other = subst (λ (l : ℕ). OtherLinks b l idxs) (sym (ap (λ (j : ℕ). at u j .«link_event» .«link_idx») behind-next ∙ ap (λ (x : LinkEvent). x .«link_idx») event)) apart;
       });
       passed = v .passed;
       fewer = omega (arith, v .fewer);
-      skips = λ node like join f c k. v .skips node (like-before m last node (omega arith) (λ i l o. o) behind-event like) join f (comes-later b row rows (f .«link_event» .«link_idx») c) k;
+      skips = λ node like join f c k. v .skips node (like-before m last node (omega arith) (λ i l o. o) behind-event like) join f (comes-later b idx idxs (f .«link_event» .«link_idx») c) k;
     }
 
   -- it is behind a Fake, the alternative that follows
-  module _ (m : ℕ) (grows : n + 1 < m) (p : Place) (leading : Leading b (row ∷ rows) t n last) (woven : Woven (at t) n) (led : at u last ≡ alternating (at t last) n) (fake : at u n ≡ linkedTo (splitFake p last) (n + 1) e) (event : at u (n + 1) .«link_event» ≡ e .«link_event») where
+  module _ (m : ℕ) (grows : n + 1 < m) (p : Place) (leading : Leading b (idx ∷ idxs) t n last) (indexed : Indexed (at t) n) (led : at u last ≡ alternating (at t last) n) (fake : at u n ≡ linkedTo (splitFake p last) (n + 1) e) (event : at u (n + 1) .«link_event» ≡ e .«link_event») where
     fake-next : at u n .«idx_next» ≡ n + 1
     unfolding linkedTo
     fake-next = ap (λ (x : EstTime). x .«idx_next») fake
@@ -223,7 +223,7 @@ module _ (b : List ℕ) (row : ℕ) (rows : List ℕ) (t : Table) (n last : ℕ)
     split-event = ap (λ (x : EstTime). x .«link_event») led
 
     -- one alternative more is passed
-    module _ (node : ℕ → EstTime) (like : Like u m n node) (join : Float) (f : TimedEvent) (c : Comes b rows (f .«link_event» .«link_idx»)) where
+    module _ (node : ℕ → EstTime) (like : Like u m n node) (join : Float) (f : TimedEvent) (c : Comes b idxs (f .«link_event» .«link_idx»)) where
       there : node last ≡ alternating (at t last) n
       there = like .others last (omega (arith, v .within)) (λ (o : last ≡ n). omega (arith, v .within)) ∙ led
 
@@ -240,25 +240,25 @@ module _ (b : List ℕ) (row : ℕ) (rows : List ℕ) (t : Table) (n last : ℕ)
 
       there-other : node (node last .«idx_next») .«link_event» .«link_idx» ≢ f .«link_event» .«link_idx»
       there-other =
-          let x : node (node last .«idx_next») .«link_event» ≡ at t (at t last .«idx_next») .«link_event» = ap (λ (j : ℕ). node j .«link_event») there-next ∙ before .events (at t last .«idx_next») (woven .next last (v .within)) in
-          λ (q : node (node last .«idx_next») .«link_event» .«link_idx» ≡ f .«link_event» .«link_idx»). comes-later b row rows (f .«link_event» .«link_idx») c (at t (at t last .«idx_next») .«link_event» .«link_idx») (leading .other) (sym (ap (λ (y : LinkEvent). y .«link_idx») x) ∙ q)
+          let x : node (node last .«idx_next») .«link_event» ≡ at t (at t last .«idx_next») .«link_event» = ap (λ (j : ℕ). node j .«link_event») there-next ∙ before .events (at t last .«idx_next») (indexed .next last (v .within)) in
+          λ (q : node (node last .«idx_next») .«link_event» .«link_idx» ≡ f .«link_event» .«link_idx»). comes-later b idx idxs (f .«link_event» .«link_idx») c (at t (at t last .«idx_next») .«link_event» .«link_idx») (leading .other) (sym (ap (λ (y : LinkEvent). y .«link_idx») x) ∙ q)
 
       past : (k : ℕ) → seek (suc (v .passed) + k) node join f 1 ≡ seek k node join f n
       past k =
           let s : suc (v .passed) + k ≡ v .passed + suc k = omega arith in
           ap (λ (j : ℕ). seek j node join f 1) s
-          ∙ v .skips node before join f (comes-later b row rows (f .«link_event» .«link_idx») c) (suc k)
+          ∙ v .skips node before join f (comes-later b idx idxs (f .«link_event» .«link_idx») c) (suc k)
           ∙ past-turn node join f last (record { next = omega (arith, leading .next, there-next); other = there-other }) k false (ne-eqb (node last .«idx_next_alt») 0 (λ (o : node last .«idx_next_alt» ≡ 0). omega (arith, there-alt, leading .more)))
           ∙ ap (λ (j : ℕ). seek k node join f j) there-alt
 
-    pub last-split : AtLast b rows u m n
+    pub last-split : AtLast b idxs u m n
     last-split = record {
       within = omega arith;
       no-alt = fake-alt;
       leads = inr (record {
         more = omega (arith, leading .more);
         next = omega (arith, fake-next);
-        other = subst (λ (l : ℕ). Elsewhere b l rows) (sym (ap (λ (j : ℕ). at u j .«link_event» .«link_idx») fake-next ∙ ap (λ (x : LinkEvent). x .«link_idx») event)) apart;
+        other = subst (λ (l : ℕ). OtherLinks b l idxs) (sym (ap (λ (j : ℕ). at u j .«link_event» .«link_idx») fake-next ∙ ap (λ (x : LinkEvent). x .«link_idx») event)) apart;
       });
       passed = suc (v .passed);
       fewer = omega (arith, v .fewer);

@@ -16,8 +16,8 @@ use Rattle.grow_rules.specs.Growth.{joinGap, originEvent, originRun, seekLeg, G
 use Rattle.grow_events.specs.declared.Counts.{Counts}
 use Rattle.grow_state.specs.declared.Plan.{Plan}
 use Rattle.grow_state.specs.declared.State.{State}
-use Rattle.grow_state.specs.declared.Turned.{Turned}
-use Rattle.grow_state.specs.declared.Turned.the-variants.{On, Refused}
+use Rattle.grow_state.specs.declared.GrowthAnswer.{GrowthAnswer}
+use Rattle.grow_state.specs.declared.GrowthAnswer.the-variants.{On, Refused}
 use Rattle.grow_state.specs.Held.{DriveIn}
 
 -- nodes 0 and 1, and no run
@@ -26,7 +26,7 @@ startState = record {
   counts = record { nodes = 2; added = 0; splits = 0; joined = 0; «last_end» = 0 };
   top = 0;
   used = 0;
-  front = record { moves = false; mover = record { place = record { «time_to_next» = ofBits binary64 0; «dist_to_next» = ofBits binary64 0; «idx_prev» = 1 }; added = false; count = 0 }; leg = 0; depth = 0 };
+  front = record { moves = false; mover = record { place = record { «time_to_next» = ofBits binary64 0; «dist_to_next» = ofBits binary64 0; «idx_prev» = 1 }; «has_split» = false; count = 0 }; leg = 0; depth = 0 };
 }
 
 -- an origin's Arrive and Clear, inserted at the start
@@ -53,44 +53,44 @@ pub record OnlyStart (node : ℕ → EstTime) (n : ℕ) : Type 0 where
   pub no-alt : node 1 .«idx_next_alt» ≡ 0
 
 -- No run at the front; each run that waits takes a leg of parent 0, over another link than these origins'.
-abbrev pub Elsewhere : List ℕ → ℕ → List ℕ → Type 0
-Elsewhere b l [] = Unit
-Elsewhere b l (row ∷ rows) = (l ≢ originLink b row) × Elsewhere b l rows
+abbrev pub OtherLinks : List ℕ → ℕ → List ℕ → Type 0
+OtherLinks b l [] = Unit
+OtherLinks b l (idx ∷ idxs) = (l ≢ originLink b idx) × OtherLinks b l idxs
 
 abbrev pub AllFirst : List ℕ → List ℕ → List Run → Type 0
-AllFirst b rows [] = Unit
-AllFirst b rows (r ∷ rs) = (legParent b (r .leg - 1) ≡ 0) × (Elsewhere b (legLink b (r .leg - 1)) rows × AllFirst b rows rs)
+AllFirst b idxs [] = Unit
+AllFirst b idxs (r ∷ rs) = (legParent b (r .leg - 1) ≡ 0) × (OtherLinks b (legLink b (r .leg - 1)) idxs × AllFirst b idxs rs)
 
 -- no run that waits takes a leg over this link
 abbrev pub NotOver : List ℕ → ℕ → List Run → Type 0
 NotOver b l [] = Unit
 NotOver b l (r ∷ rs) = (legLink b (r .leg - 1) ≢ l) × NotOver b l rs
 
-pub record OriginsIn (b : List ℕ) (p : Plan) (fs : List Float) (us : List ℕ) (reals : List Float) (cells joins rows : List ℕ) (g : State) (net : Net) (runs : List Run) : Type 0 where
+pub record OriginsIn (b : List ℕ) (p : Plan) (fs : List Float) (us : List ℕ) (reals : List Float) (cells joins idxs : List ℕ) (g : State) (net : Net) (runs : List Run) : Type 0 where
   pub holds : DriveIn b p fs us reals cells joins [] g net runs
   pub idle : g .front .moves ≡ false
-  pub firsts : AllFirst b rows runs
+  pub firsts : AllFirst b idxs runs
 
-pub record SomeOrigin (b : List ℕ) (p : Plan) (fs : List Float) (us : List ℕ) (reals : List Float) (cells joins : List ℕ) (row : ℕ) (g : State) : Type 0 where
-  pub rows : List ℕ
+pub record SomeOrigin (b : List ℕ) (p : Plan) (fs : List Float) (us : List ℕ) (reals : List Float) (cells joins : List ℕ) (idx : ℕ) (g : State) : Type 0 where
+  pub idxs : List ℕ
   pub net : Net
   pub runs : List Run
-  pub origins : OriginsIn b p fs us reals cells joins (row ∷ rows) g net runs
+  pub origins : OriginsIn b p fs us reals cells joins (idx ∷ idxs) g net runs
 
-pub record SomeOrigins (b : List ℕ) (p : Plan) (fs : List Float) (us : List ℕ) (reals : List Float) (cells joins rows : List ℕ) (g : State) : Type 0 where
+pub record SomeOrigins (b : List ℕ) (p : Plan) (fs : List Float) (us : List ℕ) (reals : List Float) (cells joins idxs : List ℕ) (g : State) : Type 0 where
   pub net : Net
   pub runs : List Run
-  pub origins : OriginsIn b p fs us reals cells joins rows g net runs
+  pub origins : OriginsIn b p fs us reals cells joins idxs g net runs
 
 -- an answer's network and runs, where these origins are still to come
-pub record PlantedAs (answer : Answer Growth) (b : List ℕ) (p : Plan) (fs : List Float) (us : List ℕ) (reals : List Float) (cells joins rows : List ℕ) (g : State) : Type 0 where
+pub record OriginsGiven (answer : Answer Growth) (b : List ℕ) (p : Plan) (fs : List Float) (us : List ℕ) (reals : List Float) (cells joins idxs : List ℕ) (g : State) : Type 0 where
   pub growth : Growth
   pub is : answer ≡ given growth
-  pub origins : OriginsIn b p fs us reals cells joins rows g (growth .net) (growth .saved)
+  pub origins : OriginsIn b p fs us reals cells joins idxs g (growth .net) (growth .saved)
 
-abbrev pub OriginsAs : Answer Growth → List ℕ → Plan → List Float → List ℕ → List Float → List ℕ → List ℕ → List ℕ → Turned → Type 0
-OriginsAs answer b p fs us reals cells joins rows (On g) = PlantedAs answer b p fs us reals cells joins rows g
-OriginsAs answer b p fs us reals cells joins rows (Refused k) = answer ≡ refused k
+abbrev pub OriginsAs : Answer Growth → List ℕ → Plan → List Float → List ℕ → List Float → List ℕ → List ℕ → List ℕ → GrowthAnswer → Type 0
+OriginsAs answer b p fs us reals cells joins idxs (On g) = OriginsGiven answer b p fs us reals cells joins idxs g
+OriginsAs answer b p fs us reals cells joins idxs (Refused k) = answer ≡ refused k
 
 -- an origin's run, which is saved: its leg is found or the book is refused with 10
 unfoldable pub savedOrigin : List ℕ → ℕ → Net → Run → List Run → Answer Growth
@@ -98,19 +98,19 @@ unfolding seekLeg
 savedOrigin b link net run runs = andThen (seekLeg b run 0 link) (λ (r : Run). given (record { net = net; saved = r ∷ runs }))
 
 -- an origin's events are in the network, and its run is at a place; it is yet to be saved
-pub record Sown (b : List ℕ) (p : Plan) (fs : List Float) (us : List ℕ) (reals : List Float) (cells joins rows : List ℕ) (g : State) (c : Counts) (place : Place) (link : ℕ) (net : Net) (run : Run) (runs : List Run) : Type 0 where
-  pub origins : OriginsIn b p fs us reals cells joins rows (record { counts = c; top = g .top; used = g .used; front = g .front }) net runs
+pub record OriginInserted (b : List ℕ) (p : Plan) (fs : List Float) (us : List ℕ) (reals : List Float) (cells joins idxs : List ℕ) (g : State) (c : Counts) (place : Place) (link : ℕ) (net : Net) (run : Run) (runs : List Run) : Type 0 where
+  pub origins : OriginsIn b p fs us reals cells joins idxs (record { counts = c; top = g .top; used = g .used; front = g .front }) net runs
   pub stands : run .place ≡ place
   pub within : place .«idx_prev» < c .nodes
   pub no-joins : run .joins ≡ []
   pub others : NotOver b link runs
-  pub apart : Elsewhere b link rows
+  pub apart : OtherLinks b link idxs
 
-pub record SomeSown (b : List ℕ) (p : Plan) (reals : List Float) (cells joins : List ℕ) (g : State) (c : Counts) (place : Place) (link : ℕ) : Type 0 where
+pub record SomeOriginInserted (b : List ℕ) (p : Plan) (reals : List Float) (cells joins : List ℕ) (g : State) (c : Counts) (place : Place) (link : ℕ) : Type 0 where
   pub fs : List Float
   pub us : List ℕ
-  pub rows : List ℕ
+  pub idxs : List ℕ
   pub net : Net
   pub run : Run
   pub runs : List Run
-  pub sown : Sown b p fs us reals cells joins rows g c place link net run runs
+  pub inserted-origin : OriginInserted b p fs us reals cells joins idxs g c place link net run runs

@@ -1,19 +1,19 @@
-// The kept origins of a book, planted at the start of its network: each one's events, then its run, which waits. Contracts: grow_rules' specs/Growth.antt, specs/Origins.antt.
+// The kept origins of a book, inserted at the start of its network: each one's events, then its run, which waits. Contracts: grow_rules' specs/Growth.antt, specs/Origins.antt.
 use book_format::Sections;
+use book_legs::Taken;
+use grow_events::Counts;
+use grow_events::Mover;
+use grow_events::RunAnswer;
+use grow_state::Front;
+use grow_state::GrowthAnswer;
+use grow_state::Plan;
+use grow_state::State;
+use grow_waiting::Rooms;
 use net_event_map::Layout;
 use net_insertion::Place;
-use book_legs::Taken;
 use net_node::EstType;
 use net_node::LinkEvent;
 use net_node::TimedEvent;
-use grow_events::Counts;
-use grow_events::Mover;
-use grow_events::Outcome;
-use grow_waiting::Rooms;
-use grow_state::Front;
-use grow_state::Plan;
-use grow_state::State;
-use grow_state::Turned;
 ghost use mathlib.Core.Path.{_≡_};
 ghost use mathlib.Core.Logic.{_≢_};
 ghost use mathlib.Core.Bool.{false};
@@ -25,12 +25,12 @@ ghost use Rattle.net_node.specs.Table.{nodeAt};
 ghost use Rattle.book_format.specs.Format.{links, origins, destinations, legs, originLink};
 ghost use Rattle.book_format.specs.Chains.{Readable};
 ghost use Rattle.book_legs.specs.Legs.{Started};
-ghost use Rattle.book_options.specs.Options.{Marked, keptOrigins};
+ghost use Rattle.book_options.specs.Options.{OptionsIn, keptOrigins};
 ghost use Rattle.grow_rules.specs.Run.{Net, Run};
-ghost use Rattle.grow_rules.specs.Growth.{originAt, originsOf};
+ghost use Rattle.grow_rules.specs.Growth.{growOrigin, growOrigins};
 ghost use Rattle.grow_events.specs.Held.{Growing, NetIn, OutcomeAs, NotFewer};
 ghost use Rattle.grow_state.specs.Held.{PlanIn};
-ghost use Rattle.grow_origins.specs.Origins.{startState, originAnswer, Elsewhere, LeadsFrom, OnlyStart, SomeOrigin, SomeOrigins, OriginsIn, OriginsAs, Sown, SomeSown, savedOrigin};
+ghost use Rattle.grow_origins.specs.Origins.{startState, originAnswer, OtherLinks, LeadsFrom, OnlyStart, SomeOrigin, SomeOrigins, OriginsIn, OriginsAs, OriginInserted, SomeOriginInserted, savedOrigin};
 
 // What growth goes by. The legs' units of cells stand first, then the nodes', then the links'; the path's points stand first in the reals, then the pairs of the runs that wait.
 pub fn plan_of(book: &[u8], s: Sections, places: usize) -> Plan
@@ -79,7 +79,7 @@ fn origin_event(departure: f64, link_idx: u32, est_type: EstType, offset: f64) -
 
 // A run at the start, or at an alternative of it.
 fn origin_run(departure: f64, idx_prev: u32) -> Mover
-    ensures { λ r. ⌜ r ≡ record { place = record { «time_to_next» = departure; «dist_to_next» = ofBits binary64 0; «idx_prev» = «idx_prev» }; added = false; count = 0 } ⌝ }
+    ensures { λ r. ⌜ r ≡ record { place = record { «time_to_next» = departure; «dist_to_next» = ofBits binary64 0; «idx_prev» = «idx_prev» }; «has_split» = false; count = 0 } ⌝ }
 {
     let place = Place {
         time_to_next: departure,
@@ -88,7 +88,7 @@ fn origin_run(departure: f64, idx_prev: u32) -> Mover
     };
     Mover {
         place,
-        added: false,
+        has_split: false,
         count: 0,
     }
 }
@@ -128,7 +128,7 @@ fn origin_events(
     c: Counts,
     link_idx: u32,
     last: u32,
-) -> Outcome
+) -> RunAnswer
     requires { ⌜ Growing (p .w) (now floats) (now numbers) (now cells) c ⌝ }
     requires { ⌜ «link_idx» < p .w .links ⌝ }
     requires { ⌜ LeadsFrom (record { floats = now floats; numbers = now numbers }) (c .nodes) last «link_idx» ⌝ }
@@ -139,7 +139,7 @@ fn origin_events(
     let run = origin_run(p.departure, last);
     let arrive = origin_event(p.departure, link_idx, EstType::Arrive, 0.0);
     let first = grow_events::insert_event(floats, numbers, cells, w, p.join, c, run, arrive);
-    let Outcome::On(counts, mover) = first else {
+    let RunAnswer::On(counts, mover) = first else {
         return first;
     };
     let clear = origin_event(p.departure, link_idx, EstType::Clear, 0.0 + p.length);
@@ -158,20 +158,20 @@ fn save_origin(
     counts: Counts,
     place: Place,
     link_idx: u32,
-) -> Turned
+) -> GrowthAnswer
     requires { ⌜ PlanIn (now book) p (length (now reals)) ⌝ }
-    requires { ⌜ SomeSown (now book) p (now reals) (now cells) (now joins) g counts place «link_idx» ⌝ }
+    requires { ⌜ SomeOriginInserted (now book) p (now reals) (now cells) (now joins) g counts place «link_idx» ⌝ }
     requires { ⌜ Started (now book) (now marks) ⌝ }
     requires { ⌜ 2 * links (now book) ≤ length (now marks) ⌝ }
     requires { ⌜ «link_idx» < links (now book) ⌝ }
-    ensures { λ r. ⌜ ((fs : List Float) (us rows : List ℕ) (net : Net) (run : Run) (runs : List Run) → Sown (now (book .entry)) p fs us (now (reals .entry)) (now (cells .entry)) (now (joins .entry)) rows g counts place «link_idx» net run runs → OriginsAs (savedOrigin (now (book .entry)) «link_idx» net run runs) (now (book .entry)) p fs us (now (reals .exit)) (now (cells .exit)) (now (joins .entry)) rows r) ⌝ }
+    ensures { λ r. ⌜ ((fs : List Float) (us idxs : List ℕ) (net : Net) (run : Run) (runs : List Run) → OriginInserted (now (book .entry)) p fs us (now (reals .entry)) (now (cells .entry)) (now (joins .entry)) idxs g counts place «link_idx» net run runs → OriginsAs (savedOrigin (now (book .entry)) «link_idx» net run runs) (now (book .entry)) p fs us (now (reals .exit)) (now (cells .exit)) (now (joins .entry)) idxs r) ⌝ }
 {
     let s = p.s;
     let r = p.r;
     let front = g.front;
     let taken = book_legs::take_start(book, s, cells, marks, link_idx);
     let Taken::Leg(leg) = taken else {
-        return Turned::Refused(10);
+        return GrowthAnswer::Refused(10);
     };
     grow_waiting::save(
         cells,
@@ -185,7 +185,7 @@ fn save_origin(
         joins,
         0,
     );
-    Turned::On(State {
+    GrowthAnswer::On(State {
         counts,
         top: leg.number,
         used: g.used,
@@ -204,23 +204,23 @@ fn origin(
     joins: &[u32],
     p: Plan,
     g: State,
-    row: usize,
+    idx: usize,
     last: u32,
-) -> Turned
+) -> GrowthAnswer
     requires { ⌜ PlanIn (now book) p (length (now reals)) ⌝ }
-    requires { ⌜ row < origins (now book) ⌝ }
-    requires { ⌜ SomeOrigin (now book) p (now floats) (now numbers) (now reals) (now cells) (now joins) row g ⌝ }
-    requires { ⌜ LeadsFrom (record { floats = now floats; numbers = now numbers }) (g .counts .nodes) last (originLink (now book) row) ⌝ }
+    requires { ⌜ idx < origins (now book) ⌝ }
+    requires { ⌜ SomeOrigin (now book) p (now floats) (now numbers) (now reals) (now cells) (now joins) idx g ⌝ }
+    requires { ⌜ LeadsFrom (record { floats = now floats; numbers = now numbers }) (g .counts .nodes) last (originLink (now book) idx) ⌝ }
     requires { ⌜ Started (now book) (now marks) ⌝ }
     requires { ⌜ 2 * links (now book) ≤ length (now marks) ⌝ }
-    ensures { λ r. ⌜ ((rows : List ℕ) (net : Net) (runs : List Run) → OriginsIn (now (book .entry)) p (now (floats .entry)) (now (numbers .entry)) (now (reals .entry)) (now (cells .entry)) (now (joins .entry)) (row ∷ rows) g net runs → Elsewhere (now (book .entry)) (originLink (now (book .entry)) row) rows → OriginsAs (originAt (now (book .entry)) (p .w .places) (originLink (now (book .entry)) row) (record { net = net; saved = runs })) (now (book .entry)) p (now (floats .exit)) (now (numbers .exit)) (now (reals .exit)) (now (cells .exit)) (now (joins .entry)) rows r) ⌝ }
+    ensures { λ r. ⌜ ((idxs : List ℕ) (net : Net) (runs : List Run) → OriginsIn (now (book .entry)) p (now (floats .entry)) (now (numbers .entry)) (now (reals .entry)) (now (cells .entry)) (now (joins .entry)) (idx ∷ idxs) g net runs → OtherLinks (now (book .entry)) (originLink (now (book .entry)) idx) idxs → OriginsAs (growOrigin (now (book .entry)) (p .w .places) (originLink (now (book .entry)) idx) (record { net = net; saved = runs })) (now (book .entry)) p (now (floats .exit)) (now (numbers .exit)) (now (reals .exit)) (now (cells .exit)) (now (joins .entry)) idxs r) ⌝ }
 {
     let s = p.s;
-    let at = book_format::origin_at(book, s, row);
+    let at = book_format::origin_at(book, s, idx);
     let counts = g.counts;
     let became = origin_events(floats, numbers, cells, p, counts, at.link_idx, last);
     match became {
-        Outcome::On(more, mover) => {
+        RunAnswer::On(more, mover) => {
             let place = mover.place;
             save_origin(
                 book,
@@ -235,8 +235,8 @@ fn origin(
                 at.link_idx,
             )
         }
-        Outcome::Ended(_) => Turned::Refused(0),
-        Outcome::Refused(k) => Turned::Refused(k),
+        RunAnswer::Ended(_) => GrowthAnswer::Refused(0),
+        RunAnswer::Refused(k) => GrowthAnswer::Refused(k),
     }
 }
 
@@ -264,15 +264,15 @@ pub fn origins(
     kept: usize,
     p: Plan,
     g: State,
-) -> Turned
+) -> GrowthAnswer
     requires { ⌜ PlanIn (now book) p (length (now reals)) ⌝ }
-    requires { ⌜ Marked (now book) (now marks) ⌝ }
+    requires { ⌜ OptionsIn (now book) (now marks) ⌝ }
     requires { ⌜ 2 * links (now book) + destinations (now book) + origins (now book) ≤ length (now marks) ⌝ }
     requires { ⌜ kept ≡ length (keptOrigins (now book)) ⌝ }
     requires { ⌜ SomeOrigins (now book) p (now floats) (now numbers) (now reals) (now cells) (now joins) (keptOrigins (now book)) g ⌝ }
     requires { ⌜ OnlyStart (nodeAt (now floats) (now numbers)) (g .counts .nodes) ⌝ }
     requires { ⌜ Started (now book) (now marks) ⌝ }
-    ensures { λ r. ⌜ ((net : Net) (runs : List Run) → OriginsIn (now (book .entry)) p (now (floats .entry)) (now (numbers .entry)) (now (reals .entry)) (now (cells .entry)) (now (joins .entry)) (keptOrigins (now (book .entry))) g net runs → OriginsAs (originsOf (now (book .entry)) (p .w .places) (keptOrigins (now (book .entry))) (record { net = net; saved = runs })) (now (book .entry)) p (now (floats .exit)) (now (numbers .exit)) (now (reals .exit)) (now (cells .exit)) (now (joins .entry)) [] r) ⌝ }
+    ensures { λ r. ⌜ ((net : Net) (runs : List Run) → OriginsIn (now (book .entry)) p (now (floats .entry)) (now (numbers .entry)) (now (reals .entry)) (now (cells .entry)) (now (joins .entry)) (keptOrigins (now (book .entry))) g net runs → OriginsAs (growOrigins (now (book .entry)) (p .w .places) (keptOrigins (now (book .entry))) (record { net = net; saved = runs })) (now (book .entry)) p (now (floats .exit)) (now (numbers .exit)) (now (reals .exit)) (now (cells .exit)) (now (joins .entry)) [] r) ⌝ }
 {
     let s = p.s;
     let rows_at = 2 * s.links + s.destinations;
@@ -280,7 +280,7 @@ pub fn origins(
     let mut last = 1;
     let mut k = 0;
     while k < kept {
-        let row = marks[rows_at + k] as usize;
+        let idx = marks[rows_at + k] as usize;
         let counts = state.counts;
         let turned = origin(
             book,
@@ -292,15 +292,15 @@ pub fn origins(
             joins,
             p,
             state,
-            row,
+            idx,
             last,
         );
-        let Turned::On(next) = turned else {
+        let GrowthAnswer::On(next) = turned else {
             return turned;
         };
         state = next;
         last = last_after(counts.nodes);
         k += 1;
     }
-    Turned::On(state)
+    GrowthAnswer::On(state)
 }

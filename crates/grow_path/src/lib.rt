@@ -1,12 +1,12 @@
 // A run's path in the work space, the movement of a leg along it, and row 11 for what is left of it. Contracts: specs/.
 use book_format::Sections;
 use book_legs::TakenLeg;
-use net_node::LinkEvent;
-use net_node::TimedEvent;
 use event_walk::Heads;
 use event_walk::Movement;
 use event_walk::Next;
 use event_walk::PassedPoint;
+use net_node::LinkEvent;
+use net_node::TimedEvent;
 ghost use mathlib.Core.Path.{_≡_};
 ghost use Prim.Native.Nat.{_+_, _*_, _-_, _≤_, _<_};
 ghost use lib.ListN.{length, getD, set};

@@ -73,12 +73,12 @@ originEvent b link kind offset = record { time = departure b; offset = offset; s
 
 -- a run at the start
 unfoldable pub originRun : List ℕ → Run
-originRun b = record { place = record { «time_to_next» = departure b; «dist_to_next» = ofBits binary64 0; «idx_prev» = 1 }; leg = 0; added = false; joins = [] }
+originRun b = record { place = record { «time_to_next» = departure b; «dist_to_next» = ofBits binary64 0; «idx_prev» = 1 }; leg = 0; «has_split» = false; joins = [] }
 
 -- "The leg is found or the book is refused with 10": a run that takes the leg with this parent and link
 abbrev pub takes : Run → ℕ → Answer Run
 takes run zero = refused 10
-takes run (suc j) = given (record { place = run .place; leg = suc j; added = false; joins = run .joins })
+takes run (suc j) = given (record { place = run .place; leg = suc j; «has_split» = false; joins = run .joins })
 
 unfoldable pub seekLeg : List ℕ → Run → ℕ → ℕ → Answer Run
 seekLeg b run parent link = takes run (legBelow b (legs b) parent link)
@@ -86,17 +86,17 @@ seekLeg b run parent link = takes run (legBelow b (legs b) parent link)
 abbrev pub saves : Growth → Net → Run → Growth
 saves g net run = record { net = net; saved = run ∷ g .saved }
 
-unfoldable pub originAt : List ℕ → ℕ → ℕ → Growth → Answer Growth
+unfoldable pub growOrigin : List ℕ → ℕ → ℕ → Growth → Answer Growth
 unfolding originEvent originRun seekLeg
-originAt b places link g =
+growOrigin b places link g =
     andThen (insertEvent places (joinGap b) (g .net) (originRun b) (originEvent b link Arrive (ofBits binary64 0)))
     (λ (a : After). andThen (insertEvent places (joinGap b) (a .net) (a .run) (originEvent b link Clear (add binary64 (ofBits binary64 0) (floatOf (lengthBits b)))))
     (λ (c : After). andThen (seekLeg b (c .run) 0 link) (λ (run : Run). given (saves g (c .net) run))))
 
-unfoldable pub originsOf : List ℕ → ℕ → List ℕ → Growth → Answer Growth
-unfolding originAt
-originsOf b places [] g = given g
-originsOf b places (row ∷ rows) g = andThen (originAt b places (originLink b row) g) (originsOf b places rows)
+unfoldable pub growOrigins : List ℕ → ℕ → List ℕ → Growth → Answer Growth
+unfolding growOrigin
+growOrigins b places [] g = given g
+growOrigins b places (idx ∷ idxs) g = andThen (growOrigin b places (originLink b idx) g) (growOrigins b places idxs)
 
 -- ---- a run's finish
 
@@ -131,7 +131,7 @@ waiting (run ∷ runs) = length (run .joins) + waiting runs
 -- the run goes on over a link: it is the next to be taken up
 unfoldable pub onOver : List ℕ → Net → Run → ℕ → List Run → Answer Growth
 unfolding seekLeg
-onOver b net run link saved = andThen (seekLeg b run (run .leg) link) (λ (r : Run). given (record { net = net; saved = record { place = r .place; leg = r .leg; added = run .added; joins = r .joins } ∷ saved }))
+onOver b net run link saved = andThen (seekLeg b run (run .leg) link) (λ (r : Run). given (record { net = net; saved = record { place = r .place; leg = r .leg; «has_split» = run .«has_split»; joins = r .joins } ∷ saved }))
 
 abbrev pub fitsIn : Bool → List Run → Answer (List Run)
 fitsIn true saved = refused 12
@@ -167,13 +167,13 @@ unfoldable pub finishes : List ℕ → ℕ → Bool
 unfolding isDestination
 finishes b j = isDestination b (linkOf b j) && ltb 0 (legParent b (j - 1))
 
-abbrev pub endedAs : Bool → List ℕ → ℕ → After → List Run → Answer Growth
-endedAs true b places a saved = finishAs (badFinish (a .net) (a .run)) (a .net) (a .run) saved
-endedAs false b places a saved = goOn b places (a .net) (a .run) saved
+abbrev pub legEndAs : Bool → List ℕ → ℕ → After → List Run → Answer Growth
+legEndAs true b places a saved = finishAs (badFinish (a .net) (a .run)) (a .net) (a .run) saved
+legEndAs false b places a saved = goOn b places (a .net) (a .run) saved
 
 abbrev pub legDone : List ℕ → ℕ → List Run → Outcome → Answer Growth
 legDone b places saved (Ended net) = given (record { net = net; saved = saved })
-legDone b places saved (On a) = endedAs (finishes b (a .run .leg)) b places a saved
+legDone b places saved (On a) = legEndAs (finishes b (a .run .leg)) b places a saved
 
 abbrev pub legAs : Bool → List ℕ → ℕ → Net → Run → List Run → Answer Growth
 legAs true b places net run saved = refused 11
@@ -253,10 +253,10 @@ grownWith net t = record { table = t .table; nodes = t .nodes; added = net .adde
 
 -- growth of a book on a table of so many places, from the table as it is lent
 unfoldable pub grow : List ℕ → ℕ → Table → Answer Grown
-unfolding firstNodes originsOf drive endFakes lastNode grownWith
+unfolding firstNodes growOrigins drive endFakes lastNode grownWith
 grow b places t =
     andThen (startAs (ltb 1 places) (firstNodes b t))
-    (λ (s : Growth). andThen (originsOf b places (keptOrigins b) s)
+    (λ (s : Growth). andThen (growOrigins b places (keptOrigins b) s)
     (λ (g : Growth). andThen (drive (legs b) b places (g .net) (g .saved))
     (λ (net : Net). andThen (endFakes places (net .ends) 0 (record { table = net .table; nodes = net .nodes }))
     (λ (u : Tail). andThen (lastNode places u) (λ (v : Tail). given (grownWith net v))))))

@@ -44,7 +44,7 @@ pub record Net : Type 0 where
 pub record Run : Type 0 where
   pub place : Place
   pub leg : ℕ
-  pub added : Bool
+  pub «has_split» : Bool
   pub joins : List EstJoinPath
 
 -- "both with the time and offset of the run's own event minus those of its event before, never a node's"
@@ -78,7 +78,7 @@ addedTo net t q split arc = record {
 }
 
 unfoldable pub movedTo : Run → Place → Bool → Run
-movedTo run q added = record { place = q; leg = run .leg; added = added; joins = run .joins }
+movedTo run q added = record { place = q; leg = run .leg; «has_split» = added; joins = run .joins }
 
 -- what became of the network and of a run at an event
 pub record After : Type 0 where
@@ -86,15 +86,15 @@ pub record After : Type 0 where
   pub run : Run
 
 -- "Any other addition notes (place, added node)": and so does an origin's Arrive, whose place is the start at the departure. "A move, a Fake .. note nothing."
-abbrev pub insertedAs : Net → Run → TimedEvent → Table → Inserted → Answer After
-insertedAs net run e t (Refused n) = refused n
-insertedAs net run e t (Moved q) = given (record { net = net; run = movedTo run q (run .added) })
-insertedAs net run e t (Added q split) = given (record { net = addedTo net t q split (arcTo (run .place) (q .«idx_prev») e); run = movedTo run q true })
+abbrev pub insertedRun : Net → Run → TimedEvent → Table → Inserted → Answer After
+insertedRun net run e t (Refused n) = refused n
+insertedRun net run e t (Moved q) = given (record { net = net; run = movedTo run q (run .«has_split») })
+insertedRun net run e t (Added q split) = given (record { net = addedTo net t q split (arcTo (run .place) (q .«idx_prev») e); run = movedTo run q true })
 
 unfoldable pub insertEvent : ℕ → Float → Net → Run → TimedEvent → Answer After
 unfolding addedTo movedTo arcTo
 insertEvent places join net run e =
-    insertedAs net run e (insertedTable (net .table) (net .nodes) join (run .place) e) (inserted (net .table) (net .nodes) places (memberOf (net .ends)) join (run .place) e)
+    insertedRun net run e (insertedTable (net .table) (net .nodes) join (run .place) e) (inserted (net .table) (net .nodes) places (memberOf (net .ends)) join (run .place) e)
 
 -- ---- joins
 
@@ -120,13 +120,13 @@ abbrev pub goesOn : Answer After → Answer Outcome
 goesOn (refused n) = refused n
 goesOn (given a) = given (On a)
 
-unfoldable pub listed : Run → List EstJoinPath → Run
-listed run es = record { place = run .place; leg = run .leg; added = run .added; joins = es }
+unfoldable pub withJoins : Run → List EstJoinPath → Run
+withJoins run es = record { place = run .place; leg = run .leg; «has_split» = run .«has_split»; joins = es }
 
 abbrev pub joinedAs : ℕ → Float → Net → Run → TimedEvent → JoinStep → Answer Outcome
 joinedAs places join net run e Beyond = refused 12
 joinedAs places join net run e (JoinsTo target) = given (Ended (joinedTo net run e target))
-joinedAs places join net run e (GoesOn es) = goesOn (insertEvent places join net (listed run es) e)
+joinedAs places join net run e (GoesOn es) = goesOn (insertEvent places join net (withJoins run es) e)
 
 -- "Only a run that has added since its pop joins."
 abbrev pub eventAs : Bool → ℕ → Float → Net → Run → TimedEvent → Answer Outcome
@@ -134,8 +134,8 @@ eventAs true places join net run e = joinedAs places join net run e (joinStep (a
 eventAs false places join net run e = goesOn (insertEvent places join net run e)
 
 unfoldable pub runEvent : ℕ → Float → Net → Run → TimedEvent → Answer Outcome
-unfolding insertEvent joinedTo listed
-runEvent places join net run e = eventAs (run .added) places join net run e
+unfolding insertEvent joinedTo withJoins
+runEvent places join net run e = eventAs (run .«has_split») places join net run e
 
 -- the events of a leg, one after the other
 abbrev pub nextEvent : (After → Answer Outcome) → Outcome → Answer Outcome

@@ -12,7 +12,7 @@ use Rattle.book_format.specs.Chains.{Chained}
 use Rattle.book_format.proofs.Given.{limits}
 use Rattle.net_node.specs.Table.{nodeAt}
 use Rattle.net_event_map.specs.declared.Layout.{Layout}
-use Rattle.net_event_map.specs.EventMap.{Apart, Mapped}
+use Rattle.net_event_map.specs.EventMap.{CellsApart, Mapped}
 use Rattle.grow_ends.proofs.Kept.{ends-same, flags-same}
 use Rattle.grow_waiting.specs.declared.Rooms.{Rooms}
 use Rattle.grow_waiting.proofs.Kept.{Undisturbed, saved-same}
@@ -36,7 +36,7 @@ module _ {b : List ℕ} {p : Plan} {n : ℕ} (a : PlanIn b p n) where
 
 -- ---- the network
 
-pub apart-same : {c c′ : List ℕ} {w : Layout} → length c′ ≡ length c → Apart c w → Apart c′ w
+pub apart-same : {c c′ : List ℕ} {w : Layout} → length c′ ≡ length c → CellsApart c w → CellsApart c′ w
 apart-same e a = record { links-inside = omega (arith, e, a .links-inside); nodes-inside = omega (arith, e, a .nodes-inside); apart = a .apart }
 
 module _ {w : Layout} {start : List ℕ} {fs : List Float} {us cells : List ℕ} {c : Counts} {net : Net} (v : NetIn w start fs us cells c net) where
@@ -52,7 +52,7 @@ module _ {w : Layout} {start : List ℕ} {fs : List Float} {us cells : List ℕ}
     sum = v .sum;
     room = v .room;
     within = v .within;
-    woven = v .woven;
+    indexed = v .indexed;
     apart = apart-same l (v .apart);
     mapped = m;
     ends = ends-same cells (endsAt w) cells′ (c .«last_end») (c .nodes) (net .ends) (v .ends-below) (λ i k. h i (omega (arith, v .within))) (v .ends);

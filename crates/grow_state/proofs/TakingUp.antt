@@ -11,7 +11,7 @@ use Rattle.net_strands.specs.Entries.{entriesIn, Valid}
 use Rattle.net_insertion.specs.declared.Place.{Place}
 use Rattle.grow_waiting.specs.declared.Rooms.{Rooms}
 use Rattle.grow_waiting.specs.declared.Popped.{Popped}
-use Rattle.grow_waiting.specs.Saved.{Waiting, SavedIn, SomeWaits, PoppedAs}
+use Rattle.grow_waiting.specs.Held.{Waiting, SavedIn, SomeWaits, PoppedAs}
 use Rattle.grow_waiting.proofs.Kept.{saved-rest}
 use Rattle.grow_rules.specs.Run.{Net, Run}
 use Rattle.grow_state.specs.declared.Plan.{Plan}
@@ -25,7 +25,7 @@ takenUp g p = record {
   counts = g .counts;
   top = p .below;
   used = g .used - p .count;
-  front = record { moves = true; mover = record { place = p .place; added = false; count = p .count }; leg = p .leg; depth = p .depth };
+  front = record { moves = true; mover = record { place = p .place; «has_split» = false; count = p .count }; leg = p .leg; depth = p .depth };
 }
 
 module _ {r : Rooms} {reals : List Float} {cells : List ℕ} (top used : ℕ) (some : 0 < top) where
@@ -57,7 +57,7 @@ module _ {b : List ℕ} {p : Plan} {fs : List Float} {us : List ℕ} {reals : Li
             moves = record {
               place = sym (a .place ∙ s .0 .place);
               leg = sym (a .leg ∙ s .0 .leg);
-              added = s .0 .added;
+              has-split = s .0 .has-split;
               joins = e;
               few = subst (λ (m : ℕ). m ≤ 1024) (sym (a .count ∙ ap length (s .0 .joins))) (v .0 .few);
               valid = subst (λ (es : List EstJoinPath). Valid es (g .counts .nodes)) e (v .0 .valid);
@@ -76,8 +76,8 @@ module _ {b : List ℕ} {p : Plan} {fs : List Float} {us : List ℕ} {reals : Li
       short = d .short;
       waiting = up (waits .runs) runs (waits .kept) (waits .same) (d .sound);
       sound = d .sound;
-      beneath = d .beneath;
-      clear = d .clear;
+      prefixes = d .prefixes;
+      separate = d .separate;
     }
 
 -- the same from what the function asks

@@ -11,7 +11,7 @@ use Rattle.book_format.specs.Chains.{Readable, Chained}
 use Rattle.grow_path.specs.Path.{pathOf}
 use Rattle.grow_path.specs.Kept.{PathIn}
 use Rattle.net_strands.specs.Entries.{Valid}
-use Rattle.grow_waiting.specs.Saved.{Waiting, SavedIn}
+use Rattle.grow_waiting.specs.Held.{Waiting, SavedIn}
 use Rattle.grow_waiting.specs.declared.Rooms.{Rooms}
 use Rattle.grow_rules.specs.Run.{Answer, refused, given, Net, Run, memberOf}
 use Rattle.grow_rules.specs.Growth.{Growth, joinGap, departure}
@@ -19,8 +19,8 @@ use Rattle.grow_events.specs.Held.{NetIn, RunIn}
 use Rattle.grow_state.specs.declared.Plan.{Plan}
 use Rattle.grow_state.specs.declared.Front.{Front}
 use Rattle.grow_state.specs.declared.State.{State}
-use Rattle.grow_state.specs.declared.Turned.{Turned}
-use Rattle.grow_state.specs.declared.Turned.the-variants.{On, Refused}
+use Rattle.grow_state.specs.declared.GrowthAnswer.{GrowthAnswer}
+use Rattle.grow_state.specs.declared.GrowthAnswer.the-variants.{On, Refused}
 
 -- ---- the plan
 
@@ -50,22 +50,22 @@ pub record Begins (path start : List ℕ) : Type 0 where
   pub is : path ≡ start ++ rest
 
 -- Each run's path before its leg is the beginning of that of the run before it, and the first one's of the path that is kept: "last saved run first".
-abbrev pub Beneath : List ℕ → List ℕ → List Run → Type 0
-Beneath b path [] = Unit
-Beneath b path (r ∷ rs) = Begins path (pathBefore b (r .leg)) × Beneath b (pathBefore b (r .leg)) rs
+abbrev pub Prefixes : List ℕ → List ℕ → List Run → Type 0
+Prefixes b path [] = Unit
+Prefixes b path (r ∷ rs) = Begins path (pathBefore b (r .leg)) × Prefixes b (pathBefore b (r .leg)) rs
 
 -- No run is to take a leg of another's path: so no two take one leg.
-pub record Clear (b : List ℕ) (i j : ℕ) : Type 0 where
+pub record Separate (b : List ℕ) (i j : ℕ) : Type 0 where
   pub no-there : memberOf (pathOf b j) i ≡ false
   pub no-back : memberOf (pathOf b i) j ≡ false
 
-abbrev pub ClearOf : List ℕ → ℕ → List Run → Type 0
-ClearOf b i [] = Unit
-ClearOf b i (r ∷ rs) = Clear b i (r .leg) × ClearOf b i rs
+abbrev pub SeparateFrom : List ℕ → ℕ → List Run → Type 0
+SeparateFrom b i [] = Unit
+SeparateFrom b i (r ∷ rs) = Separate b i (r .leg) × SeparateFrom b i rs
 
-abbrev pub AllClear : List ℕ → List Run → Type 0
-AllClear b [] = Unit
-AllClear b (r ∷ rs) = ClearOf b (r .leg) rs × AllClear b rs
+abbrev pub AllSeparate : List ℕ → List Run → Type 0
+AllSeparate b [] = Unit
+AllSeparate b (r ∷ rs) = SeparateFrom b (r .leg) rs × AllSeparate b rs
 
 -- a run in a network of n nodes: its leg is the book's, its place and its entries the network's
 pub record RunSound (b : List ℕ) (n : ℕ) (r : Run) : Type 0 where
@@ -85,7 +85,7 @@ pub record SameRun (b : List ℕ) (w : Waiting) (r : Run) : Type 0 where
   pub leg : w .leg ≡ r .leg
   pub depth : w .depth ≡ length (pathBefore b (r .leg))
   pub joins : w .joins ≡ r .joins
-  pub added : r .added ≡ false
+  pub has-split : r .«has_split» ≡ false
 
 abbrev pub SameRuns : List ℕ → List Waiting → List Run → Type 0
 SameRuns b [] [] = Unit
@@ -119,8 +119,8 @@ pub record DriveIn (b : List ℕ) (p : Plan) (fs : List Float) (us : List ℕ) (
   pub short : length path ≤ legs b
   pub waiting : RunsIn (g .front .moves) b (p .r) reals cells joins g runs
   pub sound : AllSound b (g .counts .nodes) runs
-  pub beneath : Beneath b path runs
-  pub clear : AllClear b runs
+  pub prefixes : Prefixes b path runs
+  pub separate : AllSeparate b runs
 
 -- some network and runs are
 pub record Driving (b : List ℕ) (p : Plan) (fs : List Float) (us : List ℕ) (reals : List Float) (cells joins : List ℕ) (g : State) : Type 0 where
@@ -144,6 +144,6 @@ pub record GivesAs (answer : Answer Growth) (b : List ℕ) (p : Plan) (fs : List
   pub path : List ℕ
   pub holds : DriveIn b p fs us reals cells joins path g (growth .net) (growth .saved)
 
-abbrev pub TurnedAs : Answer Growth → List ℕ → Plan → List Float → List ℕ → List Float → List ℕ → List ℕ → Turned → Type 0
+abbrev pub TurnedAs : Answer Growth → List ℕ → Plan → List Float → List ℕ → List Float → List ℕ → List ℕ → GrowthAnswer → Type 0
 TurnedAs answer b p fs us reals cells joins (On g) = GivesAs answer b p fs us reals cells joins g
 TurnedAs answer b p fs us reals cells joins (Refused k) = answer ≡ refused k

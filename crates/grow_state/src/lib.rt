@@ -1,9 +1,9 @@
 // What growth keeps between two legs. Contracts: specs/Held.antt.
 use book_format::Sections;
-use net_event_map::Layout;
 use grow_events::Counts;
 use grow_events::Mover;
 use grow_waiting::Rooms;
+use net_event_map::Layout;
 ghost use mathlib.Core.Path.{_≡_};
 ghost use mathlib.Core.Bool.{true, false};
 ghost use mathlib.Core.List.{List};
@@ -40,7 +40,7 @@ pub struct State {
 }
 
 // The state then, or a refusal's number.
-pub enum Turned {
+pub enum GrowthAnswer {
     On(State),
     Refused(u32),
 }
@@ -60,7 +60,7 @@ pub fn take_up(reals: &[f64], cells: &[u32], joins: &mut [u32], p: Plan, g: Stat
     let place = popped.place;
     let mover = Mover {
         place,
-        added: false,
+        has_split: false,
         count: popped.count,
     };
     let front = Front {

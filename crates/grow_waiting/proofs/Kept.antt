@@ -13,15 +13,15 @@ use Rattle.book_format.specs.Chains.{Chained}
 use Rattle.grow_path.specs.Kept.{PathIn}
 use Rattle.net_event_map.specs.declared.Layout.{Layout}
 use Rattle.net_event_map.specs.EventMap.{Mapped}
-use Rattle.net_event_map.specs.EventMap.{Apart as Regions}
+use Rattle.net_event_map.specs.EventMap.{CellsApart}
 use Rattle.grow_waiting.specs.declared.Rooms.{Rooms}
 use Rattle.grow_waiting.specs.declared.Popped.{Popped}
-use Rattle.grow_waiting.specs.Saved.{Waiting, Apart, topOf, SavedIn, Elsewhere, PoppedAs}
+use Rattle.grow_waiting.specs.Held.{Waiting, Untaken, topOf, SavedIn, SavedElsewhere, PoppedAs}
 use Rattle.grow_waiting.proofs.Runs.{Steady, saved-still}
 
 -- ---- what saving leaves
 
-module _ {c c′ : List ℕ} {r r′ : List Float} {w : Rooms} (s : Elsewhere c c′ r r′ w) (room : (w .legs + 1) * 8 ≤ w .«nodes_at») where
+module _ {c c′ : List ℕ} {r r′ : List Float} {w : Rooms} (s : SavedElsewhere c c′ r r′ w) (room : (w .legs + 1) * 8 ≤ w .«nodes_at») where
   -- cells 0 to 3 of a leg's unit
   pub leg-left : (j k : ℕ) → j ≤ w .legs → k < 4 → getD c′ (j * 8 + k) 0 ≡ getD c (j * 8 + k) 0
   leg-left j k h g = s .cells (j * 8 + k) (λ i t a b e d. omega arith) (λ i t a b e d. omega arith)
@@ -52,7 +52,7 @@ module _ {c c′ : List ℕ} {r r′ : List Float} {w : Rooms} (s : Elsewhere c 
   pub save-path : {b path : List ℕ} → length path ≤ w .legs → length path < w .«pairs_at» → PathIn b r c path → PathIn b r′ c′ path
   save-path l g v = record { offsets = λ k h. reals-left k (omega arith) ∙ v .offsets k h; links = λ k h. leg-left k 3 (omega arith) (omega arith) ∙ v .links k h }
 
-  pub save-mapped : {v : Layout} {node : ℕ → EstTime} {n : ℕ} → Regions c v → v .«nodes_at» ≡ w .«nodes_at» → v .places ≡ w .places → n ≤ v .places → Mapped c v node n → Mapped c′ v node n
+  pub save-mapped : {v : Layout} {node : ℕ → EstTime} {n : ℕ} → CellsApart c v → v .«nodes_at» ≡ w .«nodes_at» → v .places ≡ w .places → n ≤ v .places → Mapped c v node n → Mapped c′ v node n
   save-mapped {v} {node} {n} p a b l m = record {
     first = λ i h. behind-left (v .«links_at» + i * 8) (omega (arith, p .apart)) ∙ m .first i h;
     last = λ i h. behind-left (v .«links_at» + i * 8 + 1) (omega (arith, p .apart)) ∙ m .last i h;
@@ -79,7 +79,7 @@ pub saved-room : (c : List ℕ) (r : List Float) (w : Rooms) (top used : ℕ) (r
 saved-room c r w top used [] h = omega (arith, h .1)
 saved-room c r w top used (run ∷ runs) h = omega (arith, h .1 .0, h .1 .1 .1 .0 .fits)
 
-not-zeroth : (c : List ℕ) (r : List Float) (w : Rooms) (top used : ℕ) (runs : List Waiting) → SavedIn c r w top used runs → Apart 0 runs
+not-zeroth : (c : List ℕ) (r : List Float) (w : Rooms) (top used : ℕ) (runs : List Waiting) → SavedIn c r w top used runs → Untaken 0 runs
 not-zeroth c r w top used [] h = tt
 not-zeroth c r w top used (run ∷ runs) h = (
   λ (e : 0 ≡ run .leg). omega (arith, h .1 .1 .1 .0 .real),

@@ -13,8 +13,8 @@ use Rattle.net_strands.specs.declared.EstJoinPath.{EstJoinPath}
 use Rattle.net_strands.specs.Entries.{entry, entryAt, entriesIn}
 use Rattle.net_strands.proofs.Entries.{entries-count, entries-more, entries-behind}
 use Rattle.grow_waiting.specs.declared.Rooms.{Rooms}
-use Rattle.grow_waiting.specs.Saved.{Waiting, EntriesFrom, Kept, Apart, topOf, SavedIn, waitingOf, Elsewhere, SomeWaits, PoppedAs}
-use Rattle.grow_waiting.specs.Steps.{Pushed}
+use Rattle.grow_waiting.specs.Held.{Waiting, EntriesFrom, RunKept, Untaken, topOf, SavedIn, waitingOf, SavedElsewhere, SomeWaits, PoppedAs}
+use Rattle.grow_waiting.specs.Steps.{EntriesPushed}
 
 -- ---- entries on the stack
 
@@ -39,7 +39,7 @@ entries-snoc c w k [] x n e h a b =
     (ap (λ (i : ℕ). getD c (w .«nodes_at» + i * 8 + 3) 0) d ∙ a, (ap (λ (i : ℕ). getD c (w .«nodes_at» + i * 8 + 4) 0) d ∙ b, tt))
 entries-snoc c w k (y ∷ xs) x n e h a b = (h .0, (h .1 .0, entries-snoc c w (suc k) xs x n (omega arith) (h .1 .1) a b))
 
-pub pushed-none : (c : List ℕ) (w : Rooms) (used : ℕ) (joins : List ℕ) → Pushed c c w used (entriesIn joins 0)
+pub pushed-none : (c : List ℕ) (w : Rooms) (used : ℕ) (joins : List ℕ) → EntriesPushed c c w used (entriesIn joins 0)
 unfolding entriesIn
 pushed-none c w used joins = record { there = tt; elsewhere = λ q h. refl }
 
@@ -63,8 +63,8 @@ module _ (c : List ℕ) (w : Rooms) (i : ℕ) (x : EstJoinPath) where
   atop-node l = getD-set-same half (w .«nodes_at» + i * 8 + 4) (x .«est_idx_next») 0 (omega (arith, length-set c (w .«nodes_at» + i * 8 + 3) (x .«link_idx_match»)))
 
 module _ {c c′ : List ℕ} {w : Rooms} {used : ℕ} (joins : List ℕ) (k : ℕ) where
-  pub pushed-on : Pushed c c′ w used (entriesIn joins k) → used + k < w .places → w .«nodes_at» + w .places * 8 ≤ length c′ → (x : EstJoinPath) → x ≡ entryAt joins k
-      → Pushed c (atop c′ w (used + k) x) w used (entriesIn joins (k + 1))
+  pub pushed-on : EntriesPushed c c′ w used (entriesIn joins k) → used + k < w .places → w .«nodes_at» + w .places * 8 ≤ length c′ → (x : EstJoinPath) → x ≡ entryAt joins k
+      → EntriesPushed c (atop c′ w (used + k) x) w used (entriesIn joins (k + 1))
   pushed-on v g l x e =
       let n : length (entriesIn joins k) ≡ k = entries-count joins k in
       let m : length (entriesIn joins (k + 1)) ≡ k + 1 = entries-count joins (k + 1) in
@@ -81,8 +81,8 @@ module _ {c c′ : List ℕ} {w : Rooms} {used : ℕ} (joins : List ℕ) (k : �
             ∙ v .elsewhere q (λ i t a b p r. h i t a (omega arith) p r);
       }
 
-  pub pushed-all : (count : ℕ) → Pushed c c′ w used (entriesIn joins k) → k ≤ count → count ≤ k → Pushed c c′ w used (entriesIn joins count)
-  pushed-all count v a b = let e : k ≡ count = omega arith in subst (λ (n : ℕ). Pushed c c′ w used (entriesIn joins n)) e v
+  pub pushed-all : (count : ℕ) → EntriesPushed c c′ w used (entriesIn joins k) → k ≤ count → count ≤ k → EntriesPushed c c′ w used (entriesIn joins count)
+  pushed-all count v a b = let e : k ≡ count = omega arith in subst (λ (n : ℕ). EntriesPushed c c′ w used (entriesIn joins n)) e v
 
 -- ---- entries as they are read
 
@@ -140,7 +140,7 @@ pub record Steady (c c′ : List ℕ) (r r′ : List Float) (w : Rooms) (leg use
   pub entries : (i k : ℕ) → i < used → 3 ≤ k → k < 5 → getD c′ (w .«nodes_at» + i * 8 + k) 0 ≡ getD c (w .«nodes_at» + i * 8 + k) 0
 
 module _ {c c′ : List ℕ} {r r′ : List Float} {w : Rooms} {leg bound : ℕ} (s : Steady c c′ r r′ w leg bound) where
-  kept-still : (below used : ℕ) (run : Waiting) → leg ≢ run .leg → used + length (run .joins) ≤ bound → Kept c r w below used run → Kept c′ r′ w below used run
+  kept-still : (below used : ℕ) (run : Waiting) → leg ≢ run .leg → used + length (run .joins) ≤ bound → RunKept c r w below used run → RunKept c′ r′ w below used run
   kept-still below used run a b v =
       let o = v .real in
       let l = v .inside in
@@ -157,7 +157,7 @@ module _ {c c′ : List ℕ} {r r′ : List Float} {w : Rooms} {leg bound : ℕ}
         fits = v .fits;
       }
 
-  pub saved-still : (top used : ℕ) (runs : List Waiting) → used ≤ bound → Apart leg runs → SavedIn c r w top used runs → SavedIn c′ r′ w top used runs
+  pub saved-still : (top used : ℕ) (runs : List Waiting) → used ≤ bound → Untaken leg runs → SavedIn c r w top used runs → SavedIn c′ r′ w top used runs
   saved-still top used [] b a h = h
   saved-still top used (run ∷ runs) b a h = (
     h .0,
@@ -259,12 +259,12 @@ module _ {c : List ℕ} {r : List Float} {w : Rooms} {top used : ℕ} {place : P
   is-offset : getD r2 (w .«pairs_at» + leg * 2 + 1) nan ≡ place .«dist_to_next»
   is-offset = getD-set-same r1 (w .«pairs_at» + leg * 2 + 1) (place .«dist_to_next») nan (omega (arith, length-set r (w .«pairs_at» + leg * 2) (place .«time_to_next»), f .pairs-inside, f .inside))
 
-  module _ {c′ : List ℕ} (p : Pushed c4 c′ w used (entriesIn joins count)) where
+  module _ {c′ : List ℕ} (p : EntriesPushed c4 c′ w used (entriesIn joins count)) where
     -- pushing leaves the legs' units
     leg-unit : (j k : ℕ) → j ≤ w .legs → k < 8 → getD c′ (j * 8 + k) 0 ≡ getD c4 (j * 8 + k) 0
     leg-unit j k a b = p .elsewhere (j * 8 + k) (λ i t e g h d o. omega (arith, f .legs-before))
 
-    pub save-elsewhere : Elsewhere c c′ r r2 w
+    pub save-elsewhere : SavedElsewhere c c′ r r2 w
     save-elsewhere = record {
       cells = λ q a b.
           p .elsewhere q (λ i k h g d e. b i k (omega (arith, entries-count joins count, f .entries-inside)) d e) ∙ four-other q (λ k h g. a leg k (f .inside) h g);
@@ -282,7 +282,7 @@ module _ {c : List ℕ} {r : List Float} {w : Rooms} {top used : ℕ} {place : P
           p .elsewhere (w .«nodes_at» + i * 8 + k) (λ l t a b d o q. omega arith) ∙ four-other (w .«nodes_at» + i * 8 + k) (λ t a b d. omega (arith, f .legs-before, f .inside));
     }
 
-    kept-new : Kept c′ r2 w top used (waitingOf place leg depth (entriesIn joins count))
+    kept-new : RunKept c′ r2 w top used (waitingOf place leg depth (entriesIn joins count))
     unfolding waitingOf
     kept-new = record {
       real = f .real;
@@ -297,7 +297,7 @@ module _ {c : List ℕ} {r : List Float} {w : Rooms} {top used : ℕ} {place : P
       fits = omega (arith, entries-count joins count, f .entries-inside);
     }
 
-    pub save-saved : (runs : List Waiting) → SavedIn c r w top used runs → Apart leg runs → SavedIn c′ r2 w leg (used + count) (waitingOf place leg depth (entriesIn joins count) ∷ runs)
+    pub save-saved : (runs : List Waiting) → SavedIn c r w top used runs → Untaken leg runs → SavedIn c′ r2 w leg (used + count) (waitingOf place leg depth (entriesIn joins count) ∷ runs)
     unfolding waitingOf
     save-saved runs h a =
         let n : length (entriesIn joins count) ≡ count = entries-count joins count in
@@ -309,8 +309,8 @@ module _ {c : List ℕ} {r : List Float} {w : Rooms} {top used : ℕ} {place : P
             (
               a,
               (
-                subst (λ (i : ℕ). Kept c′ r2 w i (used + count - length (entriesIn joins count)) (waitingOf place leg depth (entriesIn joins count))) t
-                    (subst (λ (i : ℕ). Kept c′ r2 w top i (waitingOf place leg depth (entriesIn joins count))) u kept-new),
+                subst (λ (i : ℕ). RunKept c′ r2 w i (used + count - length (entriesIn joins count)) (waitingOf place leg depth (entriesIn joins count))) t
+                    (subst (λ (i : ℕ). RunKept c′ r2 w top i (waitingOf place leg depth (entriesIn joins count))) u kept-new),
                 subst (λ (i : ℕ). SavedIn c′ r2 w i (used + count - length (entriesIn joins count)) runs) t
                     (subst (λ (i : ℕ). SavedIn c′ r2 w top i runs) u (saved-still steady top used runs (omega arith) a h)),
               ),

@@ -1,2 +1,2 @@
-pub mod Saved
+pub mod Held
 pub mod Steps

@@ -1,4 +1,4 @@
-// The runs that wait, in the work space. Contracts: specs/Saved.antt.
+// The runs that wait, in the work space. Contracts: specs/Held.antt.
 use net_insertion::Place;
 use net_strands::EstJoinPath;
 ghost use mathlib.Core.Path.{_≡_};
@@ -6,8 +6,8 @@ ghost use mathlib.Core.List.{List, _∷_};
 ghost use Prim.Native.Nat.{_+_, _*_, _≤_, _<_};
 ghost use lib.ListN.{length};
 ghost use Rattle.net_strands.specs.Entries.{entriesIn};
-ghost use Rattle.grow_waiting.specs.Saved.{Waiting, EntriesFrom, Apart, SavedIn, waitingOf, Elsewhere, SomeWaits, PoppedAs};
-ghost use Rattle.grow_waiting.specs.Steps.{Pushed};
+ghost use Rattle.grow_waiting.specs.Held.{Waiting, EntriesFrom, Untaken, SavedIn, waitingOf, SavedElsewhere, SomeWaits, PoppedAs};
+ghost use Rattle.grow_waiting.specs.Steps.{EntriesPushed};
 
 // Where the nodes' units stand in the cells and the pairs of reals in the reals, and how many legs and places there are.
 pub struct Rooms {
@@ -31,7 +31,7 @@ fn push_entries(cells: &mut [u32], w: Rooms, used: usize, joins: &[u32], count: 
     requires { ⌜ w .«nodes_at» + w .places * 8 ≤ length (now cells) ⌝ }
     requires { ⌜ used + count ≤ w .places ⌝ }
     requires { ⌜ count * 2 ≤ length (now joins) ⌝ }
-    ensures { λ _. ⌜ Pushed (now (cells .entry)) (now (cells .exit)) w used (entriesIn (now (joins .entry)) count) ⌝ }
+    ensures { λ _. ⌜ EntriesPushed (now (cells .entry)) (now (cells .exit)) w used (entriesIn (now (joins .entry)) count) ⌝ }
 {
     let mut k = 0;
     while k < count {
@@ -82,8 +82,8 @@ pub fn save(
     requires { ⌜ used + count ≤ w .places ⌝ }
     requires { ⌜ w .places ≤ 65535 ⌝ }
     requires { ⌜ count * 2 ≤ length (now joins) ⌝ }
-    ensures elsewhere { λ _. ⌜ Elsewhere (now (cells .entry)) (now (cells .exit)) (now (reals .entry)) (now (reals .exit)) w ⌝ }
-    ensures saved { λ _. ⌜ ((runs : List Waiting) → SavedIn (now (cells .entry)) (now (reals .entry)) w top used runs → Apart leg runs → SavedIn (now (cells .exit)) (now (reals .exit)) w leg (used + count) (waitingOf place leg depth (entriesIn (now (joins .entry)) count) ∷ runs)) ⌝ }
+    ensures elsewhere { λ _. ⌜ SavedElsewhere (now (cells .entry)) (now (cells .exit)) (now (reals .entry)) (now (reals .exit)) w ⌝ }
+    ensures saved { λ _. ⌜ ((runs : List Waiting) → SavedIn (now (cells .entry)) (now (reals .entry)) w top used runs → Untaken leg runs → SavedIn (now (cells .exit)) (now (reals .exit)) w leg (used + count) (waitingOf place leg depth (entriesIn (now (joins .entry)) count) ∷ runs)) ⌝ }
 {
     let at = leg as usize * 8;
     cells[at + 4] = place.idx_prev;

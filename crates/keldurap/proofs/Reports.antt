@@ -4,7 +4,7 @@ use mathlib.Core.List.{List}
 use Prim.Native.Nat.{ℕ}
 use lib.Ieee.{Float}
 use Rattle.grow_book.specs.declared.Report.{Report}
-use Rattle.grow_book.specs.declared.Grown.{Grown}
+use Rattle.grow_book.specs.declared.GrownBook.{GrownBook}
 use Rattle.grow_for_tests.specs.Network.{grownNumber, reported as grownReport}
 use Rattle.listing.specs.declared.Listed.{Listed}
 use Rattle.listing.specs.Listing.{listedNumber, listedLength}
@@ -28,7 +28,7 @@ alike number report x a e rest = (
   ),
 )
 
-pub grown-told : {Rest : Type 0} {a r x : Grown} → (r ≡ a) × Rest → r ≡ x → Alike grownNumber grownReport x a Rest
+pub grown-told : {Rest : Type 0} {a r x : GrownBook} → (r ≡ a) × Rest → r ≡ x → Alike grownNumber grownReport x a Rest
 grown-told e d = alike grownNumber grownReport _ _ (sym d ∙ e .0) (e .1)
 
 pub demand-told : (b : List ℕ) (fs : List Float) (us : List ℕ) (r a : Sheet) → r ≡ a → DemandOf b fs us r → DemandOf b fs us a

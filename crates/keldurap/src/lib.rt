@@ -1,7 +1,7 @@
 // The entries for other languages. Each is thin: it calls the proved function of its crate and has its contract. include/keldurap.h has the C side.
 use est_times::Sheet;
 use event_maker::Made;
-use grow_book::Grown;
+use grow_book::GrownBook;
 use grow_book::Report;
 use listing::Listed;
 use pass_table::TimedTable;
@@ -137,7 +137,7 @@ pub extern "C" fn keldurap_grow_network(
 {
     let grown = grow_for_tests::grow_network(book, floats, numbers, reals, cells, marks);
     match grown {
-        Grown::Stopped(k) => {
+        GrownBook::Stopped(k) => {
             *node_count = 0;
             *added = 0;
             *splits = 0;
@@ -145,7 +145,7 @@ pub extern "C" fn keldurap_grow_network(
             *finished = 0;
             k
         }
-        Grown::Whole(r) => {
+        GrownBook::Whole(r) => {
             *node_count = r.nodes;
             *added = r.added;
             *splits = r.splits;

@@ -17,7 +17,7 @@ use Rattle.net_node.specs.declared.LinkEvent.{LinkEvent}
 use Rattle.net_node.specs.declared.EstTime.{EstTime}
 use Rattle.net_node.specs.Table.{sameEvent}
 use Rattle.net_event_map.specs.declared.Layout.{Layout}
-use Rattle.net_event_map.specs.EventMap.{seenIn, nodesFrom, eventNodes, headOf, lastOf, arriveAt, clearAt, bit, Apart, Mapped, MapOnly, RealKind}
+use Rattle.net_event_map.specs.EventMap.{seenIn, nodesFrom, eventNodes, headOf, lastOf, arriveAt, clearAt, bit, CellsApart, Mapped, MapOnly, RealKind}
 use Rattle.net_event_map.proofs.Lists.{either, known, not-both, same-arrive, arrive-same, arrive-other, arrive-no-clear, clear-same, clear-other, clear-no-arrive, head-first, head-kept, last-own, has, Inside, Walked, nodes-added, nodes-passed, walk, last-inside, behind-last, behind-other, walked-none, some-first, nodes-none}
 
 -- ---- an event's kind
@@ -155,7 +155,7 @@ module _ {c : List ℕ} {w : Layout} {node : ℕ → EstTime} {n : ℕ} (v : Map
 
 -- ---- a Clear
 
-module _ {c : List ℕ} {w : Layout} {node : ℕ → EstTime} {i : ℕ} (l : ℕ) (p : Apart c w) (b : l < w .links) (m : i < w .places) (e : node i .«link_event» ≡ clearAt l) (v : Mapped c w node i) where
+module _ {c : List ℕ} {w : Layout} {node : ℕ → EstTime} {i : ℕ} (l : ℕ) (p : CellsApart c w) (b : l < w .links) (m : i < w .places) (e : node i .«link_event» ≡ clearAt l) (v : Mapped c w node i) where
   abbrev flag : ℕ
   flag = w .«links_at» + l * 8 + 2
 
@@ -187,7 +187,7 @@ record Open (w : Layout) (node : ℕ → EstTime) (i l to : ℕ) : Type 0 where
   node-else : (j : ℕ) → j < w .places → (j < i → has node (arriveAt l) j ≡ true → ⊥) → w .«nodes_at» + j * 8 ≢ to
   mark-else : (j : ℕ) → j < w .places → w .«nodes_at» + j * 8 + 1 ≢ to
 
-module _ {c : List ℕ} {w : Layout} {node : ℕ → EstTime} {i : ℕ} (l to : ℕ) (p : Apart c w) (b : l < w .links) (m : i < w .places) (e : node i .«link_event» ≡ arriveAt l) (v : Mapped c w node i) where
+module _ {c : List ℕ} {w : Layout} {node : ℕ → EstTime} {i : ℕ} (l to : ℕ) (p : CellsApart c w) (b : l < w .links) (m : i < w .places) (e : node i .«link_event» ≡ arriveAt l) (v : Mapped c w node i) where
   abbrev at : ℕ
   at = w .«links_at» + l * 8
 
@@ -325,7 +325,7 @@ module _ {c : List ℕ} {w : Layout} {node : ℕ → EstTime} {i : ℕ} (l to : 
       go (inl z) = arrived-first z (f z)
       go (inr z) = let h : 0 < getD c at 0 = omega arith in arrived-behind h (g h)
 
-pub open-inside : {c : List ℕ} {w : Layout} (l to : ℕ) → Apart c w → l < w .links → getD c (w .«links_at» + l * 8 + 1) 0 < w .places → (getD c (w .«links_at» + l * 8) 0 ≡ 0 → to ≡ w .«links_at» + l * 8)
+pub open-inside : {c : List ℕ} {w : Layout} (l to : ℕ) → CellsApart c w → l < w .links → getD c (w .«links_at» + l * 8 + 1) 0 < w .places → (getD c (w .«links_at» + l * 8) 0 ≡ 0 → to ≡ w .«links_at» + l * 8)
     → (0 < getD c (w .«links_at» + l * 8) 0 → to ≡ w .«nodes_at» + getD c (w .«links_at» + l * 8 + 1) 0 * 8) → to < length c
 open-inside {c} {w} l to p b m f g = go (either (getD c (w .«links_at» + l * 8) 0) 0)
   where

@@ -6,7 +6,7 @@ use Prim.Native.Nat.{ℕ, zero, suc}
 use Rattle.fields.specs.Below.{someBelow}
 use Rattle.net_node.specs.declared.EstTime.{EstTime}
 use Rattle.net_node.specs.declared.LinkEvent.{LinkEvent}
-use Rattle.net_node.specs.Table.{sameKind, sameEvent, noLink, blank}
+use Rattle.net_node.specs.Table.{sameKind, sameEvent, noLinkEvent, blank}
 use Rattle.net_event_map.specs.EventMap.{seenIn, nodesFrom, eventNodes, headOf, lastOf, arriveAt, clearAt}
 
 -- a node of which only the event is of account
@@ -25,13 +25,13 @@ of e = record {
 
 -- the nodes with these events, then Fakes
 abbrev nodes : List LinkEvent → ℕ → EstTime
-nodes [] i = of noLink
+nodes [] i = of noLinkEvent
 nodes (e ∷ es) zero = of e
 nodes (e ∷ es) (suc i) = nodes es i
 
 -- two Fakes, the Arrives of links 3 and 4, the Clear of link 3, the Arrive of link 3 twice
 abbrev net : ℕ → EstTime
-net = nodes (noLink ∷ noLink ∷ arriveAt 3 ∷ arriveAt 4 ∷ clearAt 3 ∷ arriveAt 3 ∷ arriveAt 3 ∷ [])
+net = nodes (noLinkEvent ∷ noLinkEvent ∷ arriveAt 3 ∷ arriveAt 4 ∷ clearAt 3 ∷ arriveAt 3 ∷ arriveAt 3 ∷ [])
 
 record Examples : Type 0 where
   rising : eventNodes net (arriveAt 3) 7 ≡ 2 ∷ 5 ∷ 6 ∷ []
@@ -46,7 +46,7 @@ record Examples : Type 0 where
   arrive-seen : seenIn net 7 (arriveAt 4) ≡ true
 
 examples : Examples
-unfolding seenIn someBelow nodesFrom eventNodes lastOf sameEvent sameKind arriveAt clearAt noLink
+unfolding seenIn someBelow nodesFrom eventNodes lastOf sameEvent sameKind arriveAt clearAt noLinkEvent
 examples = record {
   rising = refl;
   fewer = refl;

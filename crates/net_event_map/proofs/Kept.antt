@@ -14,13 +14,13 @@ use Rattle.net_node.specs.declared.LinkEvent.{LinkEvent}
 use Rattle.net_node.specs.declared.EstTime.{EstTime}
 use Rattle.net_node.specs.Table.{sameEvent}
 use Rattle.net_event_map.specs.declared.Layout.{Layout}
-use Rattle.net_event_map.specs.EventMap.{seenIn, nodesFrom, eventNodes, headOf, lastOf, arriveAt, clearAt, bit, Apart, Mapped}
+use Rattle.net_event_map.specs.EventMap.{seenIn, nodesFrom, eventNodes, headOf, lastOf, arriveAt, clearAt, bit, CellsApart, Mapped}
 use Rattle.net_event_map.proofs.Lists.{fake-none, fake-only, has, Inside, Walked, last-inside, walked-none, walked-on, nodes-inside}
 use Rattle.net_event_map.proofs.Chains.{arrive-real, clear-real, seen-passed, no-zeroth, mapped-quiet}
 
 -- ---- a list of as many cells
 
-pub apart-same : {c d : List ℕ} {w : Layout} → length d ≡ length c → Apart c w → Apart d w
+pub apart-same : {c d : List ℕ} {w : Layout} → length d ≡ length c → CellsApart c w → CellsApart d w
 apart-same {c} {d} {w} e p = record {
   links-inside = subst (λ (n : ℕ). w .«links_at» + w .links * 8 ≤ n) (sym e) (p .links-inside);
   nodes-inside = subst (λ (n : ℕ). w .«nodes_at» + w .places * 8 ≤ n) (sym e) (p .nodes-inside);
@@ -85,7 +85,7 @@ module _ (c : List ℕ) (w : Layout) (node : ℕ → EstTime) where
 
 -- ---- a store elsewhere
 
-module _ {c : List ℕ} {w : Layout} {node : ℕ → EstTime} {n : ℕ} (v : Mapped c w node n) (p : Apart c w) (x : ℕ) where
+module _ {c : List ℕ} {w : Layout} {node : ℕ → EstTime} {n : ℕ} (v : Mapped c w node n) (p : CellsApart c w) (x : ℕ) where
   -- in none of the map's cells
   stays : (q : ℕ) → ((l k : ℕ) → l < w .links → k < 3 → w .«links_at» + l * 8 + k ≢ q) → ((i k : ℕ) → i < w .places → k < 2 → w .«nodes_at» + i * 8 + k ≢ q) → n ≤ w .places → Mapped (set c q x) w node n
   stays q a b m = record {

@@ -51,7 +51,7 @@ bit true = 1
 bit false = 0
 
 -- The cells have room: 8 for each of the links, from `links_at` on, and 8 for each place of the table, from `nodes_at` on; the two don't overlap.
-pub record Apart (cells : List ℕ) (w : Layout) : Type 0 where
+pub record CellsApart (cells : List ℕ) (w : Layout) : Type 0 where
   pub links-inside : w .«links_at» + w .links * 8 ≤ length cells
   pub nodes-inside : w .«nodes_at» + w .places * 8 ≤ length cells
   pub apart : w .«nodes_at» + w .places * 8 ≤ w .«links_at»

@@ -5,7 +5,7 @@ ghost use mathlib.Core.Path.{_≡_};
 ghost use Prim.Native.Nat.{ℕ, _+_, _*_, _≤_, _<_};
 ghost use lib.ListN.{length, getD};
 ghost use Rattle.net_node.specs.declared.EstTime.{EstTime};
-ghost use Rattle.net_event_map.specs.EventMap.{seenIn, arriveAt, clearAt, Apart, Mapped, MapOnly, Real};
+ghost use Rattle.net_event_map.specs.EventMap.{seenIn, arriveAt, clearAt, CellsApart, Mapped, MapOnly, Real};
 
 // Where the cells of links and of nodes stand, and how many links and places there are.
 pub struct Layout {
@@ -17,7 +17,7 @@ pub struct Layout {
 
 // Whether some node has the event.
 pub fn contains(cells: &[u32], w: Layout, event: LinkEvent) -> bool
-    requires { ⌜ Apart (now cells) w ⌝ }
+    requires { ⌜ CellsApart (now cells) w ⌝ }
     requires { ⌜ Real event (w .links) ⌝ }
     ensures { λ r. ⌜ ((node : ℕ → EstTime) (n : ℕ) → Mapped (now (cells .entry)) w node n → r ≡ seenIn node n event) ⌝ }
 {
@@ -32,7 +32,7 @@ pub fn contains(cells: &[u32], w: Layout, event: LinkEvent) -> bool
 
 // The first node with the Arrive of a link, or 0: `Mapped`'s `first`.
 pub fn first_node(cells: &[u32], w: Layout, link_idx: u32) -> u32
-    requires { ⌜ Apart (now cells) w ⌝ }
+    requires { ⌜ CellsApart (now cells) w ⌝ }
     requires { ⌜ «link_idx» < w .links ⌝ }
     ensures { λ r. ⌜ r ≡ getD (now (cells .entry)) (w .«links_at» + «link_idx» * 8) 0 ⌝ }
 {
@@ -41,7 +41,7 @@ pub fn first_node(cells: &[u32], w: Layout, link_idx: u32) -> u32
 
 // The next node with the Arrive of node i, or 0: `Mapped`'s `next`. It holds while nodes are marked, too.
 pub fn next_node(cells: &[u32], w: Layout, i: u32) -> u32
-    requires { ⌜ Apart (now cells) w ⌝ }
+    requires { ⌜ CellsApart (now cells) w ⌝ }
     requires { ⌜ i < w .places ⌝ }
     ensures { λ r. ⌜ r ≡ getD (now (cells .entry)) (w .«nodes_at» + i * 8) 0 ⌝ }
 {
@@ -50,7 +50,7 @@ pub fn next_node(cells: &[u32], w: Layout, i: u32) -> u32
 
 // The cell that will name the next Arrive of a link: the link's first cell, or its last node's.
 fn open_cell(cells: &[u32], w: Layout, link_idx: u32) -> usize
-    requires { ⌜ Apart (now cells) w ⌝ }
+    requires { ⌜ CellsApart (now cells) w ⌝ }
     requires { ⌜ «link_idx» < w .links ⌝ }
     requires { ⌜ getD (now cells) (w .«links_at» + «link_idx» * 8 + 1) 0 < w .places ⌝ }
     ensures first { λ r. ⌜ (getD (now (cells .entry)) (w .«links_at» + «link_idx» * 8) 0 ≡ 0 → r ≡ w .«links_at» + «link_idx» * 8) ⌝ }
@@ -65,7 +65,7 @@ fn open_cell(cells: &[u32], w: Layout, link_idx: u32) -> usize
 
 // Node i has the Arrive of a link: it is named behind the link's last node, and is the last.
 fn append_arrive(cells: &mut [u32], w: Layout, i: u32, link_idx: u32)
-    requires { ⌜ Apart (now cells) w ⌝ }
+    requires { ⌜ CellsApart (now cells) w ⌝ }
     requires { ⌜ «link_idx» < w .links ⌝ }
     requires { ⌜ getD (now cells) (w .«links_at» + «link_idx» * 8 + 1) 0 < w .places ⌝ }
     requires { ⌜ i < w .places ⌝ }
@@ -80,7 +80,7 @@ fn append_arrive(cells: &mut [u32], w: Layout, i: u32, link_idx: u32)
 
 // The new node has the Clear of a link.
 fn mark_clear(cells: &mut [u32], w: Layout, link_idx: u32)
-    requires { ⌜ Apart (now cells) w ⌝ }
+    requires { ⌜ CellsApart (now cells) w ⌝ }
     requires { ⌜ «link_idx» < w .links ⌝ }
     ensures mapped { λ _. ⌜ ((node : ℕ → EstTime) (i : ℕ) → i < w .places → node i .«link_event» ≡ clearAt «link_idx» → Mapped (now (cells .entry)) w node i → Mapped (now (cells .exit)) w node (i + 1)) ⌝ }
     ensures elsewhere { λ _. ⌜ MapOnly (now (cells .entry)) (now (cells .exit)) w ⌝ }
@@ -91,7 +91,7 @@ fn mark_clear(cells: &mut [u32], w: Layout, link_idx: u32)
 
 // Node i, which is new and the last, has the event.
 pub fn insert(cells: &mut [u32], w: Layout, i: u32, event: LinkEvent)
-    requires { ⌜ Apart (now cells) w ⌝ }
+    requires { ⌜ CellsApart (now cells) w ⌝ }
     requires { ⌜ Real event (w .links) ⌝ }
     requires { ⌜ getD (now cells) (w .«links_at» + event .«link_idx» * 8 + 1) 0 < w .places ⌝ }
     requires { ⌜ i < w .places ⌝ }

@@ -1,4 +1,4 @@
--- What a caller may know of an insertion: where the place found lies, which nodes are written and which are left alone, and that the network stays woven.
+-- What a caller may know of an insertion: where the place found lies, which nodes are written and which are left alone, and that the network stays indexed.
 use mathlib.Core.Path.{_≡_, refl, sym, ap, _∙_, subst}
 use mathlib.Core.Logic.{_≢_}
 use mathlib.Core.Bool.{Bool, true, false}
@@ -10,7 +10,7 @@ use lib.Dec.{ltb}
 use lib.Ieee.{Float}
 use Rattle.net_node.specs.declared.EstTime.{EstTime}
 use Rattle.net_node.specs.declared.TimedEvent.{TimedEvent}
-use Rattle.net_node.specs.Table.{nodeAt, Woven}
+use Rattle.net_node.specs.Table.{nodeAt, Indexed}
 use Rattle.net_insertion.specs.declared.Place.{Place}
 use Rattle.net_insertion.specs.declared.Seek.{Seek}
 use Rattle.net_insertion.specs.declared.Seek.the-variants.{Open, Match, Split}
@@ -18,7 +18,7 @@ use Rattle.net_insertion.specs.declared.Inserted.{Inserted}
 use Rattle.net_insertion.specs.declared.Inserted.the-variants.{Added, Moved, Refused}
 use Rattle.net_insertion.specs.Insertion.{Table, at, matches, linkedTo, eventNode, splitFake, alternating, addBehind, splitAt, placeAt, addedAs, insertedAs, tableAs, soughtIn, inserted, insertedTable, InsertedInto}
 use Rattle.net_insertion.proofs.Seeking.{Found, sought-found}
-use Rattle.net_insertion.proofs.Puts.{RoomIn, add-found, add-new, add-woven, add-other, add-room, split-found, split-new, split-woven, split-other, split-room}
+use Rattle.net_insertion.proofs.Puts.{RoomIn, add-found, add-new, add-indexed, add-other, add-room, split-found, split-new, split-indexed, split-other, split-room}
 
 -- a table's nodes, as contracts name them
 pub at-is : (t : Table) → at t ≡ nodeAt (t .floats) (t .numbers)
@@ -26,12 +26,12 @@ unfolding at
 at-is t = refl
 
 -- the place found is a node
-pub place-found : (t : Table) (n : ℕ) (join : Float) (p : Place) (e : TimedEvent) → Woven (at t) n → p .«idx_prev» < n → Found (at t) n join e (soughtIn t n join p e)
+pub place-found : (t : Table) (n : ℕ) (join : Float) (p : Place) (e : TimedEvent) → Indexed (at t) n → p .«idx_prev» < n → Found (at t) n join e (soughtIn t n join p e)
 unfolding soughtIn
 place-found t n join p e w h = sought-found (at t) n join e (p .«idx_prev») (soughtIn t n join p e) refl w h
 
 -- two tests for a finished run's event that agree on the nodes give one answer
-pub inserted-same : (t : Table) (n places : ℕ) (f g : ℕ → Bool) (join : Float) (p : Place) (e : TimedEvent) → Woven (at t) n → p .«idx_prev» < n → ((i : ℕ) → i < n → f i ≡ g i) → inserted t n places f join p e ≡ inserted t n places g join p e
+pub inserted-same : (t : Table) (n places : ℕ) (f g : ℕ → Bool) (join : Float) (p : Place) (e : TimedEvent) → Indexed (at t) n → p .«idx_prev» < n → ((i : ℕ) → i < n → f i ≡ g i) → inserted t n places f join p e ≡ inserted t n places g join p e
 unfolding inserted
 inserted-same t n places f g join p e w h s = go (soughtIn t n join p e) (place-found t n join p e w h)
   where
@@ -42,9 +42,9 @@ inserted-same t n places f g join p e w h s = go (soughtIn t n join p e) (place-
 
 -- ---- the table after each way to insert
 
--- m nodes in so many places, woven; the place is the last node
+-- m nodes in so many places, indexed; the place is the last node
 pub record Grown (t : Table) (m places : ℕ) (q : Place) : Type 0 where
-  pub woven : Woven (at t) m
+  pub indexed : Indexed (at t) m
   pub last : q .«idx_prev» + 1 ≡ m
   pub room : m ≤ places
 
@@ -109,7 +109,7 @@ module _ (t : Table) (n places : ℕ) (ended : ℕ → Bool) (join : Float) (p :
       go (Open i) = add-room t i n e places r
       go (Split i) = add-room (splitAt t i n p) n (n + 1) e places (split-room t i n p places r)
 
-  module _ (r : RoomIn t places) (w : Woven (at t) n) (h : p .«idx_prev» < n) where
+  module _ (r : RoomIn t places) (w : Indexed (at t) n) (h : p .«idx_prev» < n) where
     moved : (i : ℕ) → soughtIn t n join p e ≡ Match i → Found (at t) n join e (Match i) → MovedTo t (placeAt i e)
     unfolding placeAt
     moved i s f = record { sought = s; place = refl; within = f .0; some = f .1 .0; same = f .1 .1; table = refl }
@@ -126,7 +126,7 @@ module _ (t : Table) (n places : ℕ) (ended : ℕ → Bool) (join : Float) (p :
       found = add-found t i n places r w (f .0) g e;
       added = add-new t i n places r w (f .0) g e;
       others = add-other t i n e;
-      grown = record { woven = add-woven t i n places r w (f .0) g e; last = refl; room = omega arith };
+      grown = record { indexed = add-indexed t i n places r w (f .0) g e; last = refl; room = omega arith };
     }
 
     divided : (i : ℕ) → soughtIn t n join p e ≡ Split i → Found (at t) n join e (Split i) → n + 1 < places → AddedBySplit (addBehind (splitAt t i n p) n (n + 1) e) (placeAt (n + 1) e)
@@ -136,7 +136,7 @@ module _ (t : Table) (n places : ℕ) (ended : ℕ → Bool) (join : Float) (p :
         let l : n < places = omega arith in
         let k : n < n + 1 = omega arith in
         let v : RoomIn half places = split-room t i n p places r in
-        let x : Woven (at half) (n + 1) = split-woven t i n places r w (f .0) l p in
+        let x : Indexed (at half) (n + 1) = split-indexed t i n places r w (f .0) l p in
         record {
           node = i;
           sought = s;
@@ -148,7 +148,7 @@ module _ (t : Table) (n places : ℕ) (ended : ℕ → Bool) (join : Float) (p :
           fake = add-found half n (n + 1) places v x k g e ∙ ap (λ (z : EstTime). linkedTo z (n + 1) e) (split-new t i n places r w (f .0) l p);
           added = add-new half n (n + 1) places v x k g e;
           others = λ j a b c. add-other half n (n + 1) e j b c ∙ split-other t i n p j a b;
-          grown = record { woven = subst (Woven (at (addBehind half n (n + 1) e))) (omega arith) (add-woven half n (n + 1) places v x k g e); last = omega arith; room = omega arith };
+          grown = record { indexed = subst (Indexed (at (addBehind half n (n + 1) e))) (omega arith) (add-indexed half n (n + 1) places v x k g e); last = omega arith; room = omega arith };
         }
 
     -- what holds after an insertion, by its answer

@@ -1,4 +1,4 @@
--- Nodes written into a table: what is read at their places and at others, that the room stays, and that additions leave it woven.
+-- Nodes written into a table: what is read at their places and at others, that the room stays, and that additions leave it indexed.
 use mathlib.Core.Path.{_≡_, refl, sym, ap, _∙_, subst}
 use mathlib.Core.Logic.{_⊎_, inl, inr, _≢_}
 use mathlib.Core.Bool.{Bool, true, false}
@@ -10,7 +10,7 @@ use lib.Dec.{eqb}
 use lib.Ieee.{Float}
 use Rattle.net_node.specs.declared.EstTime.{EstTime}
 use Rattle.net_node.specs.declared.TimedEvent.{TimedEvent}
-use Rattle.net_node.specs.Table.{nodeAt, putFloats, putNumbers, Room, Woven}
+use Rattle.net_node.specs.Table.{nodeAt, putFloats, putNumbers, Room, Indexed}
 use Rattle.net_node.proofs.Nodes.{node-put-same, node-put-other, length-put-floats, length-put-numbers}
 use Rattle.net_insertion.specs.declared.Place.{Place}
 use Rattle.net_insertion.specs.Insertion.{Table, put, at, linkedTo, eventNode, splitFake, alternating, addBehind, splitAt}
@@ -54,7 +54,7 @@ module _ (t : Table) (i k : ℕ) (x y : EstTime) where
   both-other : (j : ℕ) → j ≢ i → j ≢ k → at both j ≡ at t j
   both-other j h g = put-other (put t i x) k y j g ∙ put-other t i x j h
 
--- ---- what a woven network asks of node i
+-- ---- what an indexed network asks of node i
 
 pub record Fits (x : EstTime) (i n : ℕ) : Type 0 where
   pub next : x .«idx_next» < n
@@ -64,7 +64,7 @@ pub record Fits (x : EstTime) (i n : ℕ) : Type 0 where
   pub next-alt-rises : 0 < x .«idx_next_alt» → i < x .«idx_next_alt»
   pub prev-alt-rises : 0 < x .«idx_prev_alt» → i < x .«idx_prev_alt»
 
-pub fits-at : {node : ℕ → EstTime} {n : ℕ} → Woven node n → (i m : ℕ) → i < n → n ≤ m → Fits (node i) i m
+pub fits-at : {node : ℕ → EstTime} {n : ℕ} → Indexed node n → (i m : ℕ) → i < n → n ≤ m → Fits (node i) i m
 fits-at w i m h g = record {
   next = omega (arith, w .next i h);
   next-alt = omega (arith, w .next-alt i h);
@@ -74,8 +74,8 @@ fits-at w i m h g = record {
   prev-alt-rises = w .prev-alt-rises i h;
 }
 
-pub fits-woven : {node : ℕ → EstTime} {n : ℕ} → ((i : ℕ) → i < n → Fits (node i) i n) → Woven node n
-fits-woven f = record {
+pub fits-indexed : {node : ℕ → EstTime} {n : ℕ} → ((i : ℕ) → i < n → Fits (node i) i n) → Indexed node n
+fits-indexed f = record {
   next = λ i h. f i h .next;
   next-alt = λ i h. f i h .next-alt;
   prev = λ i h. f i h .prev;
@@ -91,8 +91,8 @@ either a b = go (eqb a b) refl
     go true e = inl (eqb-true a b e)
     go false e = inr (eqb-false a b e)
 
-both-woven : (t : Table) (i n : ℕ) (x y : EstTime) (places : ℕ) → RoomIn t places → Woven (at t) n → i < n → n < places → Fits x i (n + 1) → Fits y n (n + 1) → Woven (at (both t i n x y)) (n + 1)
-both-woven t i n x y places r w h g f s = fits-woven (λ j l. go j l (either j i) (either j n))
+both-indexed : (t : Table) (i n : ℕ) (x y : EstTime) (places : ℕ) → RoomIn t places → Indexed (at t) n → i < n → n < places → Fits x i (n + 1) → Fits y n (n + 1) → Indexed (at (both t i n x y)) (n + 1)
+both-indexed t i n x y places r w h g f s = fits-indexed (λ j l. go j l (either j i) (either j n))
   where
     go : (j : ℕ) → j < n + 1 → (j ≡ i) ⊎ (j ≡ i → ⊥) → (j ≡ n) ⊎ (j ≡ n → ⊥) → Fits (at (both t i n x y) j) j (n + 1)
     go j l (inl a) b = subst (λ (k : ℕ). Fits (at (both t i n x y) k) k (n + 1)) (sym a) (subst (λ (z : EstTime). Fits z i (n + 1)) (sym (both-first t i n x y places r h (omega arith))) f)
@@ -101,7 +101,7 @@ both-woven t i n x y places r w h g f s = fits-woven (λ j l. go j l (either j i
 
 -- ---- an event added, and a split's Fake
 
-module _ (t : Table) (i n places : ℕ) (r : RoomIn t places) (w : Woven (at t) n) (h : i < n) (g : n < places) where
+module _ (t : Table) (i n places : ℕ) (r : RoomIn t places) (w : Indexed (at t) n) (h : i < n) (g : n < places) where
   module _ (e : TimedEvent) where
     pub add-found : at (addBehind t i n e) i ≡ linkedTo (at t i) n e
     unfolding addBehind
@@ -111,11 +111,11 @@ module _ (t : Table) (i n places : ℕ) (r : RoomIn t places) (w : Woven (at t) 
     unfolding addBehind
     add-new = both-second t i n (linkedTo (at t i) n e) (eventNode e i) places r g
 
-    pub add-woven : Woven (at (addBehind t i n e)) (n + 1)
+    pub add-indexed : Indexed (at (addBehind t i n e)) (n + 1)
     unfolding addBehind linkedTo eventNode
-    add-woven =
+    add-indexed =
         let f = fits-at w i (n + 1) h (omega arith) in
-        both-woven t i n (linkedTo (at t i) n e) (eventNode e i) places r w h g
+        both-indexed t i n (linkedTo (at t i) n e) (eventNode e i) places r w h g
         (record { next = omega arith; next-alt = f .next-alt; prev = f .prev; prev-alt = f .prev-alt; next-alt-rises = f .next-alt-rises; prev-alt-rises = f .prev-alt-rises })
         (record { next = omega arith; next-alt = omega arith; prev = omega arith; prev-alt = omega arith; next-alt-rises = λ o. omega arith; prev-alt-rises = λ o. omega arith })
 
@@ -128,11 +128,11 @@ module _ (t : Table) (i n places : ℕ) (r : RoomIn t places) (w : Woven (at t) 
     unfolding splitAt
     split-new = both-second t i n (alternating (at t i) n) (splitFake p i) places r g
 
-    pub split-woven : Woven (at (splitAt t i n p)) (n + 1)
+    pub split-indexed : Indexed (at (splitAt t i n p)) (n + 1)
     unfolding splitAt alternating splitFake
-    split-woven =
+    split-indexed =
         let f = fits-at w i (n + 1) h (omega arith) in
-        both-woven t i n (alternating (at t i) n) (splitFake p i) places r w h g
+        both-indexed t i n (alternating (at t i) n) (splitFake p i) places r w h g
         (record { next = f .next; next-alt = omega arith; prev = f .prev; prev-alt = f .prev-alt; next-alt-rises = λ o. h; prev-alt-rises = f .prev-alt-rises })
         (record { next = omega arith; next-alt = omega arith; prev = omega arith; prev-alt = omega arith; next-alt-rises = λ o. omega arith; prev-alt-rises = λ o. omega arith })
 

@@ -8,7 +8,7 @@ use lib.Dec.{eqb}
 use lib.Ieee.{Float}
 use Rattle.net_node.specs.declared.EstTime.{EstTime}
 use Rattle.net_node.specs.declared.TimedEvent.{TimedEvent}
-use Rattle.net_node.specs.Table.{Woven}
+use Rattle.net_node.specs.Table.{Indexed}
 use Rattle.net_insertion.specs.declared.Seek.{Seek}
 use Rattle.net_insertion.specs.declared.Seek.the-variants.{Open, Match, Split}
 use Rattle.net_insertion.specs.Insertion.{matches, found, seek}
@@ -32,7 +32,7 @@ seeking-start node n join e start h =
     record { left = n - 1; within = h; enough = omega arith; answer = ap (λ (k : ℕ). seek k node join e start) s }
 
 -- where node i was loaded as x
-module _ {node : ℕ → EstTime} {n : ℕ} {join : Float} {e : TimedEvent} {start i : ℕ} (w : Woven node n) (v : Seeking node n join e start i) (x : EstTime) (l : x ≡ node i) where
+module _ {node : ℕ → EstTime} {n : ℕ} {join : Float} {e : TimedEvent} {start i : ℕ} (w : Indexed node n) (v : Seeking node n join e start i) (x : EstTime) (l : x ≡ node i) where
   pub next-within : x .«idx_next» < n
   next-within = subst (λ (y : EstTime). y .«idx_next» < n) (sym l) (w .next i (v .within))
 
@@ -84,7 +84,7 @@ Found node n join e (Open i) = (i < n) × (node i .«idx_next» ≡ 0)
 Found node n join e (Match i) = (i < n) × ((0 < i) × (matches join e (node i) ≡ true))
 Found node n join e (Split i) = (i < n) × ((0 < node i .«idx_next») × (node i .«idx_next_alt» ≡ 0))
 
-pub seek-found : {node : ℕ → EstTime} {n : ℕ} → Woven node n → (k : ℕ) (join : Float) (e : TimedEvent) (i : ℕ) → i < n → n ≤ k + i → Found node n join e (seek k node join e i)
+pub seek-found : {node : ℕ → EstTime} {n : ℕ} → Indexed node n → (k : ℕ) (join : Float) (e : TimedEvent) (i : ℕ) → i < n → n ≤ k + i → Found node n join e (seek k node join e i)
 seek-found w zero join e i h g = absurd (omega arith)
 seek-found {node} {n} w (suc k) join e i h g =
     subst (Found node n join e) (sym (seek-turn k node join e i _ _ _ refl refl refl))
@@ -102,5 +102,5 @@ seek-found {node} {n} w (suc k) join e i h g =
     go false false true p q r later = (h, (some p, eqb-true (node i .«idx_next_alt») 0 r))
     go false false false p q r later = later r
 
-pub sought-found : (node : ℕ → EstTime) (n : ℕ) (join : Float) (e : TimedEvent) (start : ℕ) (s : Seek) → s ≡ seek n node join e start → Woven node n → start < n → Found node n join e s
+pub sought-found : (node : ℕ → EstTime) (n : ℕ) (join : Float) (e : TimedEvent) (start : ℕ) (s : Seek) → s ≡ seek n node join e start → Indexed node n → start < n → Found node n join e s
 sought-found node n join e start s f w h = subst (Found node n join e) (sym f) (seek-found w n join e start h (omega arith))

@@ -4,7 +4,7 @@ use net_node::TimedEvent;
 ghost use mathlib.Core.Path.{_≡_};
 ghost use Prim.Native.Nat.{_+_, _*_, _≤_, _<_};
 ghost use lib.ListN.{length};
-ghost use Rattle.net_node.specs.Table.{nodeAt, Room, Woven};
+ghost use Rattle.net_node.specs.Table.{nodeAt, Room, Indexed};
 ghost use Rattle.net_insertion.specs.Insertion.{matches, seek, linkedTo, eventNode, splitFake, alternating, addBehind, splitAt, placeAt, inserted, InsertedInto, flagged};
 
 // A run's place, the source's `est_alt`: a node, and the time and offset of the run's own event there.
@@ -49,7 +49,7 @@ fn seek_place(
 ) -> Seek
     requires { ⌜ Room (now floats) (now numbers) places ⌝ }
     requires { ⌜ n ≤ places ⌝ }
-    requires { ⌜ Woven (nodeAt (now floats) (now numbers)) n ⌝ }
+    requires { ⌜ Indexed (nodeAt (now floats) (now numbers)) n ⌝ }
     requires { ⌜ start < n ⌝ }
     ensures { λ r. ⌜ r ≡ seek n (nodeAt (now (floats .entry)) (now (numbers .entry))) join e start ⌝ }
 {
@@ -200,7 +200,7 @@ pub fn insert_est_time(
 ) -> Inserted
     requires { ⌜ Room (now floats) (now numbers) places ⌝ }
     requires { ⌜ n ≤ places ⌝ }
-    requires { ⌜ Woven (nodeAt (now floats) (now numbers)) n ⌝ }
+    requires { ⌜ Indexed (nodeAt (now floats) (now numbers)) n ⌝ }
     requires { ⌜ «est_alt» .«idx_prev» < n ⌝ }
     requires { ⌜ «ends_at» + n * 8 ≤ length (now cells) + 7 ⌝ }
     ensures answer { λ r. ⌜ r ≡ inserted (record { floats = now (floats .entry); numbers = now (numbers .entry) }) n places (flagged (now (cells .entry)) «ends_at») join «est_alt» «est_insert» ⌝ }

@@ -16,10 +16,10 @@ use Rattle.net_event_map.proofs.Kept.{all-are, walked, walked-end}
 use Rattle.net_strands.specs.declared.EstJoinPath.{EstJoinPath}
 use Rattle.net_strands.specs.declared.Count.{Count}
 use Rattle.net_strands.specs.declared.Count.the-variants.{Entries, Over}
-use Rattle.net_strands.specs.Entries.{entriesIn, andThen, Listed}
+use Rattle.net_strands.specs.Entries.{entriesIn, andThen, EntriesAs}
 use Rattle.net_strands.proofs.Entries.{listed-some, listed-none}
 use Rattle.net_joins.specs.Joins.{names, appendedIf, appendedAll}
-use Rattle.net_joins.specs.Marks.{Marked, Link, Chain, Ending}
+use Rattle.net_joins.specs.Marks.{NamesMarked, ChainLink, Chain, Ending}
 use Rattle.net_joins.proofs.Lists.{appended-longer}
 
 -- ---- chains
@@ -32,7 +32,7 @@ module _ (c : List ℕ) (w : Layout) where
   pub record Opened (i : ℕ) (nodes : List ℕ) : Type 0 where
     pub later : List ℕ
     pub is : nodes ≡ i ∷ later
-    pub link : Link (w .places) i (getD c (w .«nodes_at» + i * 8) 0)
+    pub link : ChainLink (w .places) i (getD c (w .«nodes_at» + i * 8) 0)
     pub chain : Chain c w (getD c (w .«nodes_at» + i * 8) 0) later
 
   -- from a node a chain goes on
@@ -41,7 +41,7 @@ module _ (c : List ℕ) (w : Layout) where
   chain-open i (j ∷ is) h g = record {
     later = is;
     is = ap (λ (k : ℕ). k ∷ is) (sym (h .0));
-    link = subst (λ (k : ℕ). Link (w .places) k (after k)) (sym (h .0)) (h .1 .0);
+    link = subst (λ (k : ℕ). ChainLink (w .places) k (after k)) (sym (h .0)) (h .1 .0);
     chain = subst (λ (k : ℕ). Chain c w (after k) is) (sym (h .0)) (h .1 .1);
   }
 
@@ -131,7 +131,7 @@ module _ {cells : List ℕ} {w : Layout} {l : ℕ} {list₀ : List ℕ} {count :
   abbrev goal : List ℕ → Option (List EstJoinPath)
   goal is = appendedAll (entriesIn list₀ count) l is (entriesIn list₀ count)
 
-  pub appending-whole : i ≡ 0 → (is : List ℕ) → Chain cells w (getD cells (w .«links_at» + l * 8) 0) is → Listed (goal is) list (Entries at)
+  pub appending-whole : i ≡ 0 → (is : List ℕ) → Chain cells w (getD cells (w .«links_at» + l * 8) 0) is → EntriesAs (goal is) list (Entries at)
   unfolding appendedAll
   appending-whole h is c = (
     ap goal (chain-one cells w (getD cells (w .«links_at» + l * 8) 0) is (v .all) c (v .from))
@@ -141,20 +141,20 @@ module _ {cells : List ℕ} {w : Layout} {l : ℕ} {list₀ : List ℕ} {count :
   )
 
   module _ (h : i ≡ 0 → ⊥) where
-    pub link-here : Link (w .places) i (getD cells (w .«nodes_at» + i * 8) 0)
+    pub link-here : ChainLink (w .places) i (getD cells (w .«nodes_at» + i * 8) 0)
     link-here = chain-open cells w i (v .rest) (v .chain) h .link
 
     pub turns-less : (next : ℕ) → next ≡ getD cells (w .«nodes_at» + i * 8) 0 → turns (w .places) next < turns (w .places) i
     turns-less next e = go next i e link-here
       where
-        go : (next i : ℕ) → next ≡ getD cells (w .«nodes_at» + i * 8) 0 → Link (w .places) i (getD cells (w .«nodes_at» + i * 8) 0) → turns (w .places) next < turns (w .places) i
+        go : (next i : ℕ) → next ≡ getD cells (w .«nodes_at» + i * 8) 0 → ChainLink (w .places) i (getD cells (w .«nodes_at» + i * 8) 0) → turns (w .places) next < turns (w .places) i
         go next zero e k = absurd (omega (arith, k .some))
         go zero (suc i) e k = omega (arith, k .placed)
         go (suc next) (suc i) e k =
             let r : suc i < suc next = subst (λ (x : ℕ). 0 < x → suc i < x) (sym e) (k .rises) (omega arith) in
             omega (arith, k .placed)
 
-    module _ (m : Marked cells w (entriesIn list₀ count)) (list′ : List ℕ) (r : Count) (p : Listed (appendedIf (not (eqb (getD cells (w .«nodes_at» + i * 8 + 1) 0) 0)) l i (entriesIn list at)) list′ r) (k : (j : ℕ) → j ≤ at → entriesIn list′ j ≡ entriesIn list j) where
+    module _ (m : NamesMarked cells w (entriesIn list₀ count)) (list′ : List ℕ) (r : Count) (p : EntriesAs (appendedIf (not (eqb (getD cells (w .«nodes_at» + i * 8 + 1) 0) 0)) l i (entriesIn list at)) list′ r) (k : (j : ℕ) → j ≤ at → entriesIn list′ j ≡ entriesIn list j) where
       abbrev named : Bool
       named = not (eqb (getD cells (w .«nodes_at» + i * 8 + 1) 0) 0)
 

@@ -3,10 +3,10 @@ use mathlib.Core.Path.{_≡_, refl, sym, ap, _∙_, subst}
 use Prim.Native.Nat.{ℕ, zero, suc, _+_, _-_, _≤_, _<_}
 use native.Mathlib.Omega.{arith}
 use Rattle.net_node.specs.declared.EstTime.{EstTime}
-use Rattle.net_node.specs.Table.{Woven}
-use Rattle.net_joins.specs.Joins.{endedAs, chainEnd}
+use Rattle.net_node.specs.Table.{Indexed}
+use Rattle.net_joins.specs.Joins.{chainEndAs, chainEnd}
 
-ended-on : (j i : ℕ) (f : ℕ → ℕ) → (j ≡ 0 → ⊥) → endedAs j i f ≡ f j
+ended-on : (j i : ℕ) (f : ℕ → ℕ) → (j ≡ 0 → ⊥) → chainEndAs j i f ≡ f j
 ended-on zero i f h = absurd (h refl)
 ended-on (suc j) i f h = refl
 
@@ -14,11 +14,11 @@ ended-on (suc j) i f h = refl
 module _ (k : ℕ) (node : ℕ → EstTime) (i : ℕ) (x : EstTime) (l : x ≡ node i) where
   chain-last : x .«idx_prev_alt» ≡ 0 → chainEnd (suc k) node i ≡ i
   unfolding chainEnd
-  chain-last h = ap (λ (j : ℕ). endedAs j i (chainEnd k node)) (ap (λ (y : EstTime). y .«idx_prev_alt») (sym l) ∙ h)
+  chain-last h = ap (λ (j : ℕ). chainEndAs j i (chainEnd k node)) (ap (λ (y : EstTime). y .«idx_prev_alt») (sym l) ∙ h)
 
   chain-on : (x .«idx_prev_alt» ≡ 0 → ⊥) → chainEnd (suc k) node i ≡ chainEnd k node (x .«idx_prev_alt»)
   unfolding chainEnd
-  chain-on h = ap (λ (y : EstTime). endedAs (y .«idx_prev_alt») i (chainEnd k node)) (sym l) ∙ ended-on (x .«idx_prev_alt») i (chainEnd k node) h
+  chain-on h = ap (λ (y : EstTime). chainEndAs (y .«idx_prev_alt») i (chainEnd k node)) (sym l) ∙ ended-on (x .«idx_prev_alt») i (chainEnd k node) h
 
 -- At node i there are turns left for every later node, and they give the end.
 pub record Following (node : ℕ → EstTime) (n start i : ℕ) : Type 0 where
@@ -32,7 +32,7 @@ following-start node n start h =
     let s : suc (n - 1) ≡ n = omega arith in
     record { left = n - 1; within = h; enough = omega arith; answer = ap (λ (k : ℕ). chainEnd k node start) s }
 
-module _ {node : ℕ → EstTime} {n start i : ℕ} (w : Woven node n) (v : Following node n start i) (x : EstTime) (l : x ≡ node i) where
+module _ {node : ℕ → EstTime} {n start i : ℕ} (w : Indexed node n) (v : Following node n start i) (x : EstTime) (l : x ≡ node i) where
   pub following-last : x .«idx_prev_alt» ≡ 0 → i ≡ chainEnd n node start
   following-last h = sym (chain-last (v .left) node i x l h) ∙ v .answer
 
@@ -61,16 +61,16 @@ pub record Last (node : ℕ → EstTime) (n i : ℕ) : Type 0 where
   pub within : i < n
   pub no-alt : node i .«idx_prev_alt» ≡ 0
 
-chain-from : {node : ℕ → EstTime} {n : ℕ} → Woven node n → (k i : ℕ) → i < n → n ≤ k + i → Last node n (chainEnd k node i)
+chain-from : {node : ℕ → EstTime} {n : ℕ} → Indexed node n → (k i : ℕ) → i < n → n ≤ k + i → Last node n (chainEnd k node i)
 unfolding chainEnd
 chain-from w zero i h g = absurd (omega arith)
 chain-from {node} {n} w (suc k) i h g = go (node i .«idx_prev_alt») refl (chain-from w k)
   where
-    go : (j : ℕ) → node i .«idx_prev_alt» ≡ j → ((i : ℕ) → i < n → n ≤ k + i → Last node n (chainEnd k node i)) → Last node n (endedAs j i (chainEnd k node))
+    go : (j : ℕ) → node i .«idx_prev_alt» ≡ j → ((i : ℕ) → i < n → n ≤ k + i → Last node n (chainEnd k node i)) → Last node n (chainEndAs j i (chainEnd k node))
     go zero e ih = record { within = h; no-alt = e }
     go (suc j) e ih =
         let p : 0 < node i .«idx_prev_alt» = omega arith in
         ih (suc j) (subst (λ (m : ℕ). m < n) e (w .prev-alt i h)) (omega (arith, e, w .prev-alt-rises i h p))
 
-pub chain-ends : {node : ℕ → EstTime} {n : ℕ} → Woven node n → (target : ℕ) → target < n → Last node n (chainEnd n node target)
+pub chain-ends : {node : ℕ → EstTime} {n : ℕ} → Indexed node n → (target : ℕ) → target < n → Last node n (chainEnd n node target)
 chain-ends {node} {n} w target h = chain-from w n target h (omega arith)

@@ -10,7 +10,7 @@ use Rattle.net_node.specs.declared.EstType.{EstType}
 use Rattle.net_node.specs.declared.EstType.the-variants.{Arrive, Clear, Fake}
 use Rattle.net_node.specs.declared.EstTime.{EstTime}
 use Rattle.net_node.specs.declared.TimedEvent.{TimedEvent}
-use Rattle.net_node.specs.Table.{kindNumber, sameEvent, nodeAt, putFloats, putNumbers, noLink, blank}
+use Rattle.net_node.specs.Table.{kindNumber, sameEvent, nodeAt, putFloats, putNumbers, noLinkEvent, blank}
 use Rattle.net_insertion.specs.Insertion.{Table, at, linkedTo}
 use Rattle.net_event_map.specs.EventMap.{seenIn, eventNodes}
 use Rattle.net_strands.specs.declared.EstJoinPath.{EstJoinPath}
@@ -122,7 +122,7 @@ record Examples : Type 0 where
   clear-appends : after Clear (entry 0 6 ∷ []) ≡ some (entry 0 6 ∷ [])
 
 examples : Examples
-unfolding joinStep joinedTable appended closest seenIn someBelow eventNodes extendedAll alternatives strands strandFrom push entry sameEvent at nodeAt putFloats putNumbers linkedTo joinedBy joinFake gap sub lt ofBits blank noLink
+unfolding joinStep joinedTable appended closest seenIn someBelow eventNodes extendedAll alternatives strands strandFrom push entry sameEvent at nodeAt putFloats putNumbers linkedTo joinedBy joinFake gap sub lt ofBits blank noLinkEvent
 examples = record {
   no-entries = refl;
   gap-of-J = refl;

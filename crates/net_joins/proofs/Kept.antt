@@ -1,4 +1,4 @@
--- What a caller may know of a step: what it joins or goes on with, which nodes a join writes and which it leaves alone, that the network stays woven, and that the cells still say what it has.
+-- What a caller may know of a step: what it joins or goes on with, which nodes a join writes and which it leaves alone, that the network stays indexed, and that the cells still say what it has.
 use mathlib.Core.Path.{_≡_, refl, sym, ap, _∙_, subst}
 use mathlib.Core.Logic.{_⊎_, inl, inr, _≢_}
 use mathlib.Core.Bool.{Bool, true, false, cond}
@@ -15,9 +15,9 @@ use Rattle.net_node.specs.declared.EstType.the-variants.{Fake}
 use Rattle.net_node.specs.declared.LinkEvent.{LinkEvent}
 use Rattle.net_node.specs.declared.EstTime.{EstTime}
 use Rattle.net_node.specs.declared.TimedEvent.{TimedEvent}
-use Rattle.net_node.specs.Table.{Woven}
+use Rattle.net_node.specs.Table.{Indexed}
 use Rattle.net_insertion.specs.Insertion.{Table, put, at, linkedTo}
-use Rattle.net_insertion.proofs.Puts.{RoomIn, put-room, put-same, put-other, Fits, fits-at, fits-woven, either}
+use Rattle.net_insertion.proofs.Puts.{RoomIn, put-room, put-same, put-other, Fits, fits-at, fits-indexed, either}
 use Rattle.net_event_map.specs.declared.Layout.{Layout}
 use Rattle.net_event_map.specs.EventMap.{seenIn, eventNodes, Mapped}
 use Rattle.net_event_map.proofs.Kept.{mapped-fake, mapped-same, event-nodes}
@@ -26,7 +26,7 @@ use Rattle.net_strands.specs.Entries.{entry, entriesIn, Valid}
 use Rattle.net_strands.specs.Space.{isArrive}
 use Rattle.net_strands.proofs.Kept.{Sound, Kept, kept-then, kept-push, space-kept}
 use Rattle.net_joins.specs.declared.Step.the-variants.{Joined, Waits}
-use Rattle.net_joins.specs.Joins.{closest, chainEnd, joinedBy, joinFake, joinAt, joinedTable, names, appendedIf, appendedAll, appended, rebuilt, JoinStep, JoinsTo, GoesOn, Beyond, goesOn, joinsIf, chosenAs, chosen, joinStep, StepAs, SteppedInto}
+use Rattle.net_joins.specs.Joins.{closest, chainEnd, joinedBy, joinFake, joinAt, joinedTable, names, appendedIf, appendedAll, appended, rebuilt, JoinStep, JoinsTo, GoesOn, Beyond, stepWith, joinsIf, chosenAs, chosen, joinStep, StepAs, SteppedInto}
 use Rattle.net_joins.proofs.Choosing.{closest-within}
 use Rattle.net_joins.proofs.Chains.{Last, chain-ends}
 
@@ -63,8 +63,8 @@ KeptStep n places (JoinsTo target) = Target n places target
 KeptStep n places (GoesOn es) = Sound n es
 KeptStep n places Beyond = Unit
 
-module _ {node : ℕ → EstTime} {n : ℕ} (w : Woven node n) (places : ℕ) (join : Float) (e : TimedEvent) where
-  kept-goes : (o : Option (List EstJoinPath)) → Kept n o → KeptStep n places (goesOn o)
+module _ {node : ℕ → EstTime} {n : ℕ} (w : Indexed node n) (places : ℕ) (join : Float) (e : TimedEvent) where
+  kept-goes : (o : Option (List EstJoinPath)) → Kept n o → KeptStep n places (stepWith o)
   kept-goes none v = tt
   kept-goes (some es) v = v
 
@@ -74,10 +74,10 @@ module _ {node : ℕ → EstTime} {n : ℕ} (w : Woven node n) (places : ℕ) (j
 
   kept-chosen : (o : Option (List EstJoinPath)) → Kept n o → KeptStep n places (chosen node n places join e o)
   kept-chosen none v = tt
-  kept-chosen (some es) v = go (lt (closest node join (e .speed) es .gap) join) refl
+  kept-chosen (some es) v = go (lt (closest node join (e .speed) es .«speed_diff_join») join) refl
     where
-      go : (b : Bool) → lt (closest node join (e .speed) es .gap) join ≡ b → KeptStep n places (chosenAs b (ltb n places) (closest node join (e .speed) es .node) (appended node n (e .«link_event») es))
-      go true h = kept-joins (closest node join (e .speed) es .node) (closest-within node join (e .speed) n es (v .valid) h) (ltb n places) refl
+      go : (b : Bool) → lt (closest node join (e .speed) es .«speed_diff_join») join ≡ b → KeptStep n places (chosenAs b (ltb n places) (closest node join (e .speed) es .«est_idx_join») (appended node n (e .«link_event») es))
+      go true h = kept-joins (closest node join (e .speed) es .«est_idx_join») (closest-within node join (e .speed) n es (v .valid) h) (ltb n places) refl
       go false h = kept-goes (appended node n (e .«link_event») es) (kept-appended node n (e .«link_event») es v)
 
   module _ (old : List EstJoinPath) (l : Valid old n) where
@@ -135,7 +135,7 @@ kept-put f t i x places j r h e = go (either j i)
     go (inl d) = ap (λ (k : ℕ). f (at (put t i x) k)) d ∙ ap f (put-same t i x places r h) ∙ e ∙ ap (λ (k : ℕ). f (at t k)) (sym d)
     go (inr d) = ap f (put-other t i x j d)
 
-module _ (t : Table) (n target places : ℕ) (e : TimedEvent) (r : RoomIn t places) (w : Woven (at t) n) (b : target < n) (g : n < places) where
+module _ (t : Table) (n target places : ℕ) (e : TimedEvent) (r : RoomIn t places) (w : Indexed (at t) n) (b : target < n) (g : n < places) where
   -- the end of the target's chain
   abbrev pub chainLast : ℕ
   chainLast = chainEnd n (at t) target
@@ -240,11 +240,11 @@ module _ (t : Table) (n target places : ℕ) (e : TimedEvent) (r : RoomIn t plac
       less : (j ≡ n → ⊥) → j < n
       less d = omega arith
 
-  pub joined-woven : Woven (at (joinedTable t n target e)) (n + 1)
+  pub joined-indexed : Indexed (at (joinedTable t n target e)) (n + 1)
   unfolding linkedTo
-  joined-woven =
+  joined-indexed =
       let f = two-fits (n - 1) (omega arith) in
-      subst (λ (s : Table). Woven (at s) (n + 1)) (sym table-is) (fits-woven (λ j h.
+      subst (λ (s : Table). Indexed (at s) (n + 1)) (sym table-is) (fits-indexed (λ j h.
       fits-put two (n - 1) (linkedTo (at two (n - 1)) n e) places (n + 1) j two-room (omega arith)
       (record { next = omega arith; next-alt = f .next-alt; prev = f .prev; prev-alt = f .prev-alt; next-alt-rises = f .next-alt-rises; prev-alt-rises = f .prev-alt-rises })
       (λ d. two-fits j h)))

@@ -14,7 +14,7 @@ use Rattle.net_event_map.proofs.Lists.{either}
 use Rattle.net_strands.specs.declared.EstJoinPath.{EstJoinPath}
 use Rattle.net_strands.specs.declared.Count.{Count}
 use Rattle.net_strands.specs.declared.Count.the-variants.{Entries, Over}
-use Rattle.net_strands.specs.Entries.{entry, entryAt, entriesIn, pushedAs, push, Listed}
+use Rattle.net_strands.specs.Entries.{entry, entryAt, entriesIn, pushedAs, push, EntriesAs}
 use Rattle.net_strands.proofs.Entries.{entries-count}
 use Rattle.net_joins.specs.Joins.{appendedIf}
 
@@ -70,7 +70,7 @@ unfolding push
 push-some es x h = ap (λ (b : Bool). pushedAs b es x) (lt-ltb (length es) 1024 h)
 
 -- the entries that were there stay
-pub push-stays : (s t : List ℕ) (n : ℕ) (x : EstJoinPath) (r : Count) → n ≤ 1024 → (n ≡ 1024 → ⊥) → Listed (push (entriesIn s n) x) t r → (k : ℕ) → k ≤ n → entriesIn t k ≡ entriesIn s k
+pub push-stays : (s t : List ℕ) (n : ℕ) (x : EstJoinPath) (r : Count) → n ≤ 1024 → (n ≡ 1024 → ⊥) → EntriesAs (push (entriesIn s n) x) t r → (k : ℕ) → k ≤ n → entriesIn t k ≡ entriesIn s k
 push-stays s t n x r h g l k b = go r l
   where
     es : List EstJoinPath
@@ -79,7 +79,7 @@ push-stays s t n x r h g l k b = go r l
     is : push es x ≡ some (es ++ (x ∷ []))
     is = push-some es x (omega (arith, entries-count s n))
 
-    go : (r : Count) → Listed (push es x) t r → entriesIn t k ≡ entriesIn s k
+    go : (r : Count) → EntriesAs (push es x) t r → entriesIn t k ≡ entriesIn s k
     go (Entries m) l =
         let e : es ++ (x ∷ []) ≡ entriesIn t m = ap (listOr []) (sym is ∙ l .0) in
         let c : length es + 1 ≡ length (entriesIn t m) = sym (length-append es (x ∷ [])) ∙ ap length e in

@@ -10,13 +10,13 @@ use lib.Dec.{eqb}
 use lib.ListN.{length, getD, set, length-set}
 use lib.Seq.{getD-set-same, getD-set-other, ext-getD}
 use Rattle.net_event_map.specs.declared.Layout.{Layout}
-use Rattle.net_event_map.specs.EventMap.{bit, Apart}
+use Rattle.net_event_map.specs.EventMap.{bit, CellsApart}
 use Rattle.net_event_map.proofs.Lists.{known, not-both}
 use Rattle.net_strands.specs.declared.EstJoinPath.{EstJoinPath}
 use Rattle.net_strands.specs.Entries.{entryAt, entriesIn, nodeOf, Valid}
 use Rattle.net_strands.proofs.Entries.{entries-more}
 use Rattle.net_joins.specs.Joins.{names}
-use Rattle.net_joins.specs.Marks.{marks, Marked}
+use Rattle.net_joins.specs.Marks.{marks, NamesMarked}
 
 -- ---- the loop
 
@@ -134,7 +134,7 @@ module _ (base : ℕ) where
 
 -- ---- for cells without marks
 
-module _ {c : List ℕ} {w : Layout} {es : List EstJoinPath} (p : Apart c w) (v : Valid es (w .places)) where
+module _ {c : List ℕ} {w : Layout} {es : List EstJoinPath} (p : CellsApart c w) (v : Valid es (w .places)) where
   -- a cell that is no place's mark stays
   stays : (m q : ℕ) → ((i : ℕ) → i < w .places → q ≡ w .«nodes_at» + i * 8 + 1 → ⊥) → getD (marks (w .«nodes_at») m es c) q 0 ≡ getD c q 0
   stays m q h = marks-miss (w .«nodes_at») m es c q (go (known (hits (w .«nodes_at») es q)))
@@ -150,7 +150,7 @@ module _ {c : List ℕ} {w : Layout} {es : List EstJoinPath} (p : Apart c w) (v 
   first-stays m l = stays m (w .«links_at» + l * 8) (λ j h e. omega (arith, p .apart))
 
   module _ (u : (i : ℕ) → i < w .places → getD c (w .«nodes_at» + i * 8 + 1) 0 ≡ 0) where
-    pub marked-all : Marked (marks (w .«nodes_at») 1 es c) w es
+    pub marked-all : NamesMarked (marks (w .«nodes_at») 1 es c) w es
     marked-all = record { is = λ i h. go i h (known (names es i)) }
       where
         go : (i : ℕ) → i < w .places → (names es i ≡ true) ⊎ (names es i ≡ false) → getD (marks (w .«nodes_at») 1 es c) (w .«nodes_at» + i * 8 + 1) 0 ≡ bit (names es i)

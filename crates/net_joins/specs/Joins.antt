@@ -16,42 +16,42 @@ use Rattle.net_event_map.specs.EventMap.{seenIn, eventNodes}
 use Rattle.net_strands.specs.declared.EstJoinPath.{EstJoinPath}
 use Rattle.net_strands.specs.Entries.{entry, push, andThen, entriesIn}
 use Rattle.net_strands.specs.Space.{isArrive, extendedAll}
-use Rattle.net_joins.specs.declared.Closest.{Closest}
+use Rattle.net_joins.specs.declared.SpeedJoin.{SpeedJoin}
 use Rattle.net_joins.specs.declared.Step.{Step}
 use Rattle.net_joins.specs.declared.Step.the-variants.{Joined, Waits, Refused}
 
 -- ---- "Of entries with m = 0 the first with the smallest gap, strictly below J, is joined"
 
-abbrev pub closerAs : Bool → Closest → Float → ℕ → Closest
-closerAs true best g e = record { gap = g; node = e }
+abbrev pub closerAs : Bool → SpeedJoin → Float → ℕ → SpeedJoin
+closerAs true best g e = record { «speed_diff_join» = g; «est_idx_join» = e }
 closerAs false best g e = best
 
 -- the better of the best so far and one more entry
-unfoldable pub closer : (ℕ → EstTime) → Float → Closest → EstJoinPath → Closest
+unfoldable pub closer : (ℕ → EstTime) → Float → SpeedJoin → EstJoinPath → SpeedJoin
 closer node speed best x =
     let g = gap (node (x .«est_idx_next») .speed) speed in
-    closerAs (eqb (x .«link_idx_match») 0 && lt g (best .gap)) best g (x .«est_idx_next»)
+    closerAs (eqb (x .«link_idx_match») 0 && lt g (best .«speed_diff_join»)) best g (x .«est_idx_next»)
 
-unfoldable pub closestOf : (ℕ → EstTime) → Float → Closest → List EstJoinPath → Closest
+unfoldable pub closestOf : (ℕ → EstTime) → Float → SpeedJoin → List EstJoinPath → SpeedJoin
 unfolding closer
 closestOf node speed best [] = best
 closestOf node speed best (x ∷ xs) = closestOf node speed (closer node speed best x) xs
 
 -- the source begins with J and no node
-unfoldable pub closest : (ℕ → EstTime) → Float → Float → List EstJoinPath → Closest
+unfoldable pub closest : (ℕ → EstTime) → Float → Float → List EstJoinPath → SpeedJoin
 unfolding closestOf
-closest node join speed es = closestOf node speed (record { gap = join; node = 0 }) es
+closest node join speed es = closestOf node speed (record { «speed_diff_join» = join; «est_idx_join» = 0 }) es
 
 -- ---- "the last node links through a new Fake at the end of the target's previous-alternative chain"
 
-abbrev pub endedAs : ℕ → ℕ → (ℕ → ℕ) → ℕ
-endedAs zero i f = i
-endedAs (suc j) i f = f (suc j)
+abbrev pub chainEndAs : ℕ → ℕ → (ℕ → ℕ) → ℕ
+chainEndAs zero i f = i
+chainEndAs (suc j) i f = f (suc j)
 
 -- from node i along the previous alternatives, for so many of them
 unfoldable pub chainEnd : ℕ → (ℕ → EstTime) → ℕ → ℕ
 chainEnd zero node i = i
-chainEnd (suc k) node i = endedAs (node i .«idx_prev_alt») i (chainEnd k node)
+chainEnd (suc k) node i = chainEndAs (node i .«idx_prev_alt») i (chainEnd k node)
 
 -- a node whose previous alternative is set
 unfoldable pub joinedBy : EstTime → ℕ → EstTime
@@ -126,9 +126,9 @@ pub data JoinStep : Type 0 where
   GoesOn : List EstJoinPath → JoinStep
   Beyond : JoinStep
 
-abbrev pub goesOn : Option (List EstJoinPath) → JoinStep
-goesOn none = Beyond
-goesOn (some es) = GoesOn es
+abbrev pub stepWith : Option (List EstJoinPath) → JoinStep
+stepWith none = Beyond
+stepWith (some es) = GoesOn es
 
 -- a join needs a place for its Fake
 abbrev pub joinsIf : Bool → ℕ → JoinStep
@@ -138,13 +138,13 @@ joinsIf false target = Beyond
 -- by whether the smallest gap is below J and whether there is room
 abbrev pub chosenAs : Bool → Bool → ℕ → Option (List EstJoinPath) → JoinStep
 chosenAs true room target list = joinsIf room target
-chosenAs false room target list = goesOn list
+chosenAs false room target list = stepWith list
 
 abbrev pub chosen : (ℕ → EstTime) → ℕ → ℕ → Float → TimedEvent → Option (List EstJoinPath) → JoinStep
 chosen node n places join e none = Beyond
 chosen node n places join e (some es) =
     let best = closest node join (e .speed) es in
-    chosenAs (lt (best .gap) join) (ltb n places) (best .node) (appended node n (e .«link_event») es)
+    chosenAs (lt (best .«speed_diff_join») join) (ltb n places) (best .«est_idx_join») (appended node n (e .«link_event») es)
 
 unfoldable pub joinStep : (ℕ → EstTime) → ℕ → ℕ → Float → TimedEvent → List EstJoinPath → JoinStep
 unfolding closest appended rebuilt

@@ -15,18 +15,18 @@ marks base v [] cells = cells
 marks base v (x ∷ xs) cells = marks base v xs (set cells (base + x .«est_idx_next» * 8 + 1) v)
 
 -- the marks of all places tell which a list names
-pub record Marked (cells : List ℕ) (w : Layout) (es : List EstJoinPath) : Type 0 where
+pub record NamesMarked (cells : List ℕ) (w : Layout) (es : List EstJoinPath) : Type 0 where
   pub is : (i : ℕ) → i < w .places → getD cells (w .«nodes_at» + i * 8 + 1) 0 ≡ bit (names es i)
 
 -- The cells lead from i along these nodes, which rise, to 0.
-pub record Link (places i next : ℕ) : Type 0 where
+pub record ChainLink (places i next : ℕ) : Type 0 where
   pub some : 0 < i
   pub placed : i < places
   pub rises : 0 < next → i < next
 
 abbrev pub Chain : List ℕ → Layout → ℕ → List ℕ → Type 0
 Chain cells w i [] = i ≡ 0
-Chain cells w i (j ∷ is) = (i ≡ j) × (Link (w .places) j (getD cells (w .«nodes_at» + j * 8) 0) × Chain cells w (getD cells (w .«nodes_at» + j * 8) 0) is)
+Chain cells w i (j ∷ is) = (i ≡ j) × (ChainLink (w .places) j (getD cells (w .«nodes_at» + j * 8) 0) × Chain cells w (getD cells (w .«nodes_at» + j * 8) 0) is)
 
 -- they lead from i to an end
 pub record Ending (cells : List ℕ) (w : Layout) (i : ℕ) : Type 0 where
@@ -34,7 +34,7 @@ pub record Ending (cells : List ℕ) (w : Layout) (i : ℕ) : Type 0 where
   pub chain : Chain cells w i nodes
 
 -- they are the map of some network
-pub record Walkable (cells : List ℕ) (w : Layout) : Type 0 where
+pub record MapWalkable (cells : List ℕ) (w : Layout) : Type 0 where
   pub node : ℕ → EstTime
   pub n : ℕ
   pub inside : n ≤ w .places

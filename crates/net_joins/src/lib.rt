@@ -11,17 +11,17 @@ ghost use Prim.Native.Nat.{ℕ, _+_, _*_, _≤_, _<_};
 ghost use lib.Dec.{ltb};
 ghost use lib.ListN.{length, getD};
 ghost use Rattle.net_node.specs.declared.EstTime.{EstTime};
-ghost use Rattle.net_node.specs.Table.{nodeAt, Room, Woven};
+ghost use Rattle.net_node.specs.Table.{nodeAt, Room, Indexed};
 ghost use Rattle.net_insertion.specs.Insertion.{Table};
-ghost use Rattle.net_event_map.specs.EventMap.{Apart, Mapped, Real};
-ghost use Rattle.net_strands.specs.Entries.{entriesIn, Listed, Valid};
-ghost use Rattle.net_joins.specs.Joins.{closer, closest, chainEnd, joinedBy, joinFake, joinAt, joinedTable, appendedIf, appendedAll, appended, joinsIf, goesOn, joinStep, StepAs, SteppedInto, CellsAs};
-ghost use Rattle.net_joins.specs.Marks.{marks, Marked, Chain, Ending, Walkable};
+ghost use Rattle.net_event_map.specs.EventMap.{CellsApart, Mapped, Real};
+ghost use Rattle.net_strands.specs.Entries.{entriesIn, EntriesAs, Valid};
+ghost use Rattle.net_joins.specs.Joins.{closer, closest, chainEnd, joinedBy, joinFake, joinAt, joinedTable, appendedIf, appendedAll, appended, joinsIf, stepWith, joinStep, StepAs, SteppedInto, CellsAs};
+ghost use Rattle.net_joins.specs.Marks.{marks, NamesMarked, Chain, Ending, MapWalkable};
 
 // The smallest gap of speeds so far, and its node.
-pub struct Closest {
-    pub gap: f64,
-    pub node: u32,
+pub struct SpeedJoin {
+    pub speed_diff_join: f64,
+    pub est_idx_join: u32,
 }
 
 // What becomes of a run at an event: it has joined a node, it goes on with so many entries, or a refusal's number.
@@ -32,14 +32,14 @@ pub enum Step {
 }
 
 // The better of the best so far and one more entry, whose node is given.
-pub fn closer_of(best: Closest, x: EstJoinPath, node: EstTime, speed: f64) -> Closest
+pub fn closer_of(best: SpeedJoin, x: EstJoinPath, node: EstTime, speed: f64) -> SpeedJoin
     ensures { λ r. ⌜ ((nodes : ℕ → EstTime) → node ≡ nodes (x .«est_idx_next») → r ≡ closer nodes speed best x) ⌝ }
 {
-    let gap = floats::speed_gap(node.speed, speed);
-    if (x.link_idx_match == 0) & (gap < best.gap) {
-        return Closest {
-            gap,
-            node: x.est_idx_next,
+    let speed_diff = floats::speed_gap(node.speed, speed);
+    if (x.link_idx_match == 0) & (speed_diff < best.speed_diff_join) {
+        return SpeedJoin {
+            speed_diff_join: speed_diff,
+            est_idx_join: x.est_idx_next,
         };
     }
     best
@@ -54,14 +54,17 @@ fn closest_entry(
     count: usize,
     join: f64,
     speed: f64,
-) -> Closest
+) -> SpeedJoin
     requires { ⌜ Room (now floats) (now numbers) nodes ⌝ }
     requires { ⌜ Valid (entriesIn (now list) count) nodes ⌝ }
     requires { ⌜ count ≤ 1024 ⌝ }
     requires { ⌜ 2048 ≤ length (now list) ⌝ }
     ensures { λ r. ⌜ r ≡ closest (nodeAt (now (floats .entry)) (now (numbers .entry))) join speed (entriesIn (now (list .entry)) count) ⌝ }
 {
-    let mut best = Closest { gap: join, node: 0 };
+    let mut best = SpeedJoin {
+        speed_diff_join: join,
+        est_idx_join: 0,
+    };
     let mut k = 0;
     while k < count {
         let x = net_strands::entry_at(list, k);
@@ -75,7 +78,7 @@ fn closest_entry(
 // From a node along the previous alternatives to the last of them.
 fn chain_end(floats: &[f64], numbers: &[u32], nodes: usize, start: u32) -> u32
     requires { ⌜ Room (now floats) (now numbers) nodes ⌝ }
-    requires { ⌜ Woven (nodeAt (now floats) (now numbers)) nodes ⌝ }
+    requires { ⌜ Indexed (nodeAt (now floats) (now numbers)) nodes ⌝ }
     requires { ⌜ start < nodes ⌝ }
     ensures { λ r. ⌜ r ≡ chainEnd nodes (nodeAt (now (floats .entry)) (now (numbers .entry))) start ⌝ }
 {
@@ -156,7 +159,7 @@ fn perform_speed_join(
 )
     requires { ⌜ Room (now floats) (now numbers) places ⌝ }
     requires { ⌜ n < places ⌝ }
-    requires { ⌜ Woven (nodeAt (now floats) (now numbers)) n ⌝ }
+    requires { ⌜ Indexed (nodeAt (now floats) (now numbers)) n ⌝ }
     requires { ⌜ target < n ⌝ }
     ensures floats { λ _. ⌜ now (floats .exit) ≡ joinedTable (record { floats = now (floats .entry); numbers = now (numbers .entry) }) n target «est_time_add» .floats ⌝ }
     ensures numbers { λ _. ⌜ now (numbers .exit) ≡ joinedTable (record { floats = now (floats .entry); numbers = now (numbers .entry) }) n target «est_time_add» .numbers ⌝ }
@@ -167,7 +170,7 @@ fn perform_speed_join(
 
 // Sets the mark of each node that a list names.
 fn set_marks(cells: &mut [u32], w: Layout, list: &[u32], count: usize, mark: u32)
-    requires { ⌜ Apart (now cells) w ⌝ }
+    requires { ⌜ CellsApart (now cells) w ⌝ }
     requires { ⌜ count ≤ 1024 ⌝ }
     requires { ⌜ 2048 ≤ length (now list) ⌝ }
     requires { ⌜ Valid (entriesIn (now list) count) (w .places) ⌝ }
@@ -185,7 +188,7 @@ fn set_marks(cells: &mut [u32], w: Layout, list: &[u32], count: usize, mark: u32
 fn append_unless(named: bool, list: &mut [u32], n: usize, link_idx: u32, i: u32) -> Count
     requires { ⌜ 2048 ≤ length (now list) ⌝ }
     requires { ⌜ n ≤ 1024 ⌝ }
-    ensures list { λ r. ⌜ Listed (appendedIf named «link_idx» i (entriesIn (now (list .entry)) n)) (now (list .exit)) r ⌝ }
+    ensures list { λ r. ⌜ EntriesAs (appendedIf named «link_idx» i (entriesIn (now (list .entry)) n)) (now (list .exit)) r ⌝ }
     ensures kept { λ _. ⌜ ((k : ℕ) → k ≤ n → entriesIn (now (list .exit)) k ≡ entriesIn (now (list .entry)) k) ⌝ }
 {
     if named {
@@ -203,13 +206,13 @@ fn append_unless(named: bool, list: &mut [u32], n: usize, link_idx: u32, i: u32)
 
 // Appends the nodes of a link's Arrive that are not marked. The entries that were there stay.
 fn append_unmarked(cells: &[u32], w: Layout, link_idx: u32, list: &mut [u32], count: usize) -> Count
-    requires { ⌜ Apart (now cells) w ⌝ }
+    requires { ⌜ CellsApart (now cells) w ⌝ }
     requires { ⌜ «link_idx» < w .links ⌝ }
     requires { ⌜ Ending (now cells) w (getD (now cells) (w .«links_at» + «link_idx» * 8) 0) ⌝ }
-    requires { ⌜ Marked (now cells) w (entriesIn (now list) count) ⌝ }
+    requires { ⌜ NamesMarked (now cells) w (entriesIn (now list) count) ⌝ }
     requires { ⌜ 2048 ≤ length (now list) ⌝ }
     requires { ⌜ count ≤ 1024 ⌝ }
-    ensures list { λ r. ⌜ ((is : List ℕ) → Chain (now (cells .entry)) w (getD (now (cells .entry)) (w .«links_at» + «link_idx» * 8) 0) is → Listed (appendedAll (entriesIn (now (list .entry)) count) «link_idx» is (entriesIn (now (list .entry)) count)) (now (list .exit)) r) ⌝ }
+    ensures list { λ r. ⌜ ((is : List ℕ) → Chain (now (cells .entry)) w (getD (now (cells .entry)) (w .«links_at» + «link_idx» * 8) 0) is → EntriesAs (appendedAll (entriesIn (now (list .entry)) count) «link_idx» is (entriesIn (now (list .entry)) count)) (now (list .exit)) r) ⌝ }
     ensures kept { λ _. ⌜ entriesIn (now (list .exit)) count ≡ entriesIn (now (list .entry)) count ⌝ }
 {
     let mut i = net_event_map::first_node(cells, w, link_idx);
@@ -233,13 +236,13 @@ fn add_new_join_paths(
     list: &mut [u32],
     count: usize,
 ) -> Count
-    requires { ⌜ Apart (now cells) w ⌝ }
+    requires { ⌜ CellsApart (now cells) w ⌝ }
     requires { ⌜ Real event (w .links) ⌝ }
     requires { ⌜ count ≤ 1024 ⌝ }
     requires { ⌜ 2048 ≤ length (now list) ⌝ }
     requires { ⌜ Valid (entriesIn (now list) count) (w .places) ⌝ }
-    requires { ⌜ Walkable (now cells) w ⌝ }
-    ensures list { λ r. ⌜ ((node : ℕ → EstTime) (n : ℕ) → n ≤ w .places → Mapped (now (cells .entry)) w node n → Listed (appended node n event (entriesIn (now (list .entry)) count)) (now (list .exit)) r) ⌝ }
+    requires { ⌜ MapWalkable (now cells) w ⌝ }
+    ensures list { λ r. ⌜ ((node : ℕ → EstTime) (n : ℕ) → n ≤ w .places → Mapped (now (cells .entry)) w node n → EntriesAs (appended node n event (entriesIn (now (list .entry)) count)) (now (list .exit)) r) ⌝ }
     ensures cells { λ _. ⌜ ((node : ℕ → EstTime) (n : ℕ) → Mapped (now (cells .entry)) w node n → now (cells .exit) ≡ now (cells .entry)) ⌝ }
 {
     let kind = event.est_type;
@@ -278,7 +281,7 @@ fn join_target(
     est_time_add: TimedEvent,
 ) -> Step
     requires { ⌜ Room (now floats) (now numbers) places ⌝ }
-    requires { ⌜ Woven (nodeAt (now floats) (now numbers)) n ⌝ }
+    requires { ⌜ Indexed (nodeAt (now floats) (now numbers)) n ⌝ }
     requires { ⌜ target < n ⌝ }
     ensures answer { λ r. ⌜ ((slice : List ℕ) → StepAs (joinsIf (ltb n places) target) slice r) ⌝ }
     ensures table { λ r. ⌜ SteppedInto (record { floats = now (floats .entry); numbers = now (numbers .entry) }) n «est_time_add» (now (floats .exit)) (now (numbers .exit)) r ⌝ }
@@ -299,14 +302,14 @@ fn go_on(
     count: usize,
     joins: &mut [u32],
 ) -> Step
-    requires { ⌜ Apart (now cells) w ⌝ }
+    requires { ⌜ CellsApart (now cells) w ⌝ }
     requires { ⌜ Real event (w .links) ⌝ }
     requires { ⌜ count ≤ 1024 ⌝ }
     requires { ⌜ 2048 ≤ length (now scratch) ⌝ }
     requires { ⌜ 2048 ≤ length (now joins) ⌝ }
     requires { ⌜ Valid (entriesIn (now scratch) count) (w .places) ⌝ }
-    requires { ⌜ Walkable (now cells) w ⌝ }
-    ensures answer { λ r. ⌜ ((node : ℕ → EstTime) (n : ℕ) → n ≤ w .places → Mapped (now (cells .entry)) w node n → StepAs (goesOn (appended node n event (entriesIn (now (scratch .entry)) count))) (now (joins .exit)) r) ⌝ }
+    requires { ⌜ MapWalkable (now cells) w ⌝ }
+    ensures answer { λ r. ⌜ ((node : ℕ → EstTime) (n : ℕ) → n ≤ w .places → Mapped (now (cells .entry)) w node n → StepAs (stepWith (appended node n event (entriesIn (now (scratch .entry)) count))) (now (joins .exit)) r) ⌝ }
     ensures cells { λ _. ⌜ ((node : ℕ → EstTime) (n : ℕ) → Mapped (now (cells .entry)) w node n → now (cells .exit) ≡ now (cells .entry)) ⌝ }
 {
     let appended = add_new_join_paths(cells, w, event, scratch, count);
@@ -334,8 +337,8 @@ pub fn join_step(
     requires { ⌜ Room (now floats) (now numbers) (w .places) ⌝ }
     requires { ⌜ n ≤ w .places ⌝ }
     requires { ⌜ 1 ≤ n ⌝ }
-    requires { ⌜ Woven (nodeAt (now floats) (now numbers)) n ⌝ }
-    requires { ⌜ Apart (now cells) w ⌝ }
+    requires { ⌜ Indexed (nodeAt (now floats) (now numbers)) n ⌝ }
+    requires { ⌜ CellsApart (now cells) w ⌝ }
     requires { ⌜ Mapped (now cells) w (nodeAt (now floats) (now numbers)) n ⌝ }
     requires { ⌜ Real («est_time_add» .«link_event») (w .links) ⌝ }
     requires { ⌜ count ≤ 1024 ⌝ }
@@ -364,8 +367,15 @@ pub fn join_step(
         return Step::Refused(12);
     };
     let best = closest_entry(floats, numbers, n, scratch, k, join, est_time_add.speed);
-    if best.gap < join {
-        return join_target(floats, numbers, n, w.places, best.node, est_time_add);
+    if best.speed_diff_join < join {
+        return join_target(
+            floats,
+            numbers,
+            n,
+            w.places,
+            best.est_idx_join,
+            est_time_add,
+        );
     }
     go_on(cells, w, event, scratch, k, joins)
 }

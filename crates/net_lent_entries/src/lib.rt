@@ -1,5 +1,5 @@
 // The choice among join entries that are lent as a list of entries. Contracts: net_joins' specs/Joins.antt.
-use net_joins::Closest;
+use net_joins::SpeedJoin;
 use net_strands::EstJoinPath;
 ghost use mathlib.Core.Path.{_≡_};
 ghost use Prim.Native.Nat.{_+_, _*_, _≤_};
@@ -9,7 +9,13 @@ ghost use Rattle.net_strands.specs.Entries.{Valid};
 ghost use Rattle.net_joins.specs.Joins.{closer, closest};
 
 // The better of the best so far and one more entry.
-fn closer_at(floats: &[f64], numbers: &[u32], best: Closest, x: EstJoinPath, speed: f64) -> Closest
+fn closer_at(
+    floats: &[f64],
+    numbers: &[u32],
+    best: SpeedJoin,
+    x: EstJoinPath,
+    speed: f64,
+) -> SpeedJoin
     requires { ⌜ x .«est_idx_next» * 4 + 4 ≤ length (now floats) ⌝ }
     requires { ⌜ x .«est_idx_next» * 6 + 6 ≤ length (now numbers) ⌝ }
     ensures { λ r. ⌜ r ≡ closer (nodeAt (now (floats .entry)) (now (numbers .entry))) speed best x ⌝ }
@@ -26,12 +32,15 @@ pub fn closest_of(
     entries: &[EstJoinPath],
     join: f64,
     speed: f64,
-) -> Closest
+) -> SpeedJoin
     requires { ⌜ Room (now floats) (now numbers) nodes ⌝ }
     requires { ⌜ Valid (now entries) nodes ⌝ }
     ensures { λ r. ⌜ r ≡ closest (nodeAt (now (floats .entry)) (now (numbers .entry))) join speed (now (entries .entry)) ⌝ }
 {
-    let mut best = Closest { gap: join, node: 0 };
+    let mut best = SpeedJoin {
+        speed_diff_join: join,
+        est_idx_join: 0,
+    };
     let mut k = 0;
     while k < entries.len() {
         let x = entries[k];

@@ -5,7 +5,7 @@ use net_node::TimedEvent;
 ghost use mathlib.Core.Path.{_≡_};
 ghost use Prim.Native.Nat.{_+_, _*_, _≤_, _<_};
 ghost use lib.ListN.{length};
-ghost use Rattle.net_node.specs.Table.{nodeAt, Room, Woven};
+ghost use Rattle.net_node.specs.Table.{nodeAt, Room, Indexed};
 ghost use Rattle.net_insertion.specs.Insertion.{inserted, InsertedInto, flagged};
 ghost use Rattle.net_lent_place.specs.LentPlace.{placeAfter};
 
@@ -34,7 +34,7 @@ pub fn insert_est_time(
 ) -> Inserted
     requires { ⌜ Room (now floats) (now numbers) places ⌝ }
     requires { ⌜ n ≤ places ⌝ }
-    requires { ⌜ Woven (nodeAt (now floats) (now numbers)) n ⌝ }
+    requires { ⌜ Indexed (nodeAt (now floats) (now numbers)) n ⌝ }
     requires { ⌜ now «est_alt» .«idx_prev» < n ⌝ }
     requires { ⌜ «ends_at» + n * 8 ≤ length (now cells) + 7 ⌝ }
     ensures answer { λ r. ⌜ r ≡ inserted (record { floats = now (floats .entry); numbers = now (numbers .entry) }) n places (flagged (now (cells .entry)) «ends_at») join (now («est_alt» .entry)) «est_insert» ⌝ }

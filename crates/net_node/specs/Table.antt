@@ -53,11 +53,11 @@ putNumbers us i n =
     set (set (set (set (set (set us (i * 6) (n .«idx_next»)) (i * 6 + 1) (n .«idx_next_alt»)) (i * 6 + 2) (n .«idx_prev»)) (i * 6 + 3) (n .«idx_prev_alt»)) (i * 6 + 4) (n .«link_event» .«link_idx»)) (i * 6 + 5) (kindNumber (n .«link_event» .«est_type»))
 
 -- "The blank node and the no-link event are named constants of their records": the source's defaults, with a time of 0, since untimed is a state of its own
-unfoldable pub noLink : LinkEvent
-noLink = record { «link_idx» = 0; «est_type» = Fake }
+unfoldable pub noLinkEvent : LinkEvent
+noLinkEvent = record { «link_idx» = 0; «est_type» = Fake }
 
 unfoldable pub blank : EstTime
-unfolding noLink
+unfolding noLinkEvent
 blank = record {
   «time_sched» = ofBits binary64 0;
   «time_to_next» = ofBits binary64 0;
@@ -67,7 +67,7 @@ blank = record {
   «idx_next_alt» = 0;
   «idx_prev» = 0;
   «idx_prev_alt» = 0;
-  «link_event» = noLink;
+  «link_event» = noLinkEvent;
 }
 
 -- ---- what a network under growth keeps
@@ -79,7 +79,7 @@ pub record Room (fs : List Float) (us : List ℕ) (places : ℕ) : Type 0 where
   pub most : places ≤ 65535
 
 -- Of the first n nodes each index names one of them, and an alternative names a later one, 0 being none.
-pub record Woven (node : ℕ → EstTime) (n : ℕ) : Type 0 where
+pub record Indexed (node : ℕ → EstTime) (n : ℕ) : Type 0 where
   pub next : (i : ℕ) → i < n → node i .«idx_next» < n
   pub next-alt : (i : ℕ) → i < n → node i .«idx_next_alt» < n
   pub prev : (i : ℕ) → i < n → node i .«idx_prev» < n

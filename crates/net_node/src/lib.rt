@@ -2,7 +2,7 @@
 ghost use mathlib.Core.Path.{_≡_};
 ghost use Prim.Native.Nat.{_+_, _*_, _≤_};
 ghost use lib.ListN.{length};
-ghost use Rattle.net_node.specs.Table.{kindOf, kindNumber, sameKind, sameEvent, nodeAt, putFloats, putNumbers, noLink, blank};
+ghost use Rattle.net_node.specs.Table.{kindOf, kindNumber, sameKind, sameEvent, nodeAt, putFloats, putNumbers, noLinkEvent, blank};
 
 // Type of an estimated time node: the train arrives at the entry point of a link, clears it, or the node only links alternatives.
 pub enum EstType {
@@ -66,7 +66,7 @@ impl EstTime {
 
 // The event of a Fake.
 pub fn no_link_event() -> LinkEvent
-    ensures { λ r. ⌜ r ≡ noLink ⌝ }
+    ensures { λ r. ⌜ r ≡ noLinkEvent ⌝ }
 {
     LinkEvent::NO_LINK
 }

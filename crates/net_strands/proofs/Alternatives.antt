@@ -9,11 +9,11 @@ use borrow.Author.Tests.{eq-eqb, ne-eqb}
 use lib.Dec.{eqb}
 use Rattle.net_node.specs.declared.LinkEvent.{LinkEvent}
 use Rattle.net_node.specs.declared.EstTime.{EstTime}
-use Rattle.net_node.specs.Table.{sameEvent, Woven}
+use Rattle.net_node.specs.Table.{sameEvent, Indexed}
 use Rattle.net_strands.specs.declared.EstJoinPath.{EstJoinPath}
 use Rattle.net_strands.specs.declared.Count.{Count}
 use Rattle.net_strands.specs.declared.Count.the-variants.{Entries, Over}
-use Rattle.net_strands.specs.Entries.{entry, entriesIn, andThen, Listed}
+use Rattle.net_strands.specs.Entries.{entry, entriesIn, andThen, EntriesAs}
 use Rattle.net_strands.specs.Space.{pushedIf, onward, alternatives}
 use Rattle.net_strands.proofs.Entries.{listed-some, listed-none}
 
@@ -38,7 +38,7 @@ following-start node nodes e m start list n h g =
     record { left = nodes - 1; answer = ap (λ (k : ℕ). alternatives k node e m start (entriesIn list n)) s; within = h; enough = omega arith; few = g }
 
 -- where node i was loaded as x
-module _ {node : ℕ → EstTime} {nodes : ℕ} {e : LinkEvent} {m : ℕ} {goal : Option (List EstJoinPath)} {list : List ℕ} {i at : ℕ} (w : Woven node nodes) (v : Following node nodes e m goal list i at) (x : EstTime) (l : x ≡ node i) where
+module _ {node : ℕ → EstTime} {nodes : ℕ} {e : LinkEvent} {m : ℕ} {goal : Option (List EstJoinPath)} {list : List ℕ} {i at : ℕ} (w : Indexed node nodes) (v : Following node nodes e m goal list i at) (x : EstTime) (l : x ≡ node i) where
   pub next-within : x .«idx_next» < nodes
   next-within = subst (λ (z : EstTime). z .«idx_next» < nodes) (sym l) (w .next i (v .within))
 
@@ -51,7 +51,7 @@ module _ {node : ℕ → EstTime} {nodes : ℕ} {e : LinkEvent} {m : ℕ} {goal 
   alternative-within = subst (λ (z : EstTime). z .«idx_next_alt» < nodes) (sym l) (w .next-alt i (v .within))
 
   -- its next as y, which has the event or not; and what the push then answers
-  module _ (y : EstTime) (f : y ≡ node (x .«idx_next»)) (b : Bool) (g : b ≡ sameEvent (y .«link_event») e) (list′ : List ℕ) (r : Count) (p : Listed (pushedIf b (entriesIn list at) (entry m (x .«idx_next»))) list′ r) where
+  module _ (y : EstTime) (f : y ≡ node (x .«idx_next»)) (b : Bool) (g : b ≡ sameEvent (y .«link_event») e) (list′ : List ℕ) (r : Count) (p : EntriesAs (pushedIf b (entriesIn list at) (entry m (x .«idx_next»))) list′ r) where
     abbrev pushed : Option (List EstJoinPath)
     pushed = pushedIf b (entriesIn list at) (entry m (x .«idx_next»))
 
@@ -71,7 +71,7 @@ module _ {node : ℕ → EstTime} {nodes : ℕ} {e : LinkEvent} {m : ℕ} {goal 
       went : (c : Bool) → eqb (x .«idx_next_alt») 0 ≡ c → goal ≡ onward c (alternatives (v .left) node e m (x .«idx_next_alt»)) (entriesIn list′ more)
       went c q = turn c q ∙ ap (λ (a : Option (List EstJoinPath)). andThen a (onward c (alternatives (v .left) node e m (x .«idx_next_alt»)))) (listed-some pushed list′ r p more o .0)
 
-      pub following-last : x .«idx_next_alt» ≡ 0 → Listed goal list′ (Entries more)
+      pub following-last : x .«idx_next_alt» ≡ 0 → EntriesAs goal list′ (Entries more)
       following-last h = (went true (eq-eqb (x .«idx_next_alt») 0 h), listed-some pushed list′ r p more o .1)
 
       pub following-on : (x .«idx_next_alt» ≡ 0 → ⊥) → Following node nodes e m goal list′ (x .«idx_next_alt») more

@@ -14,7 +14,7 @@ use lib.Seq.{getD-set-same, getD-set-other}
 use Rattle.net_strands.specs.declared.EstJoinPath.{EstJoinPath}
 use Rattle.net_strands.specs.declared.Count.{Count}
 use Rattle.net_strands.specs.declared.Count.the-variants.{Entries, Over}
-use Rattle.net_strands.specs.Entries.{entryAt, entriesIn, nodeOf, pushedAs, push, Listed, Valid}
+use Rattle.net_strands.specs.Entries.{entryAt, entriesIn, nodeOf, pushedAs, push, EntriesAs, Valid}
 
 pub entries-count : (s : List ℕ) (n : ℕ) → length (entriesIn s n) ≡ n
 unfolding entriesIn
@@ -56,7 +56,7 @@ module _ (s : List ℕ) (n : ℕ) (x : EstJoinPath) where
   unfolding push
   push-full h = ap (λ (b : Bool). pushedAs b (entriesIn s n) x) (le-ltb (length (entriesIn s n)) 1024 (omega (arith, entries-count s n)))
 
-  pub push-fits : n ≤ 1024 → (n ≡ 1024 → ⊥) → 2048 ≤ length s → Listed (push (entriesIn s n) x) behind (Entries (n + 1))
+  pub push-fits : n ≤ 1024 → (n ≡ 1024 → ⊥) → 2048 ≤ length s → EntriesAs (push (entriesIn s n) x) behind (Entries (n + 1))
   unfolding push
   push-fits h g l = (
     ap (λ (b : Bool). pushedAs b (entriesIn s n) x) (lt-ltb (length (entriesIn s n)) 1024 (omega (arith, entries-count s n))) ∙ ap some (sym (entries-behind (omega arith))),
@@ -97,9 +97,9 @@ entry-valid s n nodes k x v h e =
 
 -- ---- an answer by its count
 
-module _ (a : Option (List EstJoinPath)) (s : List ℕ) (r : Count) (l : Listed a s r) where
+module _ (a : Option (List EstJoinPath)) (s : List ℕ) (r : Count) (l : EntriesAs a s r) where
   pub listed-some : (n : ℕ) → r ≡ Entries n → (a ≡ some (entriesIn s n)) × (n ≤ 1024)
-  listed-some n e = subst (Listed a s) e l
+  listed-some n e = subst (EntriesAs a s) e l
 
   pub listed-none : r ≡ Over → a ≡ none
-  listed-none e = subst (Listed a s) e l
+  listed-none e = subst (EntriesAs a s) e l

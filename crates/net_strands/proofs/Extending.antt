@@ -13,7 +13,7 @@ use Rattle.net_node.specs.declared.EstTime.{EstTime}
 use Rattle.net_strands.specs.declared.EstJoinPath.{EstJoinPath}
 use Rattle.net_strands.specs.declared.Count.{Count}
 use Rattle.net_strands.specs.declared.Count.the-variants.{Entries, Over}
-use Rattle.net_strands.specs.Entries.{entryAt, entriesIn, push, andThen, Listed}
+use Rattle.net_strands.specs.Entries.{entryAt, entriesIn, push, andThen, EntriesAs}
 use Rattle.net_strands.specs.Space.{isArrive, alternatives, strands, strandFrom, followed, extendedAs, extended, extendedAll}
 use Rattle.net_strands.specs.Steps.{newMatch}
 use Rattle.net_strands.proofs.Entries.{entries-more, listed-some, listed-none}
@@ -113,11 +113,11 @@ unfolding extendedAll entriesIn
 gathering-start node n e seen old count list = record { answer = refl; within = omega arith; few = omega arith }
 
 module _ {node : ℕ → EstTime} {n : ℕ} {e : LinkEvent} {seen : Bool} {old : List ℕ} {count : ℕ} {list : List ℕ} {at k : ℕ} (v : Gathering node n e seen old count list at k) where
-  pub gathering-whole : count ≤ k → Listed (extendedAll node n e seen (entriesIn old count) []) list (Entries at)
+  pub gathering-whole : count ≤ k → EntriesAs (extendedAll node n e seen (entriesIn old count) []) list (Entries at)
   gathering-whole h = let s : count ≡ k = omega (arith, v .within) in (ap (λ (j : ℕ). extendedAll node n e seen (entriesIn old j) []) s ∙ v .answer, v .few)
 
   -- where the next entry was read as x and followed
-  module _ (h : k < count) (x : EstJoinPath) (l : x ≡ entryAt old k) (list′ : List ℕ) (r : Count) (p : Listed (extended node n e seen x (entriesIn list at)) list′ r) where
+  module _ (h : k < count) (x : EstJoinPath) (l : x ≡ entryAt old k) (list′ : List ℕ) (r : Count) (p : EntriesAs (extended node n e seen x (entriesIn list at)) list′ r) where
     turn : extendedAll node n e seen (entriesIn old (k + 1)) [] ≡ extended node n e seen x (entriesIn list at)
     turn =
         gathered-more node n e seen old k

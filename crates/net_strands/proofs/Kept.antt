@@ -12,11 +12,11 @@ use lib.Dec.{eqb, ltb}
 use lib.ListN.{length, length-append}
 use Rattle.net_node.specs.declared.LinkEvent.{LinkEvent}
 use Rattle.net_node.specs.declared.EstTime.{EstTime}
-use Rattle.net_node.specs.Table.{sameEvent, Woven}
+use Rattle.net_node.specs.Table.{sameEvent, Indexed}
 use Rattle.net_strands.specs.declared.EstJoinPath.{EstJoinPath}
 use Rattle.net_strands.specs.declared.Count.the-variants.{Entries}
-use Rattle.net_strands.specs.Entries.{entry, entriesIn, nodeOf, pushedAs, push, andThen, Listed, Valid}
-use Rattle.net_strands.specs.Space.{isArrive, pushedIf, onward, alternatives, Strand, strandFrom, Turn, Whole, Over, More, popped, poppedAfter, stacked, turnAs, turn, goOn, strands, followed, extendedAs, extended, extendedAll}
+use Rattle.net_strands.specs.Entries.{entry, entriesIn, nodeOf, pushedAs, push, andThen, EntriesAs, Valid}
+use Rattle.net_strands.specs.Space.{isArrive, pushedIf, onward, alternatives, Strand, strandFrom, Turn, Whole, Over, More, popped, poppedAfter, alternativeStacked, turnAs, turn, strandsOn, strands, followed, extendedAs, extended, extendedAll}
 use Rattle.net_strands.proofs.Entries.{node-front, node-last}
 use Rattle.net_strands.proofs.Walking.{Named, named-stacked}
 
@@ -62,7 +62,7 @@ module _ (n : ℕ) (es : List EstJoinPath) (x : EstJoinPath) (v : Sound n es) (h
 
 -- ---- the walks
 
-module _ {node : ℕ → EstTime} {n : ℕ} (w : Woven node n) (e : LinkEvent) (m : ℕ) where
+module _ {node : ℕ → EstTime} {n : ℕ} (w : Indexed node n) (e : LinkEvent) (m : ℕ) where
   kept-alternatives : (k i : ℕ) (es : List EstJoinPath) → i < n → Sound n es → Kept n (alternatives k node e m i es)
   unfolding alternatives entry
   kept-alternatives zero i es h v = v
@@ -104,10 +104,10 @@ module _ {node : ℕ → EstTime} {n : ℕ} (w : Woven node n) (e : LinkEvent) (
   unfolding turn
   kept-turn s v =
       let next = node (s .here) .«idx_next» in
-      kept-turn-as (sameEvent (node next .«link_event») e) (isArrive (node next .«link_event» .«est_type») || eqb (node next .«idx_next») 0) next (stacked (node (s .here) .«idx_next_alt») (s .stack)) (s .entries) (w .next (s .here) (v .here))
+      kept-turn-as (sameEvent (node next .«link_event») e) (isArrive (node next .«link_event» .«est_type») || eqb (node next .«idx_next») 0) next (alternativeStacked (node (s .here) .«idx_next_alt») (s .stack)) (s .entries) (w .next (s .here) (v .here))
       (named-stacked n (node (s .here) .«idx_next_alt») (s .stack) (w .next-alt (s .here) (v .here)) (v .stack)) (v .entries)
 
-  kept-go-on : (t : Turn) (f : Strand → Option (List EstJoinPath)) → KeptTurn t → ((s : Strand) → SoundStrand s → Kept n (f s)) → Kept n (goOn t f)
+  kept-go-on : (t : Turn) (f : Strand → Option (List EstJoinPath)) → KeptTurn t → ((s : Strand) → SoundStrand s → Kept n (f s)) → Kept n (strandsOn t f)
   kept-go-on (Whole es) f v g = v
   kept-go-on Over f v g = tt
   kept-go-on (More s) f v g = g s v
@@ -124,7 +124,7 @@ module _ {node : ℕ → EstTime} {n : ℕ} (w : Woven node n) (e : LinkEvent) (
 
 -- ---- the old list
 
-module _ {node : ℕ → EstTime} {n : ℕ} (w : Woven node n) (e : LinkEvent) (seen : Bool) where
+module _ {node : ℕ → EstTime} {n : ℕ} (w : Indexed node n) (e : LinkEvent) (seen : Bool) where
   kept-extended : (x : EstJoinPath) (es : List EstJoinPath) → x .«est_idx_next» < n → Sound n es → Kept n (extended node n e seen x es)
   unfolding extended
   kept-extended x es h v =
@@ -155,5 +155,5 @@ module _ {node : ℕ → EstTime} {n : ℕ} (w : Woven node n) (e : LinkEvent) (
   space-sound old es l h = subst (Kept n) h (space-kept old l)
 
   -- by the contract of `update_join_paths_space`
-  pub space-listed : (old : List EstJoinPath) (list : List ℕ) (k : ℕ) → Valid old n → Listed (extendedAll node n e seen old []) list (Entries k) → Sound n (entriesIn list k)
+  pub space-listed : (old : List EstJoinPath) (list : List ℕ) (k : ℕ) → Valid old n → EntriesAs (extendedAll node n e seen old []) list (Entries k) → Sound n (entriesIn list k)
   space-listed old list k l h = space-sound old (entriesIn list k) l (h .0)

@@ -6,10 +6,10 @@ use native.Mathlib.Numerals.{add-one}
 use native.Mathlib.Omega.{arith}
 use lib.ListN.{length, getD, set}
 use lib.Seq.{getD-set-same, getD-set-other}
-use Rattle.net_strands.specs.Space.{stacked}
+use Rattle.net_strands.specs.Space.{alternativeStacked}
 use Rattle.net_strands.specs.Steps.{stackIn}
 
--- a store above them leaves what is stacked
+-- a store above them leaves what is alternativeStacked
 stack-kept : (s : List ℕ) (i x n : ℕ) → n ≤ i → stackIn (set s i x) n ≡ stackIn s n
 unfolding stackIn
 stack-kept s i x zero h = refl
@@ -31,10 +31,10 @@ unfolding stackIn
 stack-pop s zero h = absurd (omega arith)
 stack-pop s (suc n) h = let e : suc n - 1 ≡ n = omega arith in ap (λ (k : ℕ). getD s k 0 ∷ stackIn s k) (sym e)
 
-pub stacked-none : (alt : ℕ) (stack : List ℕ) → alt ≡ 0 → stack ≡ stacked alt stack
+pub stacked-none : (alt : ℕ) (stack : List ℕ) → alt ≡ 0 → stack ≡ alternativeStacked alt stack
 stacked-none zero stack e = refl
 stacked-none (suc alt) stack e = absurd (omega arith)
 
-pub stacked-some : (alt : ℕ) (stack : List ℕ) → (alt ≡ 0 → ⊥) → alt ∷ stack ≡ stacked alt stack
+pub stacked-some : (alt : ℕ) (stack : List ℕ) → (alt ≡ 0 → ⊥) → alt ∷ stack ≡ alternativeStacked alt stack
 stacked-some zero stack h = absurd (h refl)
 stacked-some (suc alt) stack h = refl

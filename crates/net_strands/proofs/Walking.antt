@@ -9,19 +9,19 @@ use native.Mathlib.Omega.{arith}
 use lib.ListN.{length, getD, set}
 use Rattle.net_node.specs.declared.LinkEvent.{LinkEvent}
 use Rattle.net_node.specs.declared.EstTime.{EstTime}
-use Rattle.net_node.specs.Table.{sameEvent, Woven}
+use Rattle.net_node.specs.Table.{sameEvent, Indexed}
 use Rattle.net_strands.specs.declared.EstJoinPath.{EstJoinPath}
 use Rattle.net_strands.specs.declared.Count.{Count}
 use Rattle.net_strands.specs.declared.Count.the-variants.{Entries, Over}
-use Rattle.net_strands.specs.Entries.{entry, entriesIn, push, Listed}
-use Rattle.net_strands.specs.Space.{Strand, strandFrom, popped, poppedAfter, stacked, turnAs, goOn, strands}
+use Rattle.net_strands.specs.Entries.{entry, entriesIn, push, EntriesAs}
+use Rattle.net_strands.specs.Space.{Strand, strandFrom, popped, poppedAfter, alternativeStacked, turnAs, strandsOn, strands}
 use Rattle.net_strands.specs.Steps.{stackIn, endsStrand}
 use Rattle.net_strands.proofs.Entries.{listed-some, listed-none}
 use Rattle.net_strands.proofs.Stacks.{stack-push, stack-none, stack-pop}
 
 pub strands-turn : (k : ℕ) (node : ℕ → EstTime) (e : LinkEvent) (m : ℕ) (s : Strand) (b c : Bool)
     → sameEvent (node (node (s .here) .«idx_next») .«link_event») e ≡ b → endsStrand (node (node (s .here) .«idx_next»)) ≡ c
-    → strands (suc k) node e m s ≡ goOn (turnAs b c m (node (s .here) .«idx_next») (stacked (node (s .here) .«idx_next_alt») (s .stack)) (s .entries)) (strands k node e m)
+    → strands (suc k) node e m s ≡ strandsOn (turnAs b c m (node (s .here) .«idx_next») (alternativeStacked (node (s .here) .«idx_next_alt») (s .stack)) (s .entries)) (strands k node e m)
 unfolding strands endsStrand
 strands-turn k node e m s b c p q = rw (p, q)
 
@@ -34,7 +34,7 @@ abbrev pub Named : ℕ → List ℕ → Type 0
 Named n [] = Unit
 Named n (i ∷ is) = (i < n) × Named n is
 
-pub named-stacked : (n alt : ℕ) (stack : List ℕ) → alt < n → Named n stack → Named n (stacked alt stack)
+pub named-stacked : (n alt : ℕ) (stack : List ℕ) → alt < n → Named n stack → Named n (alternativeStacked alt stack)
 named-stacked n zero stack h l = l
 named-stacked n (suc alt) stack h l = (h, l)
 
@@ -76,7 +76,7 @@ module _ (node : ℕ → EstTime) (nodes : ℕ) (e : LinkEvent) (m : ℕ) (goal 
 
   -- A strand is left, and the next is to be popped.
   pub record Popping (stack list : List ℕ) (at left top : ℕ) : Type 0 where
-    pub answer : goal ≡ goOn (popped (stackIn stack top) (entriesIn list at)) (strands left node e m)
+    pub answer : goal ≡ strandsOn (popped (stackIn stack top) (entriesIn list at)) (strands left node e m)
     pub named : Named nodes (stackIn stack top)
     pub few : at ≤ 1024
     pub room : top + left ≤ 4097
@@ -88,7 +88,7 @@ unfolding strandFrom
 popping-start node nodes e m start stack list n h l g =
     let s : stackIn (set stack 0 start) 1 ≡ start ∷ [] = stack-push stack 0 start l ∙ ap (λ (is : List ℕ). start ∷ is) (stack-none stack) in
     record {
-      answer = ap (λ (is : List ℕ). goOn (popped is (entriesIn list n)) (strands 4096 node e m)) (sym s);
+      answer = ap (λ (is : List ℕ). strandsOn (popped is (entriesIn list n)) (strands 4096 node e m)) (sym s);
       named = subst (Named nodes) (sym s) (h, tt);
       few = g;
       room = omega arith;
@@ -96,8 +96,8 @@ popping-start node nodes e m start stack list n h l g =
     }
 
 module _ {node : ℕ → EstTime} {nodes : ℕ} {e : LinkEvent} {m : ℕ} {goal : Option (List EstJoinPath)} {stack list : List ℕ} {at left top : ℕ} where
-  pub popping-last : Popping node nodes e m goal stack list at left top → top ≡ 0 → Listed goal list (Entries at)
-  popping-last v z = (v .answer ∙ ap (λ (is : List ℕ). goOn (popped is (entriesIn list at)) (strands left node e m)) (ap (stackIn stack) z ∙ stack-none stack), v .few)
+  pub popping-last : Popping node nodes e m goal stack list at left top → top ≡ 0 → EntriesAs goal list (Entries at)
+  popping-last v z = (v .answer ∙ ap (λ (is : List ℕ). strandsOn (popped is (entriesIn list at)) (strands left node e m)) (ap (stackIn stack) z ∙ stack-none stack), v .few)
 
   pub popping-on : Popping node nodes e m goal stack list at left top → 0 < top → Standing node nodes e m goal stack list at left (top - 1) (getD stack (top - 1) 0)
   popping-on v z =
@@ -105,7 +105,7 @@ module _ {node : ℕ → EstTime} {nodes : ℕ} {e : LinkEvent} {m : ℕ} {goal 
       let i : Named nodes (getD stack (top - 1) 0 ∷ stackIn stack (top - 1)) = subst (Named nodes) s (v .named) in
       let r : top + left ≤ 4097 = v .room in
       record {
-        answer = v .answer ∙ ap (λ (is : List ℕ). goOn (popped is (entriesIn list at)) (strands left node e m)) s;
+        answer = v .answer ∙ ap (λ (is : List ℕ). strandsOn (popped is (entriesIn list at)) (strands left node e m)) s;
         within = i .0;
         named = i .1;
         few = v .few;
@@ -124,21 +124,21 @@ module _ {node : ℕ → EstTime} {nodes : ℕ} {e : LinkEvent} {m : ℕ} {goal 
     pub standing-joined : {inner : Option (List EstJoinPath)} → goal ≡ inner → Standing node nodes e m inner stack list at left top here → Standing node nodes e m goal stack list at left top here
     standing-joined g v = record { answer = g ∙ v .answer; within = v .within; named = v .named; few = v .few; room = v .room }
 
--- A next was read: the node's alternative is stacked, and `there` is the next. By whether that has the event, and whether it ends the strand, the walk goes on as the definition says.
+-- A next was read: the node's alternative is alternativeStacked, and `there` is the next. By whether that has the event, and whether it ends the strand, the walk goes on as the definition says.
 pub record Turned (node : ℕ → EstTime) (nodes : ℕ) (e : LinkEvent) (m : ℕ) (goal : Option (List EstJoinPath)) (stack list : List ℕ) (at left top next : ℕ) (there : EstTime) : Type 0 where
-  pub turn : (b c : Bool) → sameEvent (there .«link_event») e ≡ b → endsStrand there ≡ c → goal ≡ goOn (turnAs b c m next (stackIn stack top) (entriesIn list at)) (strands left node e m)
+  pub turn : (b c : Bool) → sameEvent (there .«link_event») e ≡ b → endsStrand there ≡ c → goal ≡ strandsOn (turnAs b c m next (stackIn stack top) (entriesIn list at)) (strands left node e m)
   pub within : next < nodes
   pub named : Named nodes (stackIn stack top)
   pub few : at ≤ 1024
   pub room : top + left ≤ 4096
 
 -- where the node was loaded as x
-module _ {node : ℕ → EstTime} {nodes : ℕ} {e : LinkEvent} {m : ℕ} {goal : Option (List EstJoinPath)} {stack list : List ℕ} {at left top here : ℕ} (w : Woven node nodes) (v : Standing node nodes e m goal stack list at left top here) (x : EstTime) (l : x ≡ node here) where
+module _ {node : ℕ → EstTime} {nodes : ℕ} {e : LinkEvent} {m : ℕ} {goal : Option (List EstJoinPath)} {stack list : List ℕ} {at left top here : ℕ} (w : Indexed node nodes) (v : Standing node nodes e m goal stack list at left top here) (x : EstTime) (l : x ≡ node here) where
   pub next-within : x .«idx_next» < nodes
   next-within = subst (λ (z : EstTime). z .«idx_next» < nodes) (sym l) (w .next here (v .within))
 
-  -- its alternative stacked, and its next loaded as y
-  pub standing-turned : (left ≡ 0 → ⊥) → (stack′ : List ℕ) (top′ : ℕ) → stackIn stack′ top′ ≡ stacked (x .«idx_next_alt») (stackIn stack top) → top′ ≤ top + 1 → (y : EstTime) → y ≡ node (x .«idx_next»)
+  -- its alternative alternativeStacked, and its next loaded as y
+  pub standing-turned : (left ≡ 0 → ⊥) → (stack′ : List ℕ) (top′ : ℕ) → stackIn stack′ top′ ≡ alternativeStacked (x .«idx_next_alt») (stackIn stack top) → top′ ≤ top + 1 → (y : EstTime) → y ≡ node (x .«idx_next»)
       → Turned node nodes e m goal stack′ list at (left - 1) top′ (x .«idx_next») y
   standing-turned o stack′ top′ s t y f =
       let k : left ≡ suc (left - 1) = omega arith in
@@ -150,8 +150,8 @@ module _ {node : ℕ → EstTime} {nodes : ℕ} {e : LinkEvent} {m : ℕ} {goal 
             ∙ strands-turn (left - 1) node e m (strandIn stack list at top here) b c
             (ap (λ (z : EstTime). sameEvent (node (z .«idx_next») .«link_event») e) (sym l) ∙ ap (λ (z : EstTime). sameEvent (z .«link_event») e) (sym f) ∙ p)
             (ap (λ (z : EstTime). endsStrand (node (z .«idx_next»))) (sym l) ∙ ap endsStrand (sym f) ∙ q)
-            ∙ ap (λ (z : EstTime). goOn (turnAs b c m (z .«idx_next») (stacked (z .«idx_next_alt») (stackIn stack top)) (entriesIn list at)) (strands (left - 1) node e m)) (sym l)
-            ∙ ap (λ (is : List ℕ). goOn (turnAs b c m (x .«idx_next») is (entriesIn list at)) (strands (left - 1) node e m)) (sym s);
+            ∙ ap (λ (z : EstTime). strandsOn (turnAs b c m (z .«idx_next») (alternativeStacked (z .«idx_next_alt») (stackIn stack top)) (entriesIn list at)) (strands (left - 1) node e m)) (sym l)
+            ∙ ap (λ (is : List ℕ). strandsOn (turnAs b c m (x .«idx_next») is (entriesIn list at)) (strands (left - 1) node e m)) (sym s);
         within = next-within;
         named = subst (Named nodes) (sym s) (named-stacked nodes (x .«idx_next_alt») (stackIn stack top) h (v .named));
         few = v .few;
@@ -160,10 +160,10 @@ module _ {node : ℕ → EstTime} {nodes : ℕ} {e : LinkEvent} {m : ℕ} {goal 
 
 module _ {node : ℕ → EstTime} {nodes : ℕ} {e : LinkEvent} {m : ℕ} {goal : Option (List EstJoinPath)} {stack list : List ℕ} {at left top next : ℕ} {there : EstTime} (v : Turned node nodes e m goal stack list at left top next there) where
   -- the next has the event
-  module _ (p : sameEvent (there .«link_event») e ≡ true) (list′ : List ℕ) (r : Count) (u : Listed (push (entriesIn list at) (entry m next)) list′ r) where
+  module _ (p : sameEvent (there .«link_event») e ≡ true) (list′ : List ℕ) (r : Count) (u : EntriesAs (push (entriesIn list at) (entry m next)) list′ r) where
     -- what the push gave decides
-    went : (a : Option (List EstJoinPath)) → push (entriesIn list at) (entry m next) ≡ a → goal ≡ goOn (poppedAfter (stackIn stack top) a) (strands left node e m)
-    went a h = v .turn true _ p refl ∙ ap (λ (a : Option (List EstJoinPath)). goOn (poppedAfter (stackIn stack top) a) (strands left node e m)) h
+    went : (a : Option (List EstJoinPath)) → push (entriesIn list at) (entry m next) ≡ a → goal ≡ strandsOn (poppedAfter (stackIn stack top) a) (strands left node e m)
+    went a h = v .turn true _ p refl ∙ ap (λ (a : Option (List EstJoinPath)). strandsOn (poppedAfter (stackIn stack top) a) (strands left node e m)) h
 
     pub turned-full : r ≡ Over → goal ≡ none
     turned-full o = went none (listed-none (push (entriesIn list at) (entry m next)) list′ r u o)

@@ -44,9 +44,9 @@ andThen none f = none
 andThen (some es) f = f es
 
 -- a slice and a count hold an answer's list
-abbrev pub Listed : Option (List EstJoinPath) → List ℕ → Count → Type 0
-Listed answer slice (Entries n) = (answer ≡ some (entriesIn slice n)) × (n ≤ 1024)
-Listed answer slice Over = answer ≡ none
+abbrev pub EntriesAs : Option (List EstJoinPath) → List ℕ → Count → Type 0
+EntriesAs answer slice (Entries n) = (answer ≡ some (entriesIn slice n)) × (n ≤ 1024)
+EntriesAs answer slice Over = answer ≡ none
 
 -- each entry names one of the first n nodes
 pub record Valid (es : List EstJoinPath) (n : ℕ) : Type 0 where

@@ -38,7 +38,7 @@ alternatives (suc k) node e m i es =
 
 -- ---- "With m nonzero, strands"
 
--- a strand walk: the node that it stands on, the alternatives stacked, and the new list so far
+-- a strand walk: the node that it stands on, the alternatives alternativeStacked, and the new list so far
 pub record Strand : Type 0 where
   pub here : ℕ
   pub stack : List ℕ
@@ -64,9 +64,9 @@ poppedAfter stack none = Over
 poppedAfter stack (some es) = popped stack es
 
 -- "stack the node's alternative"
-abbrev pub stacked : ℕ → List ℕ → List ℕ
-stacked zero stack = stack
-stacked (suc i) stack = suc i ∷ stack
+abbrev pub alternativeStacked : ℕ → List ℕ → List ℕ
+alternativeStacked zero stack = stack
+alternativeStacked (suc i) stack = suc i ∷ stack
 
 -- by whether the next has the event, and whether it "is an Arrive or has no next"
 abbrev pub turnAs : Bool → Bool → ℕ → ℕ → List ℕ → List EstJoinPath → Turn
@@ -78,18 +78,18 @@ turnAs false false m next stack es = More (record { here = next; stack = stack; 
 unfoldable pub turn : (ℕ → EstTime) → LinkEvent → ℕ → Strand → Turn
 turn node e m s =
     let next = node (s .here) .«idx_next» in
-    turnAs (sameEvent (node next .«link_event») e) (isArrive (node next .«link_event» .«est_type») || eqb (node next .«idx_next») 0) m next (stacked (node (s .here) .«idx_next_alt») (s .stack)) (s .entries)
+    turnAs (sameEvent (node next .«link_event») e) (isArrive (node next .«link_event» .«est_type») || eqb (node next .«idx_next») 0) m next (alternativeStacked (node (s .here) .«idx_next_alt») (s .stack)) (s .entries)
 
-abbrev pub goOn : Turn → (Strand → Option (List EstJoinPath)) → Option (List EstJoinPath)
-goOn (Whole es) f = some es
-goOn Over f = none
-goOn (More s) f = f s
+abbrev pub strandsOn : Turn → (Strand → Option (List EstJoinPath)) → Option (List EstJoinPath)
+strandsOn (Whole es) f = some es
+strandsOn Over f = none
+strandsOn (More s) f = f s
 
 -- Row 12: "strand walk of one entry reading over 4,096 nexts": a turn reads one
 unfoldable pub strands : ℕ → (ℕ → EstTime) → LinkEvent → ℕ → Strand → Option (List EstJoinPath)
 unfolding turn
 strands zero node e m s = none
-strands (suc k) node e m s = goOn (turn node e m s) (strands k node e m)
+strands (suc k) node e m s = strandsOn (turn node e m s) (strands k node e m)
 
 -- ---- one entry of the old list
 

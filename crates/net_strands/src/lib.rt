@@ -6,9 +6,9 @@ ghost use mathlib.Core.Path.{_≡_};
 ghost use mathlib.Core.List.{[]};
 ghost use Prim.Native.Nat.{_+_, _*_, _≤_, _<_};
 ghost use lib.ListN.{length};
-ghost use Rattle.net_node.specs.Table.{nodeAt, Room, Woven};
-ghost use Rattle.net_strands.specs.Entries.{entry, entryAt, entriesIn, push, Listed, Valid};
-ghost use Rattle.net_strands.specs.Space.{isArrive, pushedIf, alternatives, stacked, strands, strandFrom, extended, extendedAll};
+ghost use Rattle.net_node.specs.Table.{nodeAt, Room, Indexed};
+ghost use Rattle.net_strands.specs.Entries.{entry, entryAt, entriesIn, push, EntriesAs, Valid};
+ghost use Rattle.net_strands.specs.Space.{isArrive, pushedIf, alternatives, alternativeStacked, strands, strandFrom, extended, extendedAll};
 ghost use Rattle.net_strands.specs.Steps.{stackIn, endsStrand, newMatch};
 
 // A join entry: the link to be matched (0: matched already) and a node of the network.
@@ -38,7 +38,7 @@ pub fn entry_at(list: &[u32], k: usize) -> EstJoinPath
 pub fn push_entry(list: &mut [u32], n: usize, x: EstJoinPath) -> Count
     requires { ⌜ 2048 ≤ length (now list) ⌝ }
     requires { ⌜ n ≤ 1024 ⌝ }
-    ensures { λ r. ⌜ Listed (push (entriesIn (now (list .entry)) n) x) (now (list .exit)) r ⌝ }
+    ensures { λ r. ⌜ EntriesAs (push (entriesIn (now (list .entry)) n) x) (now (list .exit)) r ⌝ }
 {
     if n == 1024 {
         return Count::Over;
@@ -52,7 +52,7 @@ pub fn push_entry(list: &mut [u32], n: usize, x: EstJoinPath) -> Count
 fn push_if(wanted: bool, list: &mut [u32], n: usize, x: EstJoinPath) -> Count
     requires { ⌜ 2048 ≤ length (now list) ⌝ }
     requires { ⌜ n ≤ 1024 ⌝ }
-    ensures { λ r. ⌜ Listed (pushedIf wanted (entriesIn (now (list .entry)) n) x) (now (list .exit)) r ⌝ }
+    ensures { λ r. ⌜ EntriesAs (pushedIf wanted (entriesIn (now (list .entry)) n) x) (now (list .exit)) r ⌝ }
 {
     if wanted {
         return push_entry(list, n, x);
@@ -83,11 +83,11 @@ fn follow_alternatives(
     n: usize,
 ) -> Count
     requires { ⌜ Room (now floats) (now numbers) nodes ⌝ }
-    requires { ⌜ Woven (nodeAt (now floats) (now numbers)) nodes ⌝ }
+    requires { ⌜ Indexed (nodeAt (now floats) (now numbers)) nodes ⌝ }
     requires { ⌜ start < nodes ⌝ }
     requires { ⌜ 2048 ≤ length (now list) ⌝ }
     requires { ⌜ n ≤ 1024 ⌝ }
-    ensures { λ r. ⌜ Listed (alternatives nodes (nodeAt (now (floats .entry)) (now (numbers .entry))) event «link_idx_match» start (entriesIn (now (list .entry)) n)) (now (list .exit)) r ⌝ }
+    ensures { λ r. ⌜ EntriesAs (alternatives nodes (nodeAt (now (floats .entry)) (now (numbers .entry))) event «link_idx_match» start (entriesIn (now (list .entry)) n)) (now (list .exit)) r ⌝ }
 {
     let mut i = start;
     let mut at = n;
@@ -114,7 +114,7 @@ fn follow_alternatives(
 // Puts a node's alternative on the stack, if it has one.
 fn stack_alternative(stack: &mut [u32], top: usize, alt: u32) -> usize
     requires { ⌜ top < length (now stack) ⌝ }
-    ensures holds { λ r. ⌜ stackIn (now (stack .exit)) r ≡ stacked alt (stackIn (now (stack .entry)) top) ⌝ }
+    ensures holds { λ r. ⌜ stackIn (now (stack .exit)) r ≡ alternativeStacked alt (stackIn (now (stack .entry)) top) ⌝ }
     ensures top { λ r. ⌜ r ≤ top + 1 ⌝ }
 {
     if alt == 0 {
@@ -134,7 +134,7 @@ fn ends_strand(node: EstTime) -> bool
     arrive | (node.idx_next == 0)
 }
 
-// An entry that does not match yet: strands along nexts, with alternatives stacked, each up to the event, an Arrive or an end.
+// An entry that does not match yet: strands along nexts, with alternatives alternativeStacked, each up to the event, an Arrive or an end.
 fn follow_strands(
     floats: &[f64],
     numbers: &[u32],
@@ -147,12 +147,12 @@ fn follow_strands(
     n: usize,
 ) -> Count
     requires { ⌜ Room (now floats) (now numbers) nodes ⌝ }
-    requires { ⌜ Woven (nodeAt (now floats) (now numbers)) nodes ⌝ }
+    requires { ⌜ Indexed (nodeAt (now floats) (now numbers)) nodes ⌝ }
     requires { ⌜ start < nodes ⌝ }
     requires { ⌜ 4096 ≤ length (now stack) ⌝ }
     requires { ⌜ 2048 ≤ length (now list) ⌝ }
     requires { ⌜ n ≤ 1024 ⌝ }
-    ensures { λ r. ⌜ Listed (strands 4096 (nodeAt (now (floats .entry)) (now (numbers .entry))) event «link_idx_match» (strandFrom start (entriesIn (now (list .entry)) n))) (now (list .exit)) r ⌝ }
+    ensures { λ r. ⌜ EntriesAs (strands 4096 (nodeAt (now (floats .entry)) (now (numbers .entry))) event «link_idx_match» (strandFrom start (entriesIn (now (list .entry)) n))) (now (list .exit)) r ⌝ }
 {
     // The first `top` of the stack are still to be walked, the last of them next; `left` nexts may still be read.
     let mut at = n;
@@ -211,12 +211,12 @@ fn extend(
     n: usize,
 ) -> Count
     requires { ⌜ Room (now floats) (now numbers) nodes ⌝ }
-    requires { ⌜ Woven (nodeAt (now floats) (now numbers)) nodes ⌝ }
+    requires { ⌜ Indexed (nodeAt (now floats) (now numbers)) nodes ⌝ }
     requires { ⌜ x .«est_idx_next» < nodes ⌝ }
     requires { ⌜ 4096 ≤ length (now stack) ⌝ }
     requires { ⌜ 2048 ≤ length (now list) ⌝ }
     requires { ⌜ n ≤ 1024 ⌝ }
-    ensures { λ r. ⌜ Listed (extended (nodeAt (now (floats .entry)) (now (numbers .entry))) nodes event seen x (entriesIn (now (list .entry)) n)) (now (list .exit)) r ⌝ }
+    ensures { λ r. ⌜ EntriesAs (extended (nodeAt (now (floats .entry)) (now (numbers .entry))) nodes event seen x (entriesIn (now (list .entry)) n)) (now (list .exit)) r ⌝ }
 {
     let m = x.link_idx_match;
     let i = x.est_idx_next;
@@ -253,13 +253,13 @@ pub fn update_join_paths_space(
     list: &mut [u32],
 ) -> Count
     requires { ⌜ Room (now floats) (now numbers) nodes ⌝ }
-    requires { ⌜ Woven (nodeAt (now floats) (now numbers)) nodes ⌝ }
+    requires { ⌜ Indexed (nodeAt (now floats) (now numbers)) nodes ⌝ }
     requires { ⌜ Valid (entriesIn (now old) count) nodes ⌝ }
     requires { ⌜ count ≤ 1024 ⌝ }
     requires { ⌜ 2048 ≤ length (now old) ⌝ }
     requires { ⌜ 4096 ≤ length (now stack) ⌝ }
     requires { ⌜ 2048 ≤ length (now list) ⌝ }
-    ensures { λ r. ⌜ Listed (extendedAll (nodeAt (now (floats .entry)) (now (numbers .entry))) nodes event seen (entriesIn (now (old .entry)) count) []) (now (list .exit)) r ⌝ }
+    ensures { λ r. ⌜ EntriesAs (extendedAll (nodeAt (now (floats .entry)) (now (numbers .entry))) nodes event seen (entriesIn (now (old .entry)) count) []) (now (list .exit)) r ⌝ }
 {
     let mut at = 0;
     let mut k = 0;

@@ -18,8 +18,8 @@ use Rattle.pass_rules.specs.Forward.{forward}
 use Rattle.pass_rules.specs.Backward.{backward}
 use Rattle.pass_rules.specs.Walks.{Inside, doneIn}
 use Rattle.pass_rules.specs.Passes.{Timed, refused, timedAs, someLeft, allZero, checkedAs, afterForward, afterBackward, passes}
-use Rattle.pass_state.specs.Progress.{Ends, EndsAs}
-use Rattle.pass_all.specs.Timing.{timedNumber, TimedInto, sixteenIf}
+use Rattle.pass_state.specs.Held.{Ends, EndsAs}
+use Rattle.pass_all.specs.Answers.{timedNumber, TimedInto, sixteenIf}
 
 -- ---- the answers
 

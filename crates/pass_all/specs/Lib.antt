@@ -1,1 +1,1 @@
-pub mod Timing
+pub mod Answers

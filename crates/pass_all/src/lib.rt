@@ -1,4 +1,4 @@
-// The checks and both time passes over a network: rows 14 to 16. Contracts: pass_rules' specs/Passes.antt, specs/Timing.antt.
+// The checks and both time passes over a network: rows 14 to 16. Contracts: pass_rules' specs/Passes.antt, specs/Answers.antt.
 ghost use mathlib.Core.Path.{_≡_};
 ghost use mathlib.Core.Bool.{false};
 ghost use mathlib.Core.List.{List};
@@ -10,7 +10,7 @@ ghost use Rattle.net_insertion.specs.Insertion.{Table};
 ghost use Rattle.pass_rules.specs.Walks.{Inside, doneIn};
 ghost use Rattle.pass_rules.specs.Backward.{backward};
 ghost use Rattle.pass_rules.specs.Passes.{someLeft, allZero, afterBackward, passes};
-ghost use Rattle.pass_all.specs.Timing.{timedNumber, TimedInto, sixteenIf};
+ghost use Rattle.pass_all.specs.Answers.{timedNumber, TimedInto, sixteenIf};
 
 // Row 15: whether a pass has left a node out. A node is done whose cell is set. All cells are looked at, whatever is found: that is faster than stopping.
 fn some_left(cells: &[u32], done_at: usize, n: usize) -> bool

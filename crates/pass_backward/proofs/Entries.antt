@@ -15,7 +15,7 @@ use Rattle.pass_rules.specs.Net.{Answer, Pass, setTime}
 use Rattle.pass_rules.specs.Backward.{queued, enqueue, passed, alternatedBy}
 use Rattle.pass_state.specs.declared.Passed.{Passed}
 use Rattle.pass_state.specs.declared.Passed.the-variants.{Queued}
-use Rattle.pass_state.specs.Progress.{left, PassIn, PassAs, EnqueuedAs}
+use Rattle.pass_state.specs.Held.{left, PassIn, PassAs, EnqueuedAs}
 use Rattle.pass_state.proofs.Kept.{tableOf, doneAt, node-in}
 use Rattle.pass_state.proofs.Steps.{alternate-none, alternate-some}
 

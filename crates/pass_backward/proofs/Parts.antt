@@ -17,7 +17,7 @@ use Rattle.pass_rules.specs.Net.{Answer, fails, given, andThen, asserting, Pass
 use Rattle.pass_rules.specs.Walks.{passOf}
 use Rattle.pass_rules.specs.Backward.{At, queued, enqueue, passed, isPassable, walkedOn, relinkWalk, swapSplit, swappedIf, relinked, alternatedBy, stepOn, step, stopsAt, stopIf, strand, addedIf, settledBy, settle, turn, turns}
 use Rattle.pass_state.specs.declared.Passed.{Passed}
-use Rattle.pass_state.specs.Progress.{left, PassIn, EnqueuedAs}
+use Rattle.pass_state.specs.Held.{left, PassIn, EnqueuedAs}
 use Rattle.pass_state.proofs.Left.{left-kept}
 use Rattle.pass_state.proofs.Links.{linked-split}
 use Rattle.pass_state.proofs.Kept.{tableOf, tabled, doneAt, queueing, node-in, in-done}

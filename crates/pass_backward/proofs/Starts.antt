@@ -14,7 +14,7 @@ use Rattle.pass_rules.specs.Walks.{Inside, doneIn}
 use Rattle.pass_rules.specs.Backward.{turns, lastTwo, backward}
 use Rattle.pass_state.specs.declared.Passed.{Passed}
 use Rattle.pass_state.specs.declared.Passed.the-variants.{Queued, Fails}
-use Rattle.pass_state.specs.Progress.{PassIn, EnqueuedAs}
+use Rattle.pass_state.specs.Held.{PassIn, EnqueuedAs}
 use Rattle.pass_state.proofs.Left.{done-other}
 use Rattle.pass_state.proofs.Kept.{tableOf, flaggedAt, in-start, queued-in, in-flag-new}
 

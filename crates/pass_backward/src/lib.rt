@@ -1,8 +1,8 @@
-// The backward time pass: `update_times_backward`. Contracts: pass_rules' specs/Backward.antt, pass_state's specs/Progress.antt, specs/Strands.antt.
+// The backward time pass: `update_times_backward`. Contracts: pass_rules' specs/Backward.antt, pass_state's specs/Held.antt, specs/Strands.antt.
+use pass_queue::Entry;
 use pass_rules::Walked;
 use pass_state::Passed;
 use pass_state::Stands;
-use pass_queue::Entry;
 ghost use mathlib.Core.Path.{_≡_};
 ghost use mathlib.Core.Bool.{true, false, not, _||_};
 ghost use mathlib.Core.List.{List};
@@ -16,7 +16,7 @@ ghost use Rattle.pass_rules.specs.Checks.{isFake};
 ghost use Rattle.pass_rules.specs.Net.{Pass};
 ghost use Rattle.pass_rules.specs.Walks.{Inside, doneIn};
 ghost use Rattle.pass_rules.specs.Backward.{alternatedBy, step as Backward·step, strand as Backward·strand, settle as Backward·settle, turn as Backward·turn, turns as Backward·turns, backward};
-ghost use Rattle.pass_state.specs.Progress.{left, PassIn, Working, PassAs, StandsAs, FindsBy, EndsAs};
+ghost use Rattle.pass_state.specs.Held.{left, PassIn, Working, PassAs, StandsAs, FindsBy, EndsAs};
 ghost use Rattle.pass_backward.specs.Strands.{standing, relinking};
 
 // Relinks the split that an entry's node reaches first: the node is passed and its previous is not.
@@ -42,8 +42,15 @@ fn relink(
     if pass_state::is_done(cells, done_at, prev) {
         return Walked::Endless;
     }
-    let Walked::Found(found) = pass_rules::relink_walk(floats, numbers, cells, done_at, n, true, prev)
-    else {
+    let Walked::Found(found) = pass_rules::relink_walk(
+        floats,
+        numbers,
+        cells,
+        done_at,
+        n,
+        true,
+        prev,
+    ) else {
         return Walked::Endless;
     };
     if prev == found {

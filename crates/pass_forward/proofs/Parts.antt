@@ -15,7 +15,7 @@ use Rattle.pass_rules.specs.Checks.{isFake}
 use Rattle.pass_rules.specs.Net.{Answer, fails, given, andThen, asserting, Pass, setTime}
 use Rattle.pass_rules.specs.Walks.{passOf}
 use Rattle.pass_rules.specs.Forward.{At, timeNext, queued, timed, isPassable, walkedOn, relinkWalk, swapJoin, swappedIf, relinked, alternatedBy, stepOn, step, stopsAt, stopIf, strand, addedIf, settledBy, settle, turn, turns}
-use Rattle.pass_state.specs.Progress.{PassIn}
+use Rattle.pass_state.specs.Held.{PassIn}
 use Rattle.pass_state.proofs.Links.{linked-join}
 use Rattle.pass_state.proofs.Kept.{tableOf, tabled, doneAt, queueing, node-in, in-done}
 use Rattle.pass_state.proofs.Relinks.{Relinker}

@@ -13,7 +13,7 @@ use Rattle.pass_rules.specs.Walks.{Inside, doneIn}
 use Rattle.pass_rules.specs.Forward.{turns, firstTwo, forward}
 use Rattle.pass_state.specs.declared.Passed.{Passed}
 use Rattle.pass_state.specs.declared.Passed.the-variants.{Queued, Fails}
-use Rattle.pass_state.specs.Progress.{PassIn, EnqueuedAs}
+use Rattle.pass_state.specs.Held.{PassIn, EnqueuedAs}
 use Rattle.pass_state.proofs.Left.{done-same, done-other}
 use Rattle.pass_state.proofs.Kept.{tableOf, doneAt, in-start, queued-in, in-done-new}
 use Rattle.pass_forward.proofs.Entries.{zero-number}

@@ -1,8 +1,8 @@
-// The forward time pass: `update_times_forward`. Contracts: pass_rules' specs/Forward.antt, pass_state's specs/Progress.antt, specs/Strands.antt.
+// The forward time pass: `update_times_forward`. Contracts: pass_rules' specs/Forward.antt, pass_state's specs/Held.antt, specs/Strands.antt.
+use pass_queue::Entry;
 use pass_rules::Walked;
 use pass_state::Passed;
 use pass_state::Stands;
-use pass_queue::Entry;
 ghost use mathlib.Core.Path.{_≡_};
 ghost use mathlib.Core.Bool.{false, not, _||_};
 ghost use mathlib.Core.List.{List};
@@ -16,7 +16,7 @@ ghost use Rattle.pass_rules.specs.Checks.{isFake};
 ghost use Rattle.pass_rules.specs.Net.{Pass};
 ghost use Rattle.pass_rules.specs.Walks.{Inside, doneIn};
 ghost use Rattle.pass_rules.specs.Forward.{alternatedBy, step as Forward·step, strand as Forward·strand, settle as Forward·settle, turn as Forward·turn, turns as Forward·turns, forward};
-ghost use Rattle.pass_state.specs.Progress.{left, PassIn, Working, PassAs, StandsAs, FindsBy, EnqueuedAs, EndsAs};
+ghost use Rattle.pass_state.specs.Held.{left, PassIn, Working, PassAs, StandsAs, FindsBy, EnqueuedAs, EndsAs};
 ghost use Rattle.pass_forward.specs.Strands.{standing, reaching, relinking};
 
 // Puts a node into the queue, at the time at which its next is reached.
@@ -67,8 +67,15 @@ fn relink(
     if pass_state::is_done(cells, done_at, next) {
         return Walked::Endless;
     }
-    let Walked::Found(found) = pass_rules::relink_walk(floats, numbers, cells, done_at, n, false, next)
-    else {
+    let Walked::Found(found) = pass_rules::relink_walk(
+        floats,
+        numbers,
+        cells,
+        done_at,
+        n,
+        false,
+        next,
+    ) else {
         return Walked::Endless;
     };
     if next == found {

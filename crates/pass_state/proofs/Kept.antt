@@ -19,7 +19,7 @@ use Rattle.pass_rules.specs.Walks.{Inside, doneIn}
 use Rattle.pass_rules.specs.Backward.{queued}
 use Rattle.pass_state.specs.declared.Passed.{Passed}
 use Rattle.pass_state.specs.declared.Passed.the-variants.{Queued, Fails}
-use Rattle.pass_state.specs.Progress.{left, PassIn, Working, PassBy, PassAs, EnqueuedAs}
+use Rattle.pass_state.specs.Held.{left, PassIn, Working, PassBy, PassAs, EnqueuedAs}
 use Rattle.pass_state.proofs.Left.{left-most, left-kept, left-falls, flags-set}
 use Rattle.pass_state.proofs.Links.{Linked, linked-time}
 

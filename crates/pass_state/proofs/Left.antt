@@ -12,7 +12,7 @@ use lib.ListN.{length, set}
 use lib.Seq.{getD-set-same, getD-set-other}
 use Rattle.pass_rules.specs.Net.{alsoDone}
 use Rattle.pass_rules.specs.Walks.{doneIn}
-use Rattle.pass_state.specs.Progress.{oneIf, left}
+use Rattle.pass_state.specs.Held.{oneIf, left}
 
 either : (b : Bool) → (b ≡ true) ⊎ (b ≡ false)
 either true = inl refl

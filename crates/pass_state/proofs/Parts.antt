@@ -12,7 +12,7 @@ use Rattle.pass_state.specs.declared.Passed.{Passed}
 use Rattle.pass_state.specs.declared.Passed.the-variants.{Fails}
 use Rattle.pass_state.specs.declared.Stands.{Stands}
 use Rattle.pass_state.specs.declared.Stands.the-variants.{On, Nowhere}
-use Rattle.pass_state.specs.Progress.{left, PassIn, Working, Gives, PassAs, StandsBy, StandsAs, FindsBy}
+use Rattle.pass_state.specs.Held.{left, PassIn, Working, Gives, PassAs, StandsBy, StandsAs, FindsBy}
 use Rattle.pass_state.proofs.Kept.{works, pass-after}
 
 pub record Parts : Type 1 where

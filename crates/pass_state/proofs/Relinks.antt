@@ -15,7 +15,7 @@ use Rattle.pass_rules.specs.declared.Walked.{Walked}
 use Rattle.pass_rules.specs.declared.Walked.the-variants.{Found, Endless}
 use Rattle.pass_rules.specs.Net.{Answer, fails, given, andThen, asserting, Pass}
 use Rattle.pass_rules.specs.Walks.{doneIn, passOf, WalkAs}
-use Rattle.pass_state.specs.Progress.{left, PassIn, FindsBy}
+use Rattle.pass_state.specs.Held.{left, PassIn, FindsBy}
 use Rattle.pass_state.proofs.Links.{Linked, Names, names-in}
 use Rattle.pass_state.proofs.Kept.{tableOf, tabled, node-in, done-in, linked-in, in-table}
 

@@ -19,7 +19,7 @@ use Rattle.pass_rules.specs.Backward.{queued}
 use Rattle.pass_rules.specs.Walks.{doneIn}
 use Rattle.pass_state.specs.declared.Passed.{Passed}
 use Rattle.pass_state.specs.declared.Passed.the-variants.{Queued, Fails}
-use Rattle.pass_state.specs.Progress.{left, PassIn, PassAs, EnqueuedAs}
+use Rattle.pass_state.specs.Held.{left, PassIn, PassAs, EnqueuedAs}
 use Rattle.pass_state.proofs.Links.{Names, names-in}
 use Rattle.pass_state.proofs.Kept.{node-in, done-in, in-more, enqueued-in, stays, pass-after}
 

@@ -17,7 +17,7 @@ use Rattle.pass_rules.specs.Walks.{doneIn}
 use Rattle.pass_state.specs.declared.Passed.{Passed}
 use Rattle.pass_state.specs.declared.Passed.the-variants.{Queued, Fails}
 use Rattle.pass_state.specs.declared.Stands.the-variants.{On, Nowhere}
-use Rattle.pass_state.specs.Progress.{left, PassIn, Gives, PassAs, StandsAs, EnqueuedAs}
+use Rattle.pass_state.specs.Held.{left, PassIn, Gives, PassAs, StandsAs, EnqueuedAs}
 use Rattle.pass_state.proofs.Left.{left-kept, left-falls}
 use Rattle.pass_state.proofs.Links.{Names, names-in}
 use Rattle.pass_state.proofs.Kept.{tableOf, doneAt, node-in, done-in, in-done, in-done-new, enqueued-in, stays, pass-after}

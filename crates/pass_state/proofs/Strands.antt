@@ -16,7 +16,7 @@ use Rattle.pass_rules.specs.Net.{Answer, fails, given, andThen, Pass}
 use Rattle.pass_rules.specs.Walks.{doneIn}
 use Rattle.pass_state.specs.declared.Stands.{Stands}
 use Rattle.pass_state.specs.declared.Stands.the-variants.{On, Nowhere}
-use Rattle.pass_state.specs.Progress.{left, PassIn, Working, Gives, StandsAs}
+use Rattle.pass_state.specs.Held.{left, PassIn, Working, Gives, StandsAs}
 use Rattle.pass_state.proofs.Left.{left-most}
 use Rattle.pass_state.proofs.Kept.{works, node-in}
 

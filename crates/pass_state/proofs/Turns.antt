@@ -13,7 +13,7 @@ use Rattle.pass_rules.specs.Net.{Answer, fails, given, andThen, Pass}
 use Rattle.pass_rules.specs.Walks.{doneIn}
 use Rattle.pass_state.specs.declared.Passed.{Passed}
 use Rattle.pass_state.specs.declared.Passed.the-variants.{Queued, Fails}
-use Rattle.pass_state.specs.Progress.{left, PassIn, Working, Gives, PassAs, Ends}
+use Rattle.pass_state.specs.Held.{left, PassIn, Working, Gives, PassAs, Ends}
 use Rattle.pass_state.proofs.Kept.{queueing, works, Popped, in-pop, none-queued}
 use Rattle.pass_state.proofs.Strands.{SameLengths, lengths-same}
 

@@ -1,11 +1,11 @@
-// A time pass at work: which nodes are done, and its queue. Contracts: specs/Progress.antt.
+// A time pass at work: which nodes are done, and its queue. Contracts: specs/Held.antt.
 use pass_queue::Entry;
 ghost use mathlib.Core.Path.{_≡_};
 ghost use Prim.Native.Nat.{_+_, _*_, _≤_, _<_};
 ghost use lib.ListN.{length, set};
 ghost use Rattle.pass_rules.specs.Net.{setTime};
 ghost use Rattle.pass_rules.specs.Walks.{doneIn};
-ghost use Rattle.pass_state.specs.Progress.{EnqueuedAs};
+ghost use Rattle.pass_state.specs.Held.{EnqueuedAs};
 
 // How many entries the queue has then, or that an assertion of the pass fails.
 pub enum Passed {

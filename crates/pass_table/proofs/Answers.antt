@@ -10,7 +10,7 @@ use lib.Ieee.{Float}
 use Rattle.space.specs.Space.{unitsOf, bytesOf, zeros, zeroFloats}
 use Rattle.net_insertion.specs.Insertion.{Table}
 use Rattle.pass_rules.specs.Passes.{Timed, refused, timedAs, passes}
-use Rattle.pass_all.specs.Timing.{timedNumber, TimedInto}
+use Rattle.pass_all.specs.Answers.{timedNumber, TimedInto}
 use Rattle.pass_all.proofs.Proper.{Proper, passes-proper}
 use Rattle.pass_table.specs.declared.TimedTable.{TimedTable}
 use Rattle.pass_table.specs.declared.TimedTable.the-variants.{Whole, Refused}

@@ -20,13 +20,13 @@ use Rattle.net_insertion.specs.Insertion.{Table, at}
 use Rattle.pass_rules.specs.Walks.{Inside}
 use Rattle.pass_table.specs.declared.TimedTable.{TimedTable}
 use Rattle.pass_table.specs.declared.TimedTable.the-variants.{Whole, Refused}
-use Rattle.pass_table.specs.TableEntry.{nodesIn, row3, row4, row5, badFloats, badNode, strayNode}
+use Rattle.pass_table.specs.TableEntry.{nodesIn, tableRow3, tableRow4, tableRow5, badFloats, badNode, strayNode}
 use Rattle.pass_table.specs.Parts.{nodesNumber, firstNumber, keptNodes, answerAs}
 
 -- ---- row 3
 
-pub size-outside : (n units : ℕ) → (ltb n 3 || ltb 65535 n) ≡ true → true ≡ row3 n (64 * units)
-unfolding row3
+pub size-outside : (n units : ℕ) → (ltb n 3 || ltb 65535 n) ≡ true → true ≡ tableRow3 n (64 * units)
+unfolding tableRow3
 size-outside n units e = sym (or-left (ltb n 3 || ltb 65535 n) (ltb (64 * units) (36864 + 64 * min n 65535)) e)
 
 -- a count that is not outside
@@ -40,8 +40,8 @@ units-asked n units h = go (ltb units (576 + n)) refl
     go true e = let l = ltb-true units (576 + n) e in sym (lt-ltb (64 * units) (36864 + 64 * min n 65535) (omega arith))
     go false e = let l = ltb-false units (576 + n) e in sym (le-ltb (64 * units) (36864 + 64 * min n 65535) (omega arith))
 
-pub size-inside : (n units : ℕ) → (ltb n 3 || ltb 65535 n) ≡ false → ltb units (576 + n) ≡ row3 n (64 * units)
-unfolding row3
+pub size-inside : (n units : ℕ) → (ltb n 3 || ltb 65535 n) ≡ false → ltb units (576 + n) ≡ tableRow3 n (64 * units)
+unfolding tableRow3
 size-inside n units e = units-asked n units (size-most n e) ∙ sym (ap (λ (t : Bool). t || ltb (64 * units) (36864 + 64 * min n 65535)) e)
 
 -- ---- rows 4 and 5 of a node
@@ -82,7 +82,7 @@ module _ (fs : List Float) (us : List ℕ) (n : ℕ) where
 
     pub sweep-bad : (x : EstTime) (b : Bool) → i < n → x ≡ nodeAt fs us i → b ≡ (badFloats x || ltb 2 (getD us (i * 6 + 5) 0)) → b ≡ true → 4 ≡ nodesNumber lent n
     unfolding nodesNumber lowest
-    sweep-bad x b h e f d = sym (ap (λ (t : Bool). lowest 4 (t ∷ row5 lent n ∷ [])) (some-at n (badNode lent) i h (sym (bad-here x b e f) ∙ d)))
+    sweep-bad x b h e f d = sym (ap (λ (t : Bool). lowest 4 (t ∷ tableRow5 lent n ∷ [])) (some-at n (badNode lent) i h (sym (bad-here x b e f) ∙ d)))
 
     pub sweep-on : (x : EstTime) (b r : Bool) → i < n → x ≡ nodeAt fs us i → b ≡ (badFloats x || ltb 2 (getD us (i * 6 + 5) 0)) → b ≡ false → r ≡ strayNode n x → Swept lent n (i + 1) (found || r)
     sweep-on x b r h e f d g = record {
@@ -95,34 +95,34 @@ module _ (fs : List Float) (us : List ℕ) (n : ℕ) where
     }
 
     pub sweep-end : (r : ℕ) → n ≤ i → r ≡ lowest 4 (false ∷ found ∷ []) → r ≡ nodesNumber lent n
-    unfolding nodesNumber row5
+    unfolding nodesNumber tableRow5
     sweep-end r h e =
         let d : i ≡ n = omega (arith, v .within) in
         e
         ∙ ap (λ (t : Bool). lowest 4 (false ∷ t ∷ [])) (v .strays ∙ ap (λ (k : ℕ). someBelow k (λ j. strayNode n (at lent j))) d)
-        ∙ ap (λ (t : Bool). lowest 4 (t ∷ row5 lent n ∷ [])) (sym (ap (λ (k : ℕ). someBelow k (badNode lent)) (sym d) ∙ v .good))
+        ∙ ap (λ (t : Bool). lowest 4 (t ∷ tableRow5 lent n ∷ [])) (sym (ap (λ (k : ℕ). someBelow k (badNode lent)) (sym d) ∙ v .good))
 
 -- ---- rows 3 to 5 together
 
 module _ (t : Table) (n : ℕ) (departure : Float) (units : ℕ) where
-  pub first-three : (b : Bool) → b ≡ row3 n (64 * units) → b ≡ true → 3 ≡ firstNumber t n departure (64 * units)
+  pub first-three : (b : Bool) → b ≡ tableRow3 n (64 * units) → b ≡ true → 3 ≡ firstNumber t n departure (64 * units)
   unfolding firstNumber lowest
-  first-three b e d = sym (ap (λ (x : Bool). lowest 3 (x ∷ row4 t n departure ∷ row5 t n ∷ [])) (sym e ∙ d))
+  first-three b e d = sym (ap (λ (x : Bool). lowest 3 (x ∷ tableRow4 t n departure ∷ tableRow5 t n ∷ [])) (sym e ∙ d))
 
-  pub first-four : (b x : Bool) → b ≡ row3 n (64 * units) → b ≡ false → x ≡ tableFloat departure → not x ≡ true → 4 ≡ firstNumber t n departure (64 * units)
-  unfolding firstNumber lowest row4
+  pub first-four : (b x : Bool) → b ≡ tableRow3 n (64 * units) → b ≡ false → x ≡ tableFloat departure → not x ≡ true → 4 ≡ firstNumber t n departure (64 * units)
+  unfolding firstNumber lowest tableRow4
   first-four b x e d f g =
       sym
-      (ap (λ (y : Bool). lowest 3 (y ∷ row4 t n departure ∷ row5 t n ∷ [])) (sym e ∙ d)
-      ∙ ap (λ (y : Bool). lowest 4 (y ∷ row5 t n ∷ [])) (or-left (not (tableFloat departure)) (someBelow n (badNode t)) (ap not (sym f) ∙ g)))
+      (ap (λ (y : Bool). lowest 3 (y ∷ tableRow4 t n departure ∷ tableRow5 t n ∷ [])) (sym e ∙ d)
+      ∙ ap (λ (y : Bool). lowest 4 (y ∷ tableRow5 t n ∷ [])) (or-left (not (tableFloat departure)) (someBelow n (badNode t)) (ap not (sym f) ∙ g)))
 
-  pub first-nodes : (b x : Bool) (r : ℕ) → b ≡ row3 n (64 * units) → b ≡ false → x ≡ tableFloat departure → not x ≡ false → r ≡ nodesNumber t n → r ≡ firstNumber t n departure (64 * units)
-  unfolding firstNumber nodesNumber lowest row4
+  pub first-nodes : (b x : Bool) (r : ℕ) → b ≡ tableRow3 n (64 * units) → b ≡ false → x ≡ tableFloat departure → not x ≡ false → r ≡ nodesNumber t n → r ≡ firstNumber t n departure (64 * units)
+  unfolding firstNumber nodesNumber lowest tableRow4
   first-nodes b x r e d f g h =
       h
       ∙ sym
-      (ap (λ (y : Bool). lowest 3 (y ∷ row4 t n departure ∷ row5 t n ∷ [])) (sym e ∙ d)
-      ∙ ap (λ (y : Bool). lowest 4 ((y || someBelow n (badNode t)) ∷ row5 t n ∷ [])) (ap not (sym f) ∙ g))
+      (ap (λ (y : Bool). lowest 3 (y ∷ tableRow4 t n departure ∷ tableRow5 t n ∷ [])) (sym e ∙ d)
+      ∙ ap (λ (y : Bool). lowest 4 ((y || someBelow n (badNode t)) ∷ tableRow5 t n ∷ [])) (ap not (sym f) ∙ g))
 
 -- ---- what they leave for the passes
 
@@ -142,8 +142,8 @@ none-of-four a b c d e =
     let g = none-left (a || b) c f in (none-left a b g, (none-right a b g, (none-right (a || b) c f, none-right (a || b || c) d e)))
 
 -- row 5: every index names a node
-indices-inside : (fs : List Float) (us : List ℕ) (n : ℕ) → row5 (record { floats = fs; numbers = us }) n ≡ false → Inside (nodeAt fs us) n
-unfolding row5 strayNode at
+indices-inside : (fs : List Float) (us : List ℕ) (n : ℕ) → tableRow5 (record { floats = fs; numbers = us }) n ≡ false → Inside (nodeAt fs us) n
+unfolding tableRow5 strayNode at
 indices-inside fs us n e = record {
   next = λ i h. leb-false n (x i .«idx_next») (here i h .0);
   next-alt = λ i h. leb-false n (x i .«idx_next_alt») (here i h .1 .0);
@@ -159,14 +159,14 @@ indices-inside fs us n e = record {
 
 -- rows 3 to 5 leave at most so many nodes
 pub most-nodes : (t : Table) (n : ℕ) (departure : Float) (bytes : ℕ) → firstNumber t n departure bytes ≡ 0 → n ≤ 65535
-unfolding firstNumber row3
+unfolding firstNumber tableRow3
 most-nodes t n departure bytes e =
-    let f = none-of-three (row3 n bytes) (row4 t n departure) (row5 t n) e .0 in
+    let f = none-of-three (tableRow3 n bytes) (tableRow4 t n departure) (tableRow5 t n) e .0 in
     size-most n (none-left (ltb n 3 || ltb 65535 n) (ltb bytes (36864 + 64 * min n 65535)) f)
 
 -- row 3: the sizes
-sizes-hold : (n units : ℕ) → row3 n (64 * units) ≡ false → (3 ≤ n) × ((n ≤ 65535) × (576 + n ≤ units))
-unfolding row3
+sizes-hold : (n units : ℕ) → tableRow3 n (64 * units) ≡ false → (3 ≤ n) × ((n ≤ 65535) × (576 + n ≤ units))
+unfolding tableRow3
 sizes-hold n units e =
     let f = none-left (ltb n 3 || ltb 65535 n) (ltb (64 * units) (36864 + 64 * min n 65535)) e in
     let a : 3 ≤ n = ltb-false n 3 (none-left (ltb n 3) (ltb 65535 n) f) in
@@ -191,7 +191,7 @@ pub ready : (fs : List Float) (us : List ℕ) (n : ℕ) (departure : Float) (uni
     → number ≡ firstNumber (record { floats = fs; numbers = us }) n departure (64 * units) → number ≡ 0 → Ready fs us n rs cs ms
 unfolding firstNumber unitsOf
 ready fs us n departure units rs cs ms number e f g z =
-    let d = none-of-three (row3 n (64 * units)) (row4 (record { floats = fs; numbers = us }) n departure) (row5 (record { floats = fs; numbers = us }) n) (sym g ∙ z) in
+    let d = none-of-three (tableRow3 n (64 * units)) (tableRow4 (record { floats = fs; numbers = us }) n departure) (tableRow5 (record { floats = fs; numbers = us }) n) (sym g ∙ z) in
     let s = sizes-hold n units (d .0) in
     let h = nodes-fit fs us n e in record {
       room = record { floats = h .0; numbers = h .1; most = s .1 .0 };

@@ -8,15 +8,15 @@ use Rattle.book_format.specs.Rows.{lowest}
 use Rattle.net_insertion.specs.Insertion.{Table}
 use Rattle.pass_table.specs.declared.TimedTable.{TimedTable}
 use Rattle.pass_table.specs.declared.TimedTable.the-variants.{Whole, Refused}
-use Rattle.pass_table.specs.TableEntry.{row3, row4, row5, badNode}
+use Rattle.pass_table.specs.TableEntry.{tableRow3, tableRow4, tableRow5, badNode}
 
 -- rows 4 and 5, as far as the nodes tell
 unfoldable pub nodesNumber : Table → ℕ → ℕ
-nodesNumber t n = lowest 4 (someBelow n (badNode t) ∷ row5 t n ∷ [])
+nodesNumber t n = lowest 4 (someBelow n (badNode t) ∷ tableRow5 t n ∷ [])
 
 -- rows 3 to 5
 unfoldable pub firstNumber : Table → ℕ → Float → ℕ → ℕ
-firstNumber t n departure bytes = lowest 3 (row3 n bytes ∷ row4 t n departure ∷ row5 t n ∷ [])
+firstNumber t n departure bytes = lowest 3 (tableRow3 n bytes ∷ tableRow4 t n departure ∷ tableRow5 t n ∷ [])
 
 -- the nodes that a number leaves, and the answer that it is
 abbrev pub keptNodes : ℕ → ℕ → ℕ

@@ -21,8 +21,8 @@ unfoldable pub nodesIn : Table → ℕ
 nodesIn t = min (length (t .floats) / 4) (length (t .numbers) / 6)
 
 -- Row 3: "table handed to the passes outside 3 to 65,535 nodes; work space below 36,864 + 64 times (.. table places up to 65,535) bytes"
-unfoldable pub row3 : ℕ → ℕ → Bool
-row3 n bytes = ltb n 3 || ltb 65535 n || ltb bytes (36864 + 64 * min n 65535)
+unfoldable pub tableRow3 : ℕ → ℕ → Bool
+tableRow3 n bytes = ltb n 3 || ltb 65535 n || ltb bytes (36864 + 64 * min n 65535)
 
 -- Row 4: "float not finite or above 1,000,000,000 in size (a table takes either sign); .. kind unknown"
 unfoldable pub badFloats : EstTime → Bool
@@ -32,17 +32,17 @@ unfoldable pub badNode : Table → ℕ → Bool
 unfolding badFloats
 badNode t i = badFloats (at t i) || ltb 2 (getD (t .numbers) (i * 6 + 5) 0)
 
-unfoldable pub row4 : Table → ℕ → Float → Bool
+unfoldable pub tableRow4 : Table → ℕ → Float → Bool
 unfolding badNode
-row4 t n departure = not (tableFloat departure) || someBelow n (badNode t)
+tableRow4 t n departure = not (tableFloat departure) || someBelow n (badNode t)
 
 -- Row 5: "index (not a table's event link) names nothing"
 unfoldable pub strayNode : ℕ → EstTime → Bool
 strayNode n x = leb n (x .«idx_next») || leb n (x .«idx_next_alt») || leb n (x .«idx_prev») || leb n (x .«idx_prev_alt»)
 
-unfoldable pub row5 : Table → ℕ → Bool
+unfoldable pub tableRow5 : Table → ℕ → Bool
 unfolding strayNode
-row5 t n = someBelow n (λ i. strayNode n (at t i))
+tableRow5 t n = someBelow n (λ i. strayNode n (at t i))
 
 -- "Of 1 to 8 the lowest wins; after that the first met."
 abbrev pub unless : ℕ → Timed → Timed
@@ -50,10 +50,10 @@ unless zero later = later
 unless (suc k) later = refused (suc k)
 
 unfoldable pub tableTimes : Table → Float → ℕ → Timed
-unfolding row3 row4 row5
+unfolding tableRow3 tableRow4 tableRow5
 tableTimes t departure bytes =
     let n = nodesIn t in
-    unless (lowest 3 (row3 n bytes ∷ row4 t n departure ∷ row5 t n ∷ [])) (passes t n departure)
+    unless (lowest 3 (tableRow3 n bytes ∷ tableRow4 t n departure ∷ tableRow5 t n ∷ [])) (passes t n departure)
 
 -- ---- the answer and both slices
 

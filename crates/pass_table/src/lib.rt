@@ -9,8 +9,8 @@ ghost use lib.ListN.{length};
 ghost use Rattle.space.specs.Space.{bytesOf, zeros, zeroFloats};
 ghost use Rattle.book_format.specs.Rows.{lowest};
 ghost use Rattle.net_insertion.specs.Insertion.{Table};
-ghost use Rattle.pass_all.specs.Timing.{timedNumber, TimedInto};
-ghost use Rattle.pass_table.specs.TableEntry.{nodesIn, row3, badFloats, strayNode, tableTimes, timedAnswer, floatsAs, numbersAs};
+ghost use Rattle.pass_all.specs.Answers.{timedNumber, TimedInto};
+ghost use Rattle.pass_table.specs.TableEntry.{nodesIn, tableRow3, badFloats, strayNode, tableTimes, timedAnswer, floatsAs, numbersAs};
 ghost use Rattle.pass_table.specs.Parts.{nodesNumber, firstNumber, keptNodes, answerAs};
 
 // How many nodes the timed table has, or the number of a refusal.
@@ -23,7 +23,7 @@ pub enum TimedTable {
 
 // Row 3: whether the nodes are too few or too many, or the units of work space too few for them.
 fn size_refused(n: usize, units: usize) -> bool
-    ensures { λ r. ⌜ r ≡ row3 n (64 * units) ⌝ }
+    ensures { λ r. ⌜ r ≡ tableRow3 n (64 * units) ⌝ }
 {
     if (n < 3) | (65535 < n) {
         return true;

@@ -6,7 +6,7 @@ use borrow.Author.Tests.{not-true, not-false}
 use lib.ListN.{length}
 use Rattle.book_format.specs.Format.{destinations}
 use Rattle.book_format.proofs.Places.{sized-destinations}
-use Rattle.book_options.specs.Turns.{Pushed, Walking, popsLeft}
+use Rattle.book_options.specs.Turns.{DestinationsStacked, Walking, popsLeft}
 use Rattle.book_options.proofs.Starts.{walk-start}
 use Rattle.book_options.proofs.Ends.{walk-marked, walk-none, walk-some, zero-refused, refused}
 use Rattle.book_options.proofs.get_link_idx_options.Statement.{statement}
@@ -22,7 +22,7 @@ push-destinations-requires : tie.Need-push-destinations-requires Inv-loop μ-loo
 push-destinations-requires c κs = (c .before .before .before .pre .0, (omega (arith, c .before .before .before .pre .1 .1 .1 .1 .1 .0), c .before .before .before .pre .1 .1 .1 .1 .1 .1))
 
 -- no destination is link 0
-real : (c : tie.Else1 Inv-loop μ-loop) → Pushed (c .before .before .before .before .before .before .before .args .book .now) (destinations (c .before .before .before .before .before .before .before .args .book .now)) (c .before .before .before .push-destinations .last .1 .1 .0)
+real : (c : tie.Else1 Inv-loop μ-loop) → DestinationsStacked (c .before .before .before .before .before .before .before .args .book .now) (destinations (c .before .before .before .before .before .before .before .args .book .now)) (c .before .before .before .push-destinations .last .1 .1 .0)
 real c = c .before .before .before .push-destinations .ensures .1 (not-false (c .before .before .before .push-destinations .result) (c .if1 .left))
 
 -- the slice's length where the loop begins

@@ -1,4 +1,4 @@
--- `book_options::push_destinations` meets its contract: `Pushed` is the loop's invariant.
+-- `book_options::push_destinations` meets its contract: `DestinationsStacked` is the loop's invariant.
 use mathlib.Core.Path.{_≡_, refl, sym, ap, subst, _∙_}
 use mathlib.Core.Bool.{true≢false}
 use Prim.Native.Nat.{ℕ, _+_, _-_, _≤_, _<_}
@@ -6,13 +6,13 @@ use native.Mathlib.Omega.{arith}
 use lib.ListN.{length, length-set}
 use Rattle.book_format.specs.Format.{destinations}
 use Rattle.book_format.proofs.Places.{sized-links, sized-destinations}
-use Rattle.book_options.specs.Turns.{Pushed}
+use Rattle.book_options.specs.Turns.{DestinationsStacked}
 use Rattle.book_options.proofs.Starts.{pushed-none, pushed-more, zero-met}
 use Rattle.book_options.proofs.push_destinations.Statement.{statement}
 use Rattle.book_options.proofs.push_destinations.Tie as tie
 
 abbrev Inv-loop : tie.InvT-loop
-Inv-loop book s marks₀ base n i₀ marks i = (i ≤ n) × (length marks ≡ length marks₀) × Pushed book i marks
+Inv-loop book s marks₀ base n i₀ marks i = (i ≤ n) × (length marks ≡ length marks₀) × DestinationsStacked book i marks
 
 abbrev μ-loop : tie.MeasureT-loop
 μ-loop book s marks₀ base n i₀ marks i = n - i
@@ -72,7 +72,7 @@ returns-2 : tie.Need-returns-2 Inv-loop μ-loop
 returns-2 c =
     let a = c .before .before .before .before in
     let e : c .before .loop .i ≡ destinations (a .args .book .now) = omega (arith, sized-destinations (a .pre .0)) in
-    (λ e. absurd (true≢false e), λ t. subst (λ (n : ℕ). Pushed (a .args .book .now) n (c .before .loop .marks)) e (c .before .loop .inv .2))
+    (λ e. absurd (true≢false e), λ t. subst (λ (n : ℕ). DestinationsStacked (a .args .book .now) n (c .before .loop .marks)) e (c .before .loop .inv .2))
 
 pub push-destinations-spec : {M : Type 1} → statement M
 push-destinations-spec =

@@ -9,7 +9,7 @@ use Rattle.grow_events.proofs.insert_event.Statement.{statement}
 use Rattle.grow_events.proofs.insert_event.Tie as tie
 
 insert-est-time-requires : tie.Need-insert-est-time-requires
-insert-est-time-requires c κs = let r = c .before .before .before .before .before .before .before .before .pre in let g = r .0 .holds in (g .room, (g .within, (g .woven, (r .1 .0, ends-inside g))))
+insert-est-time-requires c κs = let r = c .before .before .before .before .before .before .before .before .pre in let g = r .0 .holds in (g .room, (g .within, (g .indexed, (r .1 .0, ends-inside g))))
 
 -- the node that was added
 fresh : (c : tie.After-known-told3) → Fresh (c .before .before .before .before .before .before .before .before .before .before .before .before .before .before .before .before .pre .0 .holds) (c .before .before .before .before .before .before .before .before .before .before .before .before .before .before .before .before .args .join) (c .before .before .before .before .before .before .before .before .before .before .before .before .before .before .before .before .args .m .place) (c .before .before .before .before .before .before .before .before .before .before .before .before .before .before .before .before .args .e) (c .before .before .before .before .before .before .before .before .before .before .before .before .before .before .before .before .pre .1 .0) (c .before .inserted3 .given .0 .0 .«idx_prev») (c .before .inserted3 .given .0 .1 .0)

@@ -20,7 +20,7 @@ join-step-requires c κs =
     let r = c .before .before .before .before .before .before .before .before .before .before .before .before .before .before .pre in
     let g = r .0 .holds in
     let u = r .0 .runs in
-    (g .room, (g .within, (omega (arith, g .sum), (g .woven, (g .apart, (g .mapped, (r .1 .0, (u .few, (r .1 .1 .0, (r .1 .1 .1 .0, (r .1 .1 .1 .1, u .valid)))))))))))
+    (g .room, (g .within, (omega (arith, g .sum), (g .indexed, (g .apart, (g .mapped, (r .1 .0, (u .few, (r .1 .1 .0, (r .1 .1 .1 .0, (r .1 .1 .1 .1, u .valid)))))))))))
 
 with-joined-requires : tie.Need-with-joined-requires
 with-joined-requires c κs =

@@ -11,8 +11,8 @@ use Rattle.event_walk.specs.Course.{courseOf}
 use Rattle.event_walk.specs.declared.Next.the-variants.{Passed}
 use Rattle.event_walk.specs.Walk.{passedFrom, NextOf}
 use Rattle.grow_path.proofs.Testing.{test-less}
-use Rattle.grow_events.specs.declared.Outcome.{Outcome}
-use Rattle.grow_events.proofs.Outcome.{the-type}
+use Rattle.grow_events.specs.declared.RunAnswer.{RunAnswer}
+use Rattle.grow_events.proofs.RunAnswer.{the-type}
 use Rattle.grow_events.proofs.Leg.{Long, Going, going-start, going-end, next-moving, next-inside, next-real, going-bad, going-stop, stop-more, going-on, not-on}
 use Rattle.grow_events.proofs.run_events.Statement.{statement}
 use Rattle.grow_events.proofs.run_events.Tie as tie
@@ -130,7 +130,7 @@ returns-3 c =
     let x = c .before .before .before .before .before .before .before .before .before .before .before .before .before .before .before .before .before .before .before .before .before .event-at in
     let r = c .before .before .before .before .before .before .before .before .before .before .before .before .before .before .run-event in
     let ok = sym (c .before .before .before .before .before .before .before .before .before .before .before .before .before .before .before .before .before .before .before .before .before .before .before .before .is-bad-point .ensures) ∙ c .before .before .before .before .before .before .before .before .before .before .before .before .before .before .before .before .before .before .before .before .before .before .before .if1 .left in (
-      going-stop _ _ _ _ _ _ _ _ _ _ _ s _ _ n (x .result) (x .ensures) _ _ _ _ (r .result) (r .ensures .0) (r .ensures .1) ok (λ d m e. not-on (subst (λ (o : Outcome). OneOf (1 ∷ 2 ∷ []) (tagOf the-type o)) e (c .before .match2 .keys2))) (c .stopped .result) (c .stopped .ensures),
+      going-stop _ _ _ _ _ _ _ _ _ _ _ s _ _ n (x .result) (x .ensures) _ _ _ _ (r .result) (r .ensures .0) (r .ensures .1) ok (λ d m e. not-on (subst (λ (o : RunAnswer). OneOf (1 ∷ 2 ∷ []) (tagOf the-type o)) e (c .before .match2 .keys2))) (c .stopped .result) (c .stopped .ensures),
       stop-more _ _ _ _ _ _ _ _ _ _ _ s _ _ n (x .result) (x .ensures) _ _ _ _ (r .result) (r .ensures .0) (r .ensures .1) ok (c .stopped .result) (c .stopped .ensures),
     )
 

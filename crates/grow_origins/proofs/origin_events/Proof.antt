@@ -1,4 +1,4 @@
--- `grow_origins::origin_events` meets its contract: proofs/Sowing.antt.
+-- `grow_origins::origin_events` meets its contract: proofs/OriginEvents.antt.
 use borrow.Author.Needs.{needs}
 use mathlib.Core.Path.{subst}
 use mathlib.Core.List.{[], _∷_}
@@ -6,10 +6,10 @@ use Prim.{tt}
 use native.Mathlib.Omega.{arith}
 use types.Run.{OneOf}
 use denote.Enum.Declared.{tagOf}
-use Rattle.grow_events.specs.declared.Outcome.{Outcome}
-use Rattle.grow_events.proofs.Outcome.{the-type}
+use Rattle.grow_events.specs.declared.RunAnswer.{RunAnswer}
+use Rattle.grow_events.proofs.RunAnswer.{the-type}
 use Rattle.grow_events.proofs.Leg.{not-on}
-use Rattle.grow_origins.proofs.Sowing.{real-event, first-there, first-grown, fewer-as, fewer-more, origin-stops, origin-clears}
+use Rattle.grow_origins.proofs.OriginEvents.{real-event, first-there, first-grown, fewer-as, fewer-more, origin-stops, origin-clears}
 use Rattle.grow_origins.proofs.origin_events.Statement.{statement}
 use Rattle.grow_origins.proofs.origin_events.Tie as tie
 
@@ -19,7 +19,7 @@ insert-event-requires c κs = (c .before .before .before .before .before .before
 returns : tie.Need-returns
 returns c =
     let i = c .before .before .before .before .before .before .before .insert-event in
-    (λ b reals start joins net plan v. origin-stops b _ reals plan _ _ _ _ _ _ _ _ _ _ (i .result) (i .ensures .0) _ (c .before .before .before .before .before .before .before .before .before .before .before .before .before .before .before .before .before .pre .1 .1) (c .before .before .before .before .before .before .before .before .before .before .before .before .origin-run .ensures) (c .before .before .before .before .before .before .before .before .before .before .before .origin-event .ensures) start joins net v (λ d m e. not-on (subst (λ (o : Outcome). OneOf (1 ∷ 2 ∷ []) (tagOf the-type o)) e (c .match .keys2))), i .ensures .1)
+    (λ b reals start joins net plan v. origin-stops b _ reals plan _ _ _ _ _ _ _ _ _ _ (i .result) (i .ensures .0) _ (c .before .before .before .before .before .before .before .before .before .before .before .before .before .before .before .before .before .pre .1 .1) (c .before .before .before .before .before .before .before .before .before .before .before .before .origin-run .ensures) (c .before .before .before .before .before .before .before .before .before .before .before .origin-event .ensures) start joins net v (λ d m e. not-on (subst (λ (o : RunAnswer). OneOf (1 ∷ 2 ∷ []) (tagOf the-type o)) e (c .match .keys2))), i .ensures .1)
 
 insert-event-requires-2 : tie.Need-insert-event-requires-2
 insert-event-requires-2 c κs =

@@ -1,17 +1,17 @@
--- `grow_origins::origins` meets its contract: `Planting` is the loop's invariant.
+-- `grow_origins::origins` meets its contract: `OriginLoop` is the loop's invariant.
 use borrow.Author.Needs.{needs}
 use native.Mathlib.Omega.{arith}
 use Prim.Native.Nat.{_-_}
-use Rattle.grow_origins.proofs.Planting.{Planting, row-left, planting-start, links-fit, destinations-fit, rows-fit, rows-inside, row-at, row-small, planting-plan, planting-small, row-named, planting-some, planting-leads, planting-stop, planting-on, planting-end}
+use Rattle.grow_origins.proofs.OriginLoop.{OriginLoop, idx-left, loop-start, links-fit, destinations-fit, idxs-fit, idxs-inside, idx-at, idx-small, loop-plan, loop-small, idx-named, loop-some, loop-leads, loop-stop, loop-on, loop-end}
 use Rattle.grow_origins.proofs.origins.Statement.{statement}
 use Rattle.grow_origins.proofs.origins.Tie as tie
 
 abbrev Inv-loop : tie.InvT-loop
-Inv-loop book floats₀ numbers₀ reals₀ cells₀ marks joins kept p rows-at state₀ last₀ k₀ floats numbers reals cells state last k =
-    Planting book p joins floats₀ numbers₀ reals₀ cells₀ state₀ floats numbers reals cells state last k
+Inv-loop book floats₀ numbers₀ reals₀ cells₀ marks joins kept p idxs-at state₀ last₀ k₀ floats numbers reals cells state last k =
+    OriginLoop book p joins floats₀ numbers₀ reals₀ cells₀ state₀ floats numbers reals cells state last k
 
 abbrev μ-loop : tie.MeasureT-loop
-μ-loop book floats₀ numbers₀ reals₀ cells₀ marks joins kept p rows-at state₀ last₀ k₀ floats numbers reals cells state last k =
+μ-loop book floats₀ numbers₀ reals₀ cells₀ marks joins kept p idxs-at state₀ last₀ k₀ floats numbers reals cells state last k =
     kept - k
 
 mul-rows-at : tie.Need-mul-rows-at Inv-loop μ-loop
@@ -21,27 +21,27 @@ add-rows-at : tie.Need-add-rows-at Inv-loop μ-loop
 add-rows-at c = omega (arith, links-fit _ _ _ (c .before .before .before .before .before .before .before .before .before .before .pre .0), destinations-fit _ _ _ (c .before .before .before .before .before .before .before .before .before .before .pre .0))
 
 loop-holds : tie.Need-loop-holds Inv-loop μ-loop
-loop-holds c = planting-start _ _ _ _ _ _ _ _ (c .before .before .before .before .before .before .before .before .before .before .pre .1 .1 .1 .1 .1 .0)
+loop-holds c = loop-start _ _ _ _ _ _ _ _ (c .before .before .before .before .before .before .before .before .before .before .pre .1 .1 .1 .1 .1 .0)
 
-add-row : tie.Need-add-row Inv-loop μ-loop
-add-row c = omega (arith, links-fit _ _ _ (c .before .before .before .before .before .before .before .before .before .before .before .before .pre .0), destinations-fit _ _ _ (c .before .before .before .before .before .before .before .before .before .before .before .before .pre .0), rows-fit _ _ _ (c .before .before .before .before .before .before .before .before .before .before .before .before .pre .0), c .before .loop .inv .within)
+add-idx : tie.Need-add-idx Inv-loop μ-loop
+add-idx c = omega (arith, links-fit _ _ _ (c .before .before .before .before .before .before .before .before .before .before .before .before .pre .0), destinations-fit _ _ _ (c .before .before .before .before .before .before .before .before .before .before .before .before .pre .0), idxs-fit _ _ _ (c .before .before .before .before .before .before .before .before .before .before .before .before .pre .0), c .before .loop .inv .within)
 
-mul-row : tie.Need-mul-row Inv-loop μ-loop
-mul-row c = omega (arith, links-fit _ _ _ (c .before .before .before .before .before .before .before .before .before .before .before .before .pre .0), destinations-fit _ _ _ (c .before .before .before .before .before .before .before .before .before .before .before .before .pre .0), rows-fit _ _ _ (c .before .before .before .before .before .before .before .before .before .before .before .before .pre .0), c .before .loop .inv .within)
+mul-idx : tie.Need-mul-idx Inv-loop μ-loop
+mul-idx c = omega (arith, links-fit _ _ _ (c .before .before .before .before .before .before .before .before .before .before .before .before .pre .0), destinations-fit _ _ _ (c .before .before .before .before .before .before .before .before .before .before .before .before .pre .0), idxs-fit _ _ _ (c .before .before .before .before .before .before .before .before .before .before .before .before .pre .0), c .before .loop .inv .within)
 
-shared-slice-read-row : tie.Need-shared-slice-read-row Inv-loop μ-loop
-shared-slice-read-row c = rows-inside _ _ _ (c .before .before .before .before .before .before .before .before .before .before .before .before .before .pre .0) _ _ (c .before .before .before .before .before .before .before .before .before .before .before .before .before .pre .1 .0) (c .before .before .before .before .before .before .before .before .before .before .before .before .before .pre .1 .1 .0) (row-left _ _ _ (c .before .before .before .before .before .before .before .before .before .before .before .before .before .pre .1 .1 .1 .0) (c .before .loop-test .taken))
+shared-slice-read-idx : tie.Need-shared-slice-read-idx Inv-loop μ-loop
+shared-slice-read-idx c = idxs-inside _ _ _ (c .before .before .before .before .before .before .before .before .before .before .before .before .before .pre .0) _ _ (c .before .before .before .before .before .before .before .before .before .before .before .before .before .pre .1 .0) (c .before .before .before .before .before .before .before .before .before .before .before .before .before .pre .1 .1 .0) (idx-left _ _ _ (c .before .before .before .before .before .before .before .before .before .before .before .before .before .pre .1 .1 .1 .0) (c .before .loop-test .taken))
 
-cast-row : tie.Need-cast-row Inv-loop μ-loop
-cast-row c = omega (arith, row-small _ _ _ (c .before .before .before .before .before .before .before .before .before .before .before .before .before .pre .0) _ _ (c .before .before .before .before .before .before .before .before .before .before .before .before .before .pre .1 .0) (row-left _ _ _ (c .before .before .before .before .before .before .before .before .before .before .before .before .before .pre .1 .1 .1 .0) (c .before .loop-test .taken)))
+cast-idx : tie.Need-cast-idx Inv-loop μ-loop
+cast-idx c = omega (arith, idx-small _ _ _ (c .before .before .before .before .before .before .before .before .before .before .before .before .before .pre .0) _ _ (c .before .before .before .before .before .before .before .before .before .before .before .before .before .pre .1 .0) (idx-left _ _ _ (c .before .before .before .before .before .before .before .before .before .before .before .before .before .pre .1 .1 .1 .0) (c .before .loop-test .taken)))
 
 origin-requires : tie.Need-origin-requires Inv-loop μ-loop
 origin-requires c κs =
-    let h = row-left _ _ _ (c .before .before .before .before .before .before .before .before .before .before .before .before .before .before .before .before .before .before .pre .1 .1 .1 .0) (c .before .before .before .before .before .before .loop-test .taken) in
+    let h = idx-left _ _ _ (c .before .before .before .before .before .before .before .before .before .before .before .before .before .before .before .before .before .before .pre .1 .1 .1 .0) (c .before .before .before .before .before .before .loop-test .taken) in
     let v = c .before .before .before .before .before .before .before .loop .inv in
-    let e = row-at _ _ _ (c .before .before .before .before .before .before .before .before .before .before .before .before .before .before .before .before .before .before .pre .0) _ _ (c .before .before .before .before .before .before .before .before .before .before .before .before .before .before .before .before .before .before .pre .1 .0) h in (
-      planting-plan _ _ _ _ _ _ _ _ _ _ _ _ _ _ _ v (c .before .before .before .before .before .before .before .before .before .before .before .before .before .before .before .before .before .before .pre .0),
-      (row-named _ _ _ _ _ _ _ _ _ _ _ _ _ _ _ v _ e h, (planting-some _ _ _ _ _ _ _ _ _ _ _ _ _ _ _ v _ e h (c .before .before .before .before .before .before .before .before .before .before .before .before .before .before .before .before .before .before .pre .1 .1 .1 .1 .0), (planting-leads _ _ _ _ _ _ _ _ _ _ _ _ _ _ _ v _ e h (c .before .before .before .before .before .before .before .before .before .before .before .before .before .before .before .before .before .before .pre .1 .1 .1 .1 .0), (c .before .before .before .before .before .before .before .before .before .before .before .before .before .before .before .before .before .before .pre .1 .1 .1 .1 .1 .1, omega (arith, c .before .before .before .before .before .before .before .before .before .before .before .before .before .before .before .before .before .before .pre .1 .1 .0))))),
+    let e = idx-at _ _ _ (c .before .before .before .before .before .before .before .before .before .before .before .before .before .before .before .before .before .before .pre .0) _ _ (c .before .before .before .before .before .before .before .before .before .before .before .before .before .before .before .before .before .before .pre .1 .0) h in (
+      loop-plan _ _ _ _ _ _ _ _ _ _ _ _ _ _ _ v (c .before .before .before .before .before .before .before .before .before .before .before .before .before .before .before .before .before .before .pre .0),
+      (idx-named _ _ _ _ _ _ _ _ _ _ _ _ _ _ _ v _ e h, (loop-some _ _ _ _ _ _ _ _ _ _ _ _ _ _ _ v _ e h (c .before .before .before .before .before .before .before .before .before .before .before .before .before .before .before .before .before .before .pre .1 .1 .1 .1 .0), (loop-leads _ _ _ _ _ _ _ _ _ _ _ _ _ _ _ v _ e h (c .before .before .before .before .before .before .before .before .before .before .before .before .before .before .before .before .before .before .pre .1 .1 .1 .1 .0), (c .before .before .before .before .before .before .before .before .before .before .before .before .before .before .before .before .before .before .pre .1 .1 .1 .1 .1 .1, omega (arith, c .before .before .before .before .before .before .before .before .before .before .before .before .before .before .before .before .before .before .pre .1 .1 .0))))),
     )
 
 same-length : tie.Need-same-length Inv-loop μ-loop
@@ -58,24 +58,24 @@ same-length-4 c = omega (arith, c .before .before .before .before .before .befor
 
 returns : tie.Need-returns Inv-loop μ-loop
 returns c =
-    let h = row-left _ _ _ (c .before .before .before .before .before .before .before .before .before .before .before .before .before .before .before .before .before .before .before .before .before .before .before .before .before .before .before .before .before .pre .1 .1 .1 .0) (c .before .before .before .before .before .before .before .before .before .before .before .before .before .before .before .before .before .loop-test .taken) in
+    let h = idx-left _ _ _ (c .before .before .before .before .before .before .before .before .before .before .before .before .before .before .before .before .before .before .before .before .before .before .before .before .before .before .before .before .before .pre .1 .1 .1 .0) (c .before .before .before .before .before .before .before .before .before .before .before .before .before .before .before .before .before .loop-test .taken) in
     let o = c .before .before .before .before .before .before .before .before .before .before .origin in
-    λ net runs d. planting-stop _ _ _ _ _ _ _ _ _ _ _ _ _ _ _ (c .before .before .before .before .before .before .before .before .before .before .before .before .before .before .before .before .before .before .loop .inv) _ (row-at _ _ _ (c .before .before .before .before .before .before .before .before .before .before .before .before .before .before .before .before .before .before .before .before .before .before .before .before .before .before .before .before .before .pre .0) _ _ (c .before .before .before .before .before .before .before .before .before .before .before .before .before .before .before .before .before .before .before .before .before .before .before .before .before .before .before .before .before .pre .1 .0) h) h _ _ _ _ (o .result) (o .ensures) _ (c .enum-told .given .1) net runs d
+    λ net runs d. loop-stop _ _ _ _ _ _ _ _ _ _ _ _ _ _ _ (c .before .before .before .before .before .before .before .before .before .before .before .before .before .before .before .before .before .before .loop .inv) _ (idx-at _ _ _ (c .before .before .before .before .before .before .before .before .before .before .before .before .before .before .before .before .before .before .before .before .before .before .before .before .before .before .before .before .before .pre .0) _ _ (c .before .before .before .before .before .before .before .before .before .before .before .before .before .before .before .before .before .before .before .before .before .before .before .before .before .before .before .before .before .pre .1 .0) h) h _ _ _ _ (o .result) (o .ensures) _ (c .enum-told .given .1) net runs d
 
 last-after-requires : tie.Need-last-after-requires Inv-loop μ-loop
-last-after-requires c κs = planting-small _ _ _ _ _ _ _ _ _ _ _ _ _ _ _ (c .before .before .before .before .before .before .before .before .before .before .before .before .before .before .before .before .before .before .before .loop .inv) (c .before .before .before .before .before .before .before .before .before .before .before .before .before .before .before .before .before .before .before .before .before .before .before .before .before .before .before .before .before .before .pre .1 .1 .1 .1 .0)
+last-after-requires c κs = loop-small _ _ _ _ _ _ _ _ _ _ _ _ _ _ _ (c .before .before .before .before .before .before .before .before .before .before .before .before .before .before .before .before .before .before .before .loop .inv) (c .before .before .before .before .before .before .before .before .before .before .before .before .before .before .before .before .before .before .before .before .before .before .before .before .before .before .before .before .before .before .pre .1 .1 .1 .1 .0)
 
 add-k : tie.Need-add-k Inv-loop μ-loop
-add-k c = omega (arith, rows-fit _ _ _ (c .before .before .before .before .before .before .before .before .before .before .before .before .before .before .before .before .before .before .before .before .before .before .before .before .before .before .before .before .before .before .before .pre .0), c .before .before .before .before .before .before .before .before .before .before .before .before .before .before .before .before .before .before .before .before .before .before .before .before .before .before .before .before .before .before .before .pre .1 .1 .1 .0, c .before .before .before .before .before .before .before .before .before .before .before .before .before .before .before .before .before .before .before .loop-test .taken)
+add-k c = omega (arith, idxs-fit _ _ _ (c .before .before .before .before .before .before .before .before .before .before .before .before .before .before .before .before .before .before .before .before .before .before .before .before .before .before .before .before .before .before .before .pre .0), c .before .before .before .before .before .before .before .before .before .before .before .before .before .before .before .before .before .before .before .before .before .before .before .before .before .before .before .before .before .before .before .pre .1 .1 .1 .0, c .before .before .before .before .before .before .before .before .before .before .before .before .before .before .before .before .before .before .before .loop-test .taken)
 
 loop-less : tie.Need-loop-less Inv-loop μ-loop
 loop-less c = omega (arith, c .before .before .before .before .before .before .before .before .before .before .before .before .before .before .before .before .before .before .before .loop-test .taken)
 
 loop-again : tie.Need-loop-again Inv-loop μ-loop
 loop-again c =
-    let h = row-left _ _ _ (c .before .before .before .before .before .before .before .before .before .before .before .before .before .before .before .before .before .before .before .before .before .before .before .before .before .before .before .before .before .before .before .pre .1 .1 .1 .0) (c .before .before .before .before .before .before .before .before .before .before .before .before .before .before .before .before .before .before .before .loop-test .taken) in
+    let h = idx-left _ _ _ (c .before .before .before .before .before .before .before .before .before .before .before .before .before .before .before .before .before .before .before .before .before .before .before .before .before .before .before .before .before .before .before .pre .1 .1 .1 .0) (c .before .before .before .before .before .before .before .before .before .before .before .before .before .before .before .before .before .before .before .loop-test .taken) in
     let o = c .before .before .before .before .before .before .before .before .before .before .before .before .origin in
-    planting-on _ _ _ _ _ _ _ _ _ _ _ _ _ _ _ (c .before .before .before .before .before .before .before .before .before .before .before .before .before .before .before .before .before .before .before .before .loop .inv) _ (row-at _ _ _ (c .before .before .before .before .before .before .before .before .before .before .before .before .before .before .before .before .before .before .before .before .before .before .before .before .before .before .before .before .before .before .before .pre .0) _ _ (c .before .before .before .before .before .before .before .before .before .before .before .before .before .before .before .before .before .before .before .before .before .before .before .before .before .before .before .before .before .before .before .pre .1 .0) h) h _ _ _ _ (o .result) (o .ensures) _ (c .before .before .turned .given .1) _ (c .last-after .ensures .0) (c .last-after .ensures .1) (omega (arith, o .kept)) (omega (arith, o .kept)) (omega (arith, o .kept)) (omega (arith, o .kept))
+    loop-on _ _ _ _ _ _ _ _ _ _ _ _ _ _ _ (c .before .before .before .before .before .before .before .before .before .before .before .before .before .before .before .before .before .before .before .before .loop .inv) _ (idx-at _ _ _ (c .before .before .before .before .before .before .before .before .before .before .before .before .before .before .before .before .before .before .before .before .before .before .before .before .before .before .before .before .before .before .before .pre .0) _ _ (c .before .before .before .before .before .before .before .before .before .before .before .before .before .before .before .before .before .before .before .before .before .before .before .before .before .before .before .before .before .before .before .pre .1 .0) h) h _ _ _ _ (o .result) (o .ensures) _ (c .before .before .turned .given .1) _ (c .last-after .ensures .0) (c .last-after .ensures .1) (omega (arith, o .kept)) (omega (arith, o .kept)) (omega (arith, o .kept)) (omega (arith, o .kept))
 
 same-length-5 : tie.Need-same-length-5 Inv-loop μ-loop
 same-length-5 c = c .before .loop .inv .floats
@@ -90,7 +90,7 @@ same-length-8 : tie.Need-same-length-8 Inv-loop μ-loop
 same-length-8 c = c .before .loop .inv .cells-long
 
 returns-2 : tie.Need-returns-2 Inv-loop μ-loop
-returns-2 c = λ net runs d. planting-end _ _ _ _ _ _ _ _ _ _ _ _ _ _ _ (c .before .loop .inv) (omega (arith, c .before .before .before .before .before .before .before .before .before .before .before .before .pre .1 .1 .1 .0, c .loop-test .left)) net runs d
+returns-2 c = λ net runs d. loop-end _ _ _ _ _ _ _ _ _ _ _ _ _ _ _ (c .before .loop .inv) (omega (arith, c .before .before .before .before .before .before .before .before .before .before .before .before .pre .1 .1 .1 .0, c .loop-test .left)) net runs d
 
 pub origins-spec : {M : Type 1} → statement M
 origins-spec =
@@ -101,10 +101,10 @@ origins-spec =
     mul-rows-at
     add-rows-at
     loop-holds
-    add-row
-    mul-row
-    shared-slice-read-row
-    cast-row
+    add-idx
+    mul-idx
+    shared-slice-read-idx
+    cast-idx
     origin-requires
     (λ c. search needs)
     (λ c. search needs)

@@ -1,17 +1,17 @@
--- `grow_waiting::push_entries` meets its contract: `Pushed` is the loop's invariant.
+-- `grow_waiting::push_entries` meets its contract: `EntriesPushed` is the loop's invariant.
 use borrow.Author.Needs.{needs}
 use mathlib.Core.Path.{_≡_, refl}
 use Prim.Native.Nat.{_-_, _≤_}
 use native.Mathlib.Omega.{arith}
 use lib.ListN.{length, length-set}
 use Rattle.net_strands.specs.Entries.{entriesIn}
-use Rattle.grow_waiting.specs.Steps.{Pushed}
+use Rattle.grow_waiting.specs.Steps.{EntriesPushed}
 use Rattle.grow_waiting.proofs.Runs.{pushed-none, pushed-on, pushed-all}
 use Rattle.grow_waiting.proofs.push_entries.Statement.{statement}
 use Rattle.grow_waiting.proofs.push_entries.Tie as tie
 
 abbrev Inv-loop : tie.InvT-loop
-Inv-loop cells₀ w used joins count k₀ cells k = (length cells ≡ length cells₀) × (k ≤ count) × Pushed cells₀ cells w used (entriesIn joins k)
+Inv-loop cells₀ w used joins count k₀ cells k = (length cells ≡ length cells₀) × (k ≤ count) × EntriesPushed cells₀ cells w used (entriesIn joins k)
 
 abbrev μ-loop : tie.MeasureT-loop
 μ-loop cells₀ w used joins count k₀ cells k = count - k

@@ -2,7 +2,7 @@
 use borrow.Author.Needs.{needs}
 use mathlib.Core.Path.{refl, sym, ap, _∙_, subst}
 use mathlib.Core.Bool.{Bool}
-use Rattle.net_strands.specs.Entries.{entry, entriesIn, Listed}
+use Rattle.net_strands.specs.Entries.{entry, entriesIn, EntriesAs}
 use Rattle.net_strands.proofs.Entries.{push-full}
 use Rattle.net_joins.specs.Joins.{appendedIf}
 use Rattle.net_joins.proofs.Lists.{push-stays}
@@ -23,7 +23,7 @@ returns-3 : tie.Need-returns-3
 unfolding entry
 returns-3 c =
     let a = c .before .before .before .before .before .before .before .args in (
-      subst (λ (b : Bool). Listed (appendedIf b (a .link-idx) (a .i) (entriesIn (a .list .now) (a .n))) (c .before .before .push-entry .last .0) (c .before .before .push-entry .result)) (sym (c .before .before .before .before .before .if1 .left)) (c .before .before .push-entry .ensures),
+      subst (λ (b : Bool). EntriesAs (appendedIf b (a .link-idx) (a .i) (entriesIn (a .list .now) (a .n))) (c .before .before .push-entry .last .0) (c .before .before .push-entry .result)) (sym (c .before .before .before .before .before .if1 .left)) (c .before .before .push-entry .ensures),
       push-stays (a .list .now) (c .before .before .push-entry .last .0) (a .n) (entry (a .link-idx) (a .i)) (c .before .before .push-entry .result) (c .before .before .before .before .before .before .before .pre .1) (c .before .before .before .before .if2 .left) (c .before .before .push-entry .ensures),
     )
 

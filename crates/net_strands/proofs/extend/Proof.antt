@@ -8,14 +8,14 @@ use Rattle.net_node.specs.declared.EstTime.{EstTime}
 use Rattle.net_node.specs.Table.{nodeAt}
 use Rattle.net_strands.specs.declared.EstJoinPath.{EstJoinPath}
 use Rattle.net_strands.specs.declared.Count.{Count}
-use Rattle.net_strands.specs.Entries.{entriesIn, Listed}
+use Rattle.net_strands.specs.Entries.{entriesIn, EntriesAs}
 use Rattle.net_strands.proofs.Extending.{extended-dropped, extended-copied, extended-unseen, extended-alternatives, extended-strands}
 use Rattle.net_strands.proofs.extend.Statement.{statement}
 use Rattle.net_strands.proofs.extend.Tie as tie
 
 -- a callee's answer is the entry's
-carried : (a b : Option (List EstJoinPath)) (s : List ℕ) (r : Count) → a ≡ b → Listed b s r → Listed a s r
-carried a b s r e l = subst (λ (x : Option (List EstJoinPath)). Listed x s r) (sym e) l
+carried : (a b : Option (List EstJoinPath)) (s : List ℕ) (r : Count) → a ≡ b → EntriesAs b s r → EntriesAs a s r
+carried a b s r e l = subst (λ (x : Option (List EstJoinPath)). EntriesAs x s r) (sym e) l
 
 module _ (a : tie.Start) where
   abbrev node : ℕ → EstTime

@@ -2,7 +2,7 @@
 use borrow.Author.Needs.{needs}
 use mathlib.Core.Path.{sym, ap, subst}
 use mathlib.Core.Bool.{Bool}
-use Rattle.net_strands.specs.Entries.{entriesIn, Listed}
+use Rattle.net_strands.specs.Entries.{entriesIn, EntriesAs}
 use Rattle.net_strands.specs.Space.{pushedIf}
 use Rattle.net_strands.proofs.push_if.Statement.{statement}
 use Rattle.net_strands.proofs.push_if.Tie as tie
@@ -10,7 +10,7 @@ use Rattle.net_strands.proofs.push_if.Tie as tie
 returns : tie.Need-returns
 returns c =
     let a = c .before .before .before .before .before .before .args in
-    subst (λ (b : Bool). Listed (pushedIf b (entriesIn (a .list .now) (a .n)) (a .x)) (c .before .before .push-entry .last .0) (c .before .before .push-entry .result)) (sym (c .before .before .before .before .if1 .taken)) (c .before .before .push-entry .ensures)
+    subst (λ (b : Bool). EntriesAs (pushedIf b (entriesIn (a .list .now) (a .n)) (a .x)) (c .before .before .push-entry .last .0) (c .before .before .push-entry .result)) (sym (c .before .before .before .before .if1 .taken)) (c .before .before .push-entry .ensures)
 
 returns-2 : tie.Need-returns-2
 returns-2 c =

@@ -4,7 +4,7 @@ use native.Mathlib.Omega.{arith}
 use Prim.Native.Nat.{_-_}
 use mathlib.Core.Bool.{false}
 use Rattle.pass_rules.specs.Walks.{doneIn}
-use Rattle.pass_state.specs.Progress.{left}
+use Rattle.pass_state.specs.Held.{left}
 use Rattle.pass_state.proofs.Strands.{Stranding, strand-start, strand-falls, strand-looks, strand-less, strand-ends, strand-goes}
 use Rattle.pass_forward.proofs.Parts.{walker, stops-as}
 use Rattle.pass_forward.proofs.strand.Statement.{statement}

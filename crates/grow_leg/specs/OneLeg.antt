@@ -14,12 +14,12 @@ use Rattle.grow_path.specs.Kept.{PathIn}
 use Rattle.grow_rules.specs.Run.{Answer, refused, given, Net, Run, Outcome, runEvents}
 use Rattle.grow_rules.specs.Growth.{joinGap}
 use Rattle.grow_events.specs.Held.{NetIn, OutcomeAs}
-use Rattle.grow_events.specs.declared.Outcome.{Outcome as Became}
+use Rattle.grow_events.specs.declared.RunAnswer.{RunAnswer}
 use Rattle.grow_state.specs.declared.Plan.{Plan}
 use Rattle.grow_state.specs.declared.State.{State}
-use Rattle.grow_state.specs.declared.Turned.{Turned}
-use Rattle.grow_state.specs.declared.Turned.the-variants.{On, Refused}
-use Rattle.grow_state.specs.Held.{PlanIn, FrontIn, WaitIn, AllSound, Beneath, ClearOf, AllClear}
+use Rattle.grow_state.specs.declared.GrowthAnswer.{GrowthAnswer}
+use Rattle.grow_state.specs.declared.GrowthAnswer.the-variants.{On, Refused}
+use Rattle.grow_state.specs.Held.{PlanIn, FrontIn, WaitIn, AllSound, Prefixes, SeparateFrom, AllSeparate}
 use Rattle.grow_leg.specs.declared.Ways.{Ways}
 use Rattle.grow_leg.specs.declared.Ways.the-variants.{None, One, Both}
 
@@ -34,7 +34,7 @@ unfoldable pub legOutcome : List ℕ → ℕ → Net → Run → Answer Outcome
 legOutcome b places net run = outcomeAs (row11 (legCourse b (run .leg))) b places net run
 
 -- What the walk of a leg leaves, whose number is j and behind whose path's first `depth` legs it is put: the path of the leg, and what it made of the network. All else in reals and cells is as it was.
-pub record WalkedAs (b : List ℕ) (p : Plan) (j depth : ℕ) (answer : Answer Outcome) (reals : List Float) (cells : List ℕ) (fs : List Float) (us : List ℕ) (reals′ : List Float) (cells′ joins : List ℕ) (r : Became) : Type 0 where
+pub record WalkedAs (b : List ℕ) (p : Plan) (j depth : ℕ) (answer : Answer Outcome) (reals : List Float) (cells : List ℕ) (fs : List Float) (us : List ℕ) (reals′ : List Float) (cells′ joins : List ℕ) (r : RunAnswer) : Type 0 where
   pub kept : PathIn b reals′ (set cells (depth * 8 + 3) (linkOf b j)) (pathOf b j)
   pub reals-left : (q : ℕ) → q ≢ depth + 1 → getD reals′ q nan ≡ getD reals q nan
   pub outcome : OutcomeAs answer (p .w) (set cells (depth * 8 + 3) (linkOf b j)) j fs us cells′ joins r
@@ -51,8 +51,8 @@ pub record AtEnd (b : List ℕ) (p : Plan) (fs : List Float) (us : List ℕ) (re
   pub front : FrontIn b joins (g .counts .nodes) (g .front) run
   pub waiting : WaitIn b (p .r) reals cells (g .top) (g .used) rest
   pub sound : AllSound b (g .counts .nodes) (run ∷ rest)
-  pub beneath : Beneath b (pathOf b (run .leg)) rest
-  pub clear : AllClear b rest
+  pub prefixes : Prefixes b (pathOf b (run .leg)) rest
+  pub separate : AllSeparate b rest
 
 pub record SomeEnd (b : List ℕ) (p : Plan) (fs : List Float) (us : List ℕ) (reals : List Float) (cells joins : List ℕ) (g : State) : Type 0 where
   pub net : Net
@@ -79,11 +79,11 @@ pub record SomeFinish (p : Plan) (fs : List Float) (us cells : List ℕ) (g : St
   pub plan : PlanIn b p (length reals)
   pub ends : SomeEnd b p fs us reals cells joins g
 
--- a leg behind the run's, over a link, is clear of those that wait
+-- a leg behind the run's, over a link, is separate from those that wait
 pub record Free (b : List ℕ) (run : Run) (rest : List Run) (link : ℕ) : Type 0 where
-  pub legs-clear : (i : ℕ) → i < legs b → legParent b i ≡ run .leg → legLink b i ≡ link → ClearOf b (suc i) rest
+  pub legs-separate : (i : ℕ) → i < legs b → legParent b i ≡ run .leg → legLink b i ≡ link → SeparateFrom b (suc i) rest
 
--- some run is, all of whose legs behind its own are clear of those that wait
+-- some run is, all of whose legs behind its own are separate from those that wait
 pub record SomeWay (b : List ℕ) (p : Plan) (fs : List Float) (us : List ℕ) (reals : List Float) (cells joins : List ℕ) (g : State) : Type 0 where
   pub net : Net
   pub run : Run
@@ -103,7 +103,7 @@ pub record SavedOver (answer : Answer (List Run)) (b : List ℕ) (p : Plan) (fs 
   pub ends : AtEnd b p fs us reals cells joins g net run more
   pub free : (l : ℕ) → l ≢ link → Free b run rest l → Free b run more l
 
-abbrev pub SavedAs : Answer (List Run) → List ℕ → Plan → List Float → List ℕ → List Float → List ℕ → List ℕ → Net → Run → List Run → ℕ → Turned → Type 0
+abbrev pub SavedAs : Answer (List Run) → List ℕ → Plan → List Float → List ℕ → List Float → List ℕ → List ℕ → Net → Run → List Run → ℕ → GrowthAnswer → Type 0
 SavedAs answer b p fs us reals cells joins net run rest link (On g) = SavedOver answer b p fs us reals cells joins g net run rest link
 SavedAs answer b p fs us reals cells joins net run rest link (Refused k) = answer ≡ refused k
 

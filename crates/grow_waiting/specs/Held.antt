@@ -26,7 +26,7 @@ EntriesFrom cells w k [] = Unit
 EntriesFrom cells w k (x ∷ xs) = (getD cells (w .«nodes_at» + k * 8 + 3) 0 ≡ x .«link_idx_match») × ((getD cells (w .«nodes_at» + k * 8 + 4) 0 ≡ x .«est_idx_next») × EntriesFrom cells w (suc k) xs)
 
 -- one run, saved on top of `used` entries
-pub record Kept (cells : List ℕ) (reals : List Float) (w : Rooms) (below used : ℕ) (run : Waiting) : Type 0 where
+pub record RunKept (cells : List ℕ) (reals : List Float) (w : Rooms) (below used : ℕ) (run : Waiting) : Type 0 where
   pub real : 0 < run .leg
   pub inside : run .leg ≤ w .legs
   pub place : getD cells (run .leg * 8 + 4) 0 ≡ run .place .«idx_prev»
@@ -39,9 +39,9 @@ pub record Kept (cells : List ℕ) (reals : List Float) (w : Rooms) (below used 
   pub fits : used + length (run .joins) ≤ w .places
 
 -- no run of a list takes this leg
-abbrev pub Apart : ℕ → List Waiting → Type 0
-Apart j [] = Unit
-Apart j (run ∷ runs) = ((j ≡ run .leg → ⊥)) × Apart j runs
+abbrev pub Untaken : ℕ → List Waiting → Type 0
+Untaken j [] = Unit
+Untaken j (run ∷ runs) = ((j ≡ run .leg → ⊥)) × Untaken j runs
 
 -- the leg of the top run, 0 if there is none
 abbrev pub topOf : List Waiting → ℕ
@@ -52,14 +52,14 @@ topOf (run ∷ runs) = run .leg
 abbrev pub SavedIn : List ℕ → List Float → Rooms → ℕ → ℕ → List Waiting → Type 0
 SavedIn cells reals w top used [] = (top ≡ 0) × (used ≡ 0)
 SavedIn cells reals w top used (run ∷ runs) =
-    (top ≡ run .leg) × ((length (run .joins) ≤ used) × (Apart (run .leg) runs × (Kept cells reals w (topOf runs) (used - length (run .joins)) run × SavedIn cells reals w (topOf runs) (used - length (run .joins)) runs)))
+    (top ≡ run .leg) × ((length (run .joins) ≤ used) × (Untaken (run .leg) runs × (RunKept cells reals w (topOf runs) (used - length (run .joins)) run × SavedIn cells reals w (topOf runs) (used - length (run .joins)) runs)))
 
 -- a run as it is saved
 unfoldable pub waitingOf : Place → ℕ → ℕ → List EstJoinPath → Waiting
 waitingOf place leg depth joins = record { place = place; leg = leg; depth = depth; joins = joins }
 
 -- What saving leaves as it was: each cell outside cells 4 to 7 of the legs' units and cells 3 and 4 of the nodes' units, and each real outside the pairs.
-pub record Elsewhere (c c′ : List ℕ) (r r′ : List Float) (w : Rooms) : Type 0 where
+pub record SavedElsewhere (c c′ : List ℕ) (r r′ : List Float) (w : Rooms) : Type 0 where
   pub cells : (q : ℕ) → ((j k : ℕ) → j ≤ w .legs → 4 ≤ k → k < 8 → q ≢ j * 8 + k) → ((i k : ℕ) → i < w .places → 3 ≤ k → k < 5 → q ≢ w .«nodes_at» + i * 8 + k) → getD c′ q 0 ≡ getD c q 0
   pub reals : (q : ℕ) → ((j k : ℕ) → j ≤ w .legs → k < 2 → q ≢ w .«pairs_at» + j * 2 + k) → getD r′ q nan ≡ getD r q nan
 

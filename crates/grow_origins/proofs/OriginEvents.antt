@@ -19,13 +19,13 @@ use Rattle.net_strands.specs.declared.EstJoinPath.{EstJoinPath}
 use Rattle.net_strands.specs.Entries.{entriesIn}
 use Rattle.net_event_map.specs.declared.Layout.{Layout}
 use Rattle.net_event_map.specs.EventMap.{RealKind, Real}
-use Rattle.grow_rules.specs.Run.{Answer, refused, given, andThen, Arc, Net, Run, After, arcTo, addedTo, movedTo, insertedAs, insertEvent, goesOn, memberOf}
-use Rattle.grow_rules.specs.Run.{Outcome as Became, Ended as Left, On as Goes}
-use Rattle.grow_rules.specs.Growth.{joinGap, departure, originEvent, originRun, seekLeg, originAt}
+use Rattle.grow_rules.specs.Run.{Answer, refused, given, andThen, Arc, Net, Run, After, arcTo, addedTo, movedTo, insertedRun, insertEvent, goesOn, memberOf}
+use Rattle.grow_rules.specs.Run.{Outcome, Ended as Left, On as Goes}
+use Rattle.grow_rules.specs.Growth.{joinGap, departure, originEvent, originRun, seekLeg, growOrigin}
 use Rattle.grow_events.specs.declared.Counts.{Counts}
 use Rattle.grow_events.specs.declared.Mover.{Mover}
-use Rattle.grow_events.specs.declared.Outcome.{Outcome}
-use Rattle.grow_events.specs.declared.Outcome.the-variants.{On, Ended, Refused}
+use Rattle.grow_events.specs.declared.RunAnswer.{RunAnswer}
+use Rattle.grow_events.specs.declared.RunAnswer.the-variants.{On, Ended, Refused}
 use Rattle.grow_events.specs.Held.{NetIn, RunIn, Growing, OutcomeAs, NotFewer}
 use Rattle.grow_events.proofs.Kept.{goes-given}
 use Rattle.grow_state.specs.declared.Plan.{Plan}
@@ -35,11 +35,11 @@ use Rattle.grow_origins.specs.Origins.{originAnswer, placeOn, LeadsFrom,
 -- ---- the run and the events, as the code makes them
 
 abbrev moverAt : Float → ℕ → Mover
-moverAt time i = record { place = placeOn time (ofBits binary64 0) i; added = false; count = 0 }
+moverAt time i = record { place = placeOn time (ofBits binary64 0) i; «has_split» = false; count = 0 }
 
 -- the run of the definition, but on node i
 abbrev runAt : Float → ℕ → Run
-runAt time i = record { place = placeOn time (ofBits binary64 0) i; leg = 0; added = false; joins = [] }
+runAt time i = record { place = placeOn time (ofBits binary64 0) i; leg = 0; «has_split» = false; joins = [] }
 
 abbrev eventOf : Float → ℕ → EstType → Float → TimedEvent
 eventOf time link kind offset = record { time = time; offset = offset; speed = ofBits binary64 0; «link_event» = record { «link_idx» = link; «est_type» = kind } }
@@ -52,7 +52,7 @@ unfolding entriesIn
 run-there n joins time i m e h = subst (λ (x : Mover). RunIn n 0 joins x (runAt time i)) (sym e) (record {
   place = refl;
   leg = refl;
-  added = refl;
+  has-split = refl;
   joins = refl;
   few = omega arith;
   valid = record { node = λ k g. absurd (omega arith) };
@@ -65,21 +65,21 @@ first-there time i m e n h = subst (λ (x : Mover). x .place .«idx_prev» < n) 
 
 -- ---- what the code is told of an insertion
 
-abbrev pub Tells : Layout → Float → List Float → List ℕ → List ℕ → Counts → Mover → TimedEvent → List Float → List ℕ → List ℕ → Outcome → Type 0
+abbrev pub Tells : Layout → Float → List Float → List ℕ → List ℕ → Counts → Mover → TimedEvent → List Float → List ℕ → List ℕ → RunAnswer → Type 0
 Tells w join fs us cells c m e fs′ us′ cells′ r =
     (start joins : List ℕ) (leg : ℕ) (net : Net) (run : Run) → NetIn w start fs us cells c net → RunIn (c .nodes) leg joins m run → OutcomeAs (goesOn (insertEvent (w .places) join net run e)) w start leg fs′ us′ cells′ joins r
 
-pub fewer-more : (c d : Counts) (r : Outcome) → c .nodes ≤ d .nodes → NotFewer d r → NotFewer c r
+pub fewer-more : (c d : Counts) (r : RunAnswer) → c .nodes ≤ d .nodes → NotFewer d r → NotFewer c r
 fewer-more c d (On x y) h g = omega arith
 fewer-more c d (Ended x) h g = omega arith
 fewer-more c d (Refused k) h g = tt
 
-pub fewer-as : (c d : Counts) (m : Mover) (r : Outcome) → r ≡ On d m → NotFewer c r → c .nodes ≤ d .nodes
+pub fewer-as : (c d : Counts) (m : Mover) (r : RunAnswer) → r ≡ On d m → NotFewer c r → c .nodes ≤ d .nodes
 fewer-as c d m r e h = subst (NotFewer c) e h
 
 -- ---- the first event
 
-module _ (w : Layout) (join time : Float) (last : ℕ) (fs : List Float) (us cells : List ℕ) (c : Counts) (m : Mover) (e : TimedEvent) (fs′ : List Float) (us′ cells′ : List ℕ) (r : Outcome) (t : Tells w join fs us cells c m e fs′ us′ cells′ r)
+module _ (w : Layout) (join time : Float) (last : ℕ) (fs : List Float) (us cells : List ℕ) (c : Counts) (m : Mover) (e : TimedEvent) (fs′ : List Float) (us′ cells′ : List ℕ) (r : RunAnswer) (t : Tells w join fs us cells c m e fs′ us′ cells′ r)
     (dm : m ≡ moverAt time last) (within : last < c .nodes) where
   -- a network is there for the second
   pub first-grown : Growing w fs us cells c → (d : Counts) (n : Mover) → r ≡ On d n → Growing w fs′ us′ cells′ d × (n .place .«idx_prev» < d .nodes)
@@ -89,7 +89,7 @@ module _ (w : Layout) (join time : Float) (last : ℕ) (fs : List Float) (us cel
 
 -- ---- answers
 
-abbrev Lost : Answer Became → Type 0
+abbrev Lost : Answer Outcome → Type 0
 Lost (given (Goes x)) = ⊥
 Lost (given (Left net)) = Unit
 Lost (refused n) = ⊥
@@ -99,21 +99,21 @@ pub never-left : (a : Answer After) (net : Net) → goesOn a ≡ given (Left net
 never-left (given x) net e = subst Lost (sym e) tt
 never-left (refused n) net e = subst Lost (sym e) tt
 
-abbrev numberIn : Answer Became → ℕ
+abbrev numberIn : Answer Outcome → ℕ
 numberIn (given x) = 0
 numberIn (refused n) = n
 
-abbrev NotGiven : Answer Became → Type 0
+abbrev NotGiven : Answer Outcome → Type 0
 NotGiven (given x) = ⊥
 NotGiven (refused n) = Unit
 
 pub goes-refused : (a : Answer After) (k : ℕ) → goesOn a ≡ refused k → a ≡ refused k
 goes-refused (given x) k e = absurd (subst NotGiven (sym e) tt)
-goes-refused (refused n) k e = ap (λ (x : Answer Became). refused (numberIn x)) e
+goes-refused (refused n) k e = ap (λ (x : Answer Outcome). refused (numberIn x)) e
 
 -- ---- where the Arrive is inserted from
 
-abbrev goneIn : After → Answer Became → After
+abbrev goneIn : After → Answer Outcome → After
 goneIn d (given (Goes x)) = x
 goneIn d (given (Left net)) = d
 goneIn d (refused n) = d
@@ -130,7 +130,7 @@ net-noted net t q split x y v = record {
   sum = v .sum;
   room = v .room;
   within = v .within;
-  woven = v .woven;
+  indexed = v .indexed;
   apart = v .apart;
   mapped = v .mapped;
   ends = v .ends;
@@ -139,9 +139,9 @@ net-noted net t q split x y v = record {
   elsewhere = v .elsewhere;
 }
 
-module _ (net : Net) (time : Float) (last : ℕ) (e : TimedEvent) (w : Layout) (start : List ℕ) (fs : List Float) (us cells joins : List ℕ) (r : Outcome) where
+module _ (net : Net) (time : Float) (last : ℕ) (e : TimedEvent) (w : Layout) (start : List ℕ) (fs : List Float) (us cells joins : List ℕ) (r : RunAnswer) where
   -- an answer from node `last` is one from the start: only the arc differs
-  answer-from : (t : Table) (x : Inserted) → OutcomeAs (goesOn (insertedAs net (runAt time last) e t x)) w start 0 fs us cells joins r → OutcomeAs (goesOn (insertedAs net (runAt time 1) e t x)) w start 0 fs us cells joins r
+  answer-from : (t : Table) (x : Inserted) → OutcomeAs (goesOn (insertedRun net (runAt time last) e t x)) w start 0 fs us cells joins r → OutcomeAs (goesOn (insertedRun net (runAt time 1) e t x)) w start 0 fs us cells joins r
   unfolding movedTo
   answer-from t (NotIn k) o = o
   answer-from t (Moved q) o = o
@@ -150,7 +150,7 @@ module _ (net : Net) (time : Float) (last : ℕ) (e : TimedEvent) (w : Layout) (
       from : Arc
       from = arcTo (placeOn time (ofBits binary64 0) last) (q .«idx_prev») e
 
-      go : (r : Outcome) → OutcomeAs (goesOn (insertedAs net (runAt time last) e t (Added q split))) w start 0 fs us cells joins r → OutcomeAs (goesOn (insertedAs net (runAt time 1) e t (Added q split))) w start 0 fs us cells joins r
+      go : (r : RunAnswer) → OutcomeAs (goesOn (insertedRun net (runAt time last) e t (Added q split))) w start 0 fs us cells joins r → OutcomeAs (goesOn (insertedRun net (runAt time 1) e t (Added q split))) w start 0 fs us cells joins r
       go (On c m) o =
           let s = ap (goneIn (o .after)) (sym (o .is)) in
           record {
@@ -167,9 +167,9 @@ module _ (net : Net) (time : Float) (last : ℕ) (e : TimedEvent) (w : Layout) (
   unfolding insertEvent
   event-from places join link l d o =
       answer-from (insertedTable (net .table) (net .nodes) join (placeOn time (ofBits binary64 0) 1) e) (inserted (net .table) (net .nodes) places (memberOf (net .ends)) join (placeOn time (ofBits binary64 0) 1) e)
-      (subst (λ (x : Inserted). OutcomeAs (goesOn (insertedAs net (runAt time last) e (insertedTable (net .table) (net .nodes) join (placeOn time (ofBits binary64 0) 1) e) x)) w start 0 fs us cells joins r)
+      (subst (λ (x : Inserted). OutcomeAs (goesOn (insertedRun net (runAt time last) e (insertedTable (net .table) (net .nodes) join (placeOn time (ofBits binary64 0) 1) e) x)) w start 0 fs us cells joins r)
       (l .answer places (memberOf (net .ends)) join time (ofBits binary64 0) e d)
-      (subst (λ (t : Table). OutcomeAs (goesOn (insertedAs net (runAt time last) e t (inserted (net .table) (net .nodes) places (memberOf (net .ends)) join (placeOn time (ofBits binary64 0) last) e))) w start 0 fs us cells joins r)
+      (subst (λ (t : Table). OutcomeAs (goesOn (insertedRun net (runAt time last) e t (inserted (net .table) (net .nodes) places (memberOf (net .ends)) join (placeOn time (ofBits binary64 0) last) e))) w start 0 fs us cells joins r)
       (l .table join time (ofBits binary64 0) e d)
       o))
 
@@ -190,7 +190,7 @@ module _ (b : List ℕ) (places link : ℕ) (net : Net) where
   unfolding originAnswer
   answered = refl
 
-module _ (b : List ℕ) (p : Plan) (reals : ℕ) (plan : PlanIn b p reals) (link : ℕ) (fs : List Float) (us cells : List ℕ) (c : Counts) (m : Mover) (e : TimedEvent) (fs′ : List Float) (us′ cells′ : List ℕ) (r : Outcome)
+module _ (b : List ℕ) (p : Plan) (reals : ℕ) (plan : PlanIn b p reals) (link : ℕ) (fs : List Float) (us cells : List ℕ) (c : Counts) (m : Mover) (e : TimedEvent) (fs′ : List Float) (us′ cells′ : List ℕ) (r : RunAnswer)
     (t : Tells (p .w) (p .join) fs us cells c m e fs′ us′ cells′ r) (last : ℕ) (leads : LeadsFrom (record { floats = fs; numbers = us }) (c .nodes) last link) (dm : m ≡ moverAt (p .departure) last)
     (de : e ≡ eventOf (p .departure) link Arrive (ofBits binary64 0)) (start joins : List ℕ) (net : Net) (v : NetIn (p .w) start fs us cells c net) where
   arrives : OutcomeAs (goesOn (insertEvent (p .w .places) (joinGap b) net (originRun b) (originEvent b link Arrive (ofBits binary64 0)))) (p .w) start 0 fs′ us′ cells′ joins r
@@ -205,13 +205,13 @@ module _ (b : List ℕ) (p : Plan) (reals : ℕ) (plan : PlanIn b p reals) (link
   pub origin-stops : ((d : Counts) (n : Mover) → r ≡ On d n → ⊥) → OutcomeAs (originAnswer b (p .w .places) link net) (p .w) start 0 fs′ us′ cells′ joins r
   origin-stops n = go r refl arrives
     where
-      go : (x : Outcome) → r ≡ x → OutcomeAs (goesOn (arrived b (p .w .places) link net)) (p .w) start 0 fs′ us′ cells′ joins x → OutcomeAs (originAnswer b (p .w .places) link net) (p .w) start 0 fs′ us′ cells′ joins x
+      go : (x : RunAnswer) → r ≡ x → OutcomeAs (goesOn (arrived b (p .w .places) link net)) (p .w) start 0 fs′ us′ cells′ joins x → OutcomeAs (originAnswer b (p .w .places) link net) (p .w) start 0 fs′ us′ cells′ joins x
       go (On d k) q o = absurd (n d k q)
       go (Ended d) q o = absurd (never-left (arrived b (p .w .places) link net) (o .after) (o .is))
       go (Refused k) q o = answered b (p .w .places) link net ∙ ap (λ (a : Answer After). goesOn (andThen a (clears b (p .w .places) link net))) (goes-refused (arrived b (p .w .places) link net) k o)
 
   -- it goes on, and clears
-  pub origin-clears : (d : Counts) (n : Mover) → r ≡ On d n → (f : TimedEvent) → f ≡ eventOf (p .departure) link Clear (add binary64 (ofBits binary64 0) (p .length)) → (fs″ : List Float) (us″ cells″ : List ℕ) (x : Outcome)
+  pub origin-clears : (d : Counts) (n : Mover) → r ≡ On d n → (f : TimedEvent) → f ≡ eventOf (p .departure) link Clear (add binary64 (ofBits binary64 0) (p .length)) → (fs″ : List Float) (us″ cells″ : List ℕ) (x : RunAnswer)
       → Tells (p .w) (p .join) fs′ us′ cells′ d n f fs″ us″ cells″ x → OutcomeAs (originAnswer b (p .w .places) link net) (p .w) start 0 fs″ us″ cells″ joins x
   unfolding originEvent
   origin-clears d n q f df fs″ us″ cells″ x u =
@@ -219,7 +219,7 @@ module _ (b : List ℕ) (p : Plan) (reals : ℕ) (plan : PlanIn b p reals) (link
       let a : After = o .after in
       let g : arrived b (p .w .places) link net ≡ given a = goes-given (arrived b (p .w .places) link net) a (o .is) in
       let ev : f ≡ originEvent b link Clear (add binary64 (ofBits binary64 0) (floatOf (lengthBits b))) = df ∙ ap (λ (y : Float). eventOf y link Clear (add binary64 (ofBits binary64 0) (p .length))) (plan .departs) ∙ ap (λ (y : Float). eventOf (departure b) link Clear (add binary64 (ofBits binary64 0) y)) (plan .train) in
-      subst (λ (y : Answer Became). OutcomeAs y (p .w) start 0 fs″ us″ cells″ joins x) (sym (answered b (p .w .places) link net ∙ ap (λ (y : Answer After). goesOn (andThen y (clears b (p .w .places) link net))) g))
+      subst (λ (y : Answer Outcome). OutcomeAs y (p .w) start 0 fs″ us″ cells″ joins x) (sym (answered b (p .w .places) link net ∙ ap (λ (y : Answer After). goesOn (andThen y (clears b (p .w .places) link net))) g))
       (subst (λ (j : Float). OutcomeAs (goesOn (insertEvent (p .w .places) j (a .net) (a .run) (originEvent b link Clear (add binary64 (ofBits binary64 0) (floatOf (lengthBits b)))))) (p .w) start 0 fs″ us″ cells″ joins x) (plan .join)
       (subst (λ (y : TimedEvent). OutcomeAs (goesOn (insertEvent (p .w .places) (p .join) (a .net) (a .run) y)) (p .w) start 0 fs″ us″ cells″ joins x) ev
       (u start joins 0 (a .net) (a .run) (o .net) (o .run))))
@@ -251,7 +251,7 @@ abbrev joinsIn : Run → Answer After → List EstJoinPath
 joinsIn run (given x) = x .run .joins
 joinsIn run (refused n) = run .joins
 
-inserted-joins : (net : Net) (run : Run) (e : TimedEvent) (t : Table) (i : Inserted) (a : After) → insertedAs net run e t i ≡ given a → a .run .joins ≡ run .joins
+inserted-joins : (net : Net) (run : Run) (e : TimedEvent) (t : Table) (i : Inserted) (a : After) → insertedRun net run e t i ≡ given a → a .run .joins ≡ run .joins
 unfolding movedTo
 inserted-joins net run e t (NotIn k) a h = absurd (subst Filled (sym h) tt)
 inserted-joins net run e t (Moved q) a h = ap (joinsIn run) (sym h)
@@ -274,12 +274,12 @@ module _ (b : List ℕ) (places link : ℕ) (net : Net) where
   pub origin-not-left : (after : Net) → originAnswer b places link net ≡ given (Left after) → ⊥
   origin-not-left after h = never-left (andThen (arrived b places link net) (clears b places link net)) after (sym (answered b places link net) ∙ h)
 
-  pub origin-given : (runs : List Run) (a : After) → originAnswer b places link net ≡ given (Goes a) → originAt b places link (record { net = net; saved = runs }) ≡ savedOrigin b link (a .net) (a .run) runs
-  unfolding originAt savedOrigin
+  pub origin-given : (runs : List Run) (a : After) → originAnswer b places link net ≡ given (Goes a) → growOrigin b places link (record { net = net; saved = runs }) ≡ savedOrigin b link (a .net) (a .run) runs
+  unfolding growOrigin savedOrigin
   origin-given runs a h =
       then-more (arrived b places link net) (clears b places link net) (λ (c : After). andThen (seekLeg b (c .run) 0 link) (λ (run : Run). given (record { net = c .net; saved = run ∷ runs }))) a (goes-given (andThen (arrived b places link net) (clears b places link net)) a (sym (answered b places link net) ∙ h))
 
-  pub origin-refused : (runs : List Run) (k : ℕ) → originAnswer b places link net ≡ refused k → originAt b places link (record { net = net; saved = runs }) ≡ refused k
-  unfolding originAt
+  pub origin-refused : (runs : List Run) (k : ℕ) → originAnswer b places link net ≡ refused k → growOrigin b places link (record { net = net; saved = runs }) ≡ refused k
+  unfolding growOrigin
   origin-refused runs k h =
       then-less (arrived b places link net) (clears b places link net) (λ (c : After). andThen (seekLeg b (c .run) 0 link) (λ (run : Run). given (record { net = c .net; saved = run ∷ runs }))) k (goes-refused (andThen (arrived b places link net) (clears b places link net)) k (sym (answered b places link net) ∙ h))

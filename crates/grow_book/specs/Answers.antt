@@ -5,18 +5,18 @@ use Prim.Native.Nat.{ℕ}
 use lib.Ieee.{Float}
 use Rattle.book_format.specs.Format.{legs}
 use Rattle.grow_rules.specs.Run.{Answer, refused, given, andThen, Net, Run}
-use Rattle.grow_rules.specs.Growth.{originsOf, takeLeg, drive, endFakes, lastNode, grownWith, Growth, Tail}
+use Rattle.grow_rules.specs.Growth.{growOrigins, takeLeg, drive, endFakes, lastNode, grownWith, Growth, Tail}
 use Rattle.book_options.specs.Options.{keptOrigins}
 use Rattle.net_event_map.specs.declared.Layout.{Layout}
-use Rattle.grow_rules.specs.Growth.{Grown as Network}
+use Rattle.grow_rules.specs.Growth.{Grown}
 use Rattle.grow_events.specs.declared.Counts.{Counts}
 use Rattle.grow_events.specs.Held.{NetIn}
 use Rattle.grow_state.specs.declared.Plan.{Plan}
 use Rattle.grow_state.specs.declared.State.{State}
-use Rattle.grow_state.specs.declared.Turned.{Turned}
-use Rattle.grow_state.specs.declared.Turned.the-variants.{On, Refused}
-use Rattle.grow_book.specs.declared.Grown.{Grown}
-use Rattle.grow_book.specs.declared.Grown.the-variants.{Whole, Stopped}
+use Rattle.grow_state.specs.declared.GrowthAnswer.{GrowthAnswer}
+use Rattle.grow_state.specs.declared.GrowthAnswer.the-variants.{On, Refused}
+use Rattle.grow_book.specs.declared.GrownBook.{GrownBook}
+use Rattle.grow_book.specs.declared.GrownBook.the-variants.{Whole, Stopped}
 
 -- ---- all runs
 
@@ -31,22 +31,22 @@ pub record DrivenAs (answer : Answer Net) (p : Plan) (fs : List Float) (us cells
   pub is : answer ≡ given net
   pub holds : NetIn (p .w) cells fs us cells (g .counts) net
 
-abbrev pub DriveAs : Answer Net → Plan → List Float → List ℕ → List ℕ → Turned → Type 0
+abbrev pub DriveAs : Answer Net → Plan → List Float → List ℕ → List ℕ → GrowthAnswer → Type 0
 DriveAs answer p fs us cells (On g) = DrivenAs answer p fs us cells g
 DriveAs answer p fs us cells (Refused k) = answer ≡ refused k
 
 -- ---- growth
 
 -- the end Fakes and the last node, as `grow` has them
-unfoldable pub closing : ℕ → Net → Answer Network
+unfoldable pub closing : ℕ → Net → Answer Grown
 unfolding endFakes lastNode grownWith
 closing places net = andThen (endFakes places (net .ends) 0 (record { table = net .table; nodes = net .nodes })) (λ (u : Tail). andThen (lastNode places u) (λ (v : Tail). given (grownWith net v)))
 
 -- what follows the first nodes
-unfoldable pub grownFrom : List ℕ → ℕ → Net → Answer Network
-unfolding closing originsOf drive
+unfoldable pub grownFrom : List ℕ → ℕ → Net → Answer Grown
+unfolding closing growOrigins drive
 grownFrom b places net =
-    andThen (originsOf b places (keptOrigins b) (record { net = net; saved = [] }))
+    andThen (growOrigins b places (keptOrigins b) (record { net = net; saved = [] }))
     (λ (g : Growth). andThen (drive (legs b) b places (g .net) (g .saved)) (closing places))
 
 pub record Closing (w : Layout) (fs : List Float) (us cells : List ℕ) (c : Counts) (net : Net) : Type 0 where
@@ -58,8 +58,8 @@ pub record SomeClosing (w : Layout) (fs : List Float) (us cells : List ℕ) (c :
   pub closes : Closing w fs us cells c net
 
 -- the report's counts and the table's lists of an answer
-pub record WholeAs (answer : Answer Network) (fs : List Float) (us : List ℕ) (nodes added splits joined finished : ℕ) : Type 0 where
-  pub network : Network
+pub record WholeAs (answer : Answer Grown) (fs : List Float) (us : List ℕ) (nodes added splits joined finished : ℕ) : Type 0 where
+  pub network : Grown
   pub is : answer ≡ given network
   pub floats : network .table .floats ≡ fs
   pub numbers : network .table .numbers ≡ us
@@ -69,6 +69,6 @@ pub record WholeAs (answer : Answer Network) (fs : List Float) (us : List ℕ) (
   pub joined-are : network .joined ≡ joined
   pub finished-are : network .finished ≡ finished
 
-abbrev pub GrownAs : Answer Network → List Float → List ℕ → Grown → Type 0
+abbrev pub GrownAs : Answer Grown → List Float → List ℕ → GrownBook → Type 0
 GrownAs answer fs us (Whole c) = WholeAs answer fs us (c .nodes) (c .added) (c .splits) (c .joined) (c .finished)
 GrownAs answer fs us (Stopped k) = answer ≡ refused k

@@ -10,15 +10,15 @@ use Rattle.net_node.specs.declared.TimedEvent.{TimedEvent}
 use Rattle.net_insertion.specs.Insertion.{at}
 use Rattle.grow_path.specs.Path.{legEvents}
 use Rattle.grow_rules.specs.Run.{Arc, Net, Run, arcTo}
-use Rattle.arcs_growth.specs.Runs.{runEventsTo, Next, Follows}
-use Rattle.arcs_growth.specs.Noted.{Heard}
+use Rattle.arcs_growth.specs.Runs.{runEventsTo, NextTo, Follows}
+use Rattle.arcs_growth.specs.Noted.{OfRun}
 use Rattle.arcs_growth.proofs.Answers.{All, all-so}
 use Rattle.arcs_growth.proofs.Labels.{Labels, Extends}
 use Rattle.arcs_growth.proofs.Invariant.{Grows, Waits}
 use Rattle.arcs_growth.proofs.Paths.{append-assoc}
 
 -- the run stands on the node of its last event, with that event's own numbers, and has es to come; its place is no origin's Arrive
-pub record Fares (b : List ℕ) (L : Labels) (node : ℕ → EstTime) (n : ℕ) (run : Run) (es : List TimedEvent) : Type 0 where
+pub record AtEvent (b : List ℕ) (L : Labels) (node : ℕ → EstTime) (n : ℕ) (run : Run) (es : List TimedEvent) : Type 0 where
   pub within : run .place .«idx_prev» < n
   pub deep : 2 ≤ L .depth (run .place .«idx_prev»)
   pub past : List TimedEvent
@@ -30,13 +30,13 @@ pub record Fares (b : List ℕ) (L : Labels) (node : ℕ → EstTime) (n : ℕ) 
 
 -- an arc among the first n nodes
 abbrev pub Notes : List ℕ → (ℕ → EstTime) → ℕ → Arc → Type 0
-Notes b node n arc = (arc .from < n) × ((arc .to < n) × Heard b node arc)
+Notes b node n arc = (arc .from < n) × ((arc .to < n) × OfRun b node arc)
 
 -- it stays so where the nodes' events do
-pub heard-still : (b : List ℕ) (n : ℕ) (node after : ℕ → EstTime) → ((i : ℕ) → i < n → after i .«link_event» ≡ node i .«link_event») → (arc : Arc) → arc .from < n → arc .to < n → Heard b node arc → Heard b after arc
-heard-still b n node after f arc p q (inl o) = inl o
-heard-still b n node after f arc p q (inr (inl o)) = inr (inl (record { row = o .row; kept = o .kept; from = o .from; to-event = f (arc .to) q ∙ o .to-event; time = o .time; distance = o .distance }))
-heard-still b n node after f arc p q (inr (inr o)) = inr (inr (record {
+pub of-run-still : (b : List ℕ) (n : ℕ) (node after : ℕ → EstTime) → ((i : ℕ) → i < n → after i .«link_event» ≡ node i .«link_event») → (arc : Arc) → arc .from < n → arc .to < n → OfRun b node arc → OfRun b after arc
+of-run-still b n node after f arc p q (inl o) = inl o
+of-run-still b n node after f arc p q (inr (inl o)) = inr (inl (record { idx = o .idx; kept = o .kept; from = o .from; to-event = f (arc .to) q ∙ o .to-event; time = o .time; distance = o .distance }))
+of-run-still b n node after f arc p q (inr (inr o)) = inr (inr (record {
   leg = o .leg;
   before = o .before;
   after = o .after;
@@ -48,8 +48,8 @@ heard-still b n node after f arc p q (inr (inr o)) = inr (inr (record {
 }))
 
 module _ (b : List ℕ) {L M : Labels} {n m : ℕ} (node after : ℕ → EstTime) (x : Extends L M n) (h : n ≤ m) (f : (i : ℕ) → i < n → after i .«link_event» ≡ node i .«link_event») where
-  pub fares-more : (run : Run) (es : List TimedEvent) → Fares b L node n run es → Fares b M after m run es
-  fares-more run es d =
+  pub at-event-more : (run : Run) (es : List TimedEvent) → AtEvent b L node n run es → AtEvent b M after m run es
+  at-event-more run es d =
       let w = d .within in
       record {
         within = omega arith;
@@ -62,28 +62,28 @@ module _ (b : List ℕ) {L M : Labels} {n m : ℕ} (node after : ℕ → EstTime
         distance = d .distance;
       }
 
-  pub waiting-more : (runs : List Run) → All (λ (s : Run). Fares b L node n s (legEvents b (s .leg))) runs → All (λ (s : Run). Fares b M after m s (legEvents b (s .leg))) runs
-  waiting-more = all-so (λ (s : Run). Fares b L node n s (legEvents b (s .leg))) (λ (s : Run). Fares b M after m s (legEvents b (s .leg))) (λ s d. fares-more s (legEvents b (s .leg)) d)
+  pub waiting-more : (runs : List Run) → All (λ (s : Run). AtEvent b L node n s (legEvents b (s .leg))) runs → All (λ (s : Run). AtEvent b M after m s (legEvents b (s .leg))) runs
+  waiting-more = all-so (λ (s : Run). AtEvent b L node n s (legEvents b (s .leg))) (λ (s : Run). AtEvent b M after m s (legEvents b (s .leg))) (λ s d. at-event-more s (legEvents b (s .leg)) d)
 
   pub notes-more : (arcs : List Arc) → All (Notes b node n) arcs → All (Notes b after m) arcs
-  notes-more = all-so (Notes b node n) (Notes b after m) (λ arc d. (omega (arith, d .0), (omega (arith, d .1 .0), heard-still b n node after f arc (d .0) (d .1 .0) (d .1 .1))))
+  notes-more = all-so (Notes b node n) (Notes b after m) (λ arc d. (omega (arith, d .0), (omega (arith, d .1 .0), of-run-still b n node after f arc (d .0) (d .1 .0) (d .1 .1))))
 
 -- ---- neighbours
 
-pub next-there : (past : List TimedEvent) (x y : TimedEvent) (es : List TimedEvent) → Next (past ++ (x ∷ y ∷ es)) x y
+pub next-there : (past : List TimedEvent) (x y : TimedEvent) (es : List TimedEvent) → NextTo (past ++ (x ∷ y ∷ es)) x y
 next-there [] x y es = inl (refl, refl)
 next-there (z ∷ []) x y es = inr (inl (refl, refl))
 next-there (z ∷ w ∷ past) x y es = inr (next-there (w ∷ past) x y es)
 
 -- an arc to node i, which has the run's next event
-pub follows-next : {b : List ℕ} {L : Labels} {n : ℕ} (node after : ℕ → EstTime) {run : Run} {e : TimedEvent} {es : List TimedEvent} → Fares b L node n run (e ∷ es)
+pub follows-next : {b : List ℕ} {L : Labels} {n : ℕ} (node after : ℕ → EstTime) {run : Run} {e : TimedEvent} {es : List TimedEvent} → AtEvent b L node n run (e ∷ es)
     → ((i : ℕ) → i < n → after i .«link_event» ≡ node i .«link_event») → (i : ℕ) → after i .«link_event» ≡ e .«link_event» → Follows b after (arcTo (run .place) i e)
 unfolding arcTo
 follows-next {b} node after {run} {e} {es} d f i q = record {
   leg = run .leg;
   before = d .last;
   after = e;
-  neighbours = subst (λ (xs : List TimedEvent). Next xs (d .last) e) (sym (d .events)) (next-there (d .past) (d .last) e es);
+  neighbours = subst (λ (xs : List TimedEvent). NextTo xs (d .last) e) (sym (d .events)) (next-there (d .past) (d .last) e es);
   from-event = f (run .place .«idx_prev») (d .within) ∙ d .here;
   to-event = q;
   time = ap (sub binary64 (e .time)) (d .time);
@@ -91,10 +91,10 @@ follows-next {b} node after {run} {e} {es} d f i q = record {
 }
 
 -- the run has gone on to its next event
-pub fares-on : {b : List ℕ} {L M : Labels} {node after : ℕ → EstTime} {n m : ℕ} {run next : Run} {e : TimedEvent} {es : List TimedEvent} → Fares b L node n run (e ∷ es)
+pub at-event-on : {b : List ℕ} {L M : Labels} {node after : ℕ → EstTime} {n m : ℕ} {run next : Run} {e : TimedEvent} {es : List TimedEvent} → AtEvent b L node n run (e ∷ es)
     → next .place .«idx_prev» < m → 2 ≤ M .depth (next .place .«idx_prev») → next .leg ≡ run .leg → after (next .place .«idx_prev») .«link_event» ≡ e .«link_event»
-    → next .place .«time_to_next» ≡ e .time → next .place .«dist_to_next» ≡ e .offset → Fares b M after m next es
-fares-on {b} {e = e} {es = es} d w k l q t o = record {
+    → next .place .«time_to_next» ≡ e .time → next .place .«dist_to_next» ≡ e .offset → AtEvent b M after m next es
+at-event-on {b} {e = e} {es = es} d w k l q t o = record {
   within = w;
   deep = k;
   past = d .past ++ (d .last ∷ []);
@@ -111,7 +111,7 @@ pub record Driven (b : List ℕ) (places : ℕ) (net : Net) (runs : List Run) : 
   pub labels : Labels
   pub grows : Grows labels places net
   pub waits : Waits labels net runs
-  pub fares : All (λ (s : Run). Fares b labels (at (net .table)) (net .nodes) s (legEvents b (s .leg))) runs
+  pub at-event : All (λ (s : Run). AtEvent b labels (at (net .table)) (net .nodes) s (legEvents b (s .leg))) runs
   pub notes : All (Notes b (at (net .table)) (net .nodes)) (net .noted)
 
 -- and with a run within a leg, es to come
@@ -119,6 +119,6 @@ pub record Running (b : List ℕ) (places : ℕ) (net : Net) (run : Run) (saved 
   pub labels : Labels
   pub grows : Grows labels places net
   pub waits : Waits labels net (run ∷ saved)
-  pub fares : Fares b labels (at (net .table)) (net .nodes) run es
-  pub others : All (λ (s : Run). Fares b labels (at (net .table)) (net .nodes) s (legEvents b (s .leg))) saved
+  pub at-event : AtEvent b labels (at (net .table)) (net .nodes) run es
+  pub others : All (λ (s : Run). AtEvent b labels (at (net .table)) (net .nodes) s (legEvents b (s .leg))) saved
   pub notes : All (Notes b (at (net .table)) (net .nodes)) (net .noted)
