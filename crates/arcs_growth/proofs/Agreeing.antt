@@ -8,8 +8,8 @@ use native.Mathlib.Omega.{arith}
 use lib.Dec.{eqb}
 use lib.Ieee.{Float, lt}
 use Rattle.floats.specs.Floats.{gap}
-use Rattle.fields.specs.Below.{someBelow}
-use Rattle.fields.proofs.Below.{some-same}
+use Rattle.laws.specs.Below.{someBelow}
+use Rattle.laws.proofs.Below.{some-same}
 use Rattle.net_node.specs.declared.LinkEvent.{LinkEvent}
 use Rattle.net_node.specs.declared.EstTime.{EstTime}
 use Rattle.net_node.specs.declared.TimedEvent.{TimedEvent}

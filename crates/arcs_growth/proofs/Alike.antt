@@ -8,17 +8,18 @@ use native.Mathlib.Omega.{arith}
 use borrow.Author.Tests.{ltb-true}
 use lib.Dec.{ltb}
 use lib.Ieee.{Float}
+use Rattle.net_node.specs.Table.{Table, put, at}
+use Rattle.laws.proofs.Answers.{Both, both-refused}
 use Rattle.net_node.specs.declared.EstTime.{EstTime}
 use Rattle.net_node.specs.declared.TimedEvent.{TimedEvent}
 use Rattle.net_insertion.specs.declared.Place.{Place}
 use Rattle.net_insertion.specs.declared.Inserted.the-variants.{Added}
 use Rattle.net_insertion.specs.Insertion as Insertion
-use Rattle.net_insertion.specs.Insertion.{Table, put, at, linkedTo, eventNode, splitFake, alternating, addBehind, splitAt, placeAt, addedAs, tableAs, seek, found, soughtIn, inserted, insertedTable}
+use Rattle.net_insertion.specs.Insertion.{linkedTo, eventNode, splitFake, alternating, addBehind, splitAt, placeAt, addedAs, tableAs, seek, found, soughtIn, inserted, insertedTable}
 use Rattle.net_insertion.proofs.Seeking.{seek-turn}
 use Rattle.net_insertion.proofs.Puts.{RoomIn, put-room, add-room, split-room}
 use Rattle.net_joins.specs.Joins.{joinedBy, joinFake, joinAt}
 use Rattle.grow_rules.specs.Run.{Net, Run, After, addedTo, movedTo, memberOf, insertedRun, insertEvent}
-use Rattle.arcs_growth.proofs.Answers.{Both, both-refused}
 use Rattle.arcs_growth.proofs.Labels.{Labels}
 use Rattle.arcs_growth.proofs.Seeks.{search-reaches}
 use Rattle.arcs_growth.proofs.Bodies.{self-base}

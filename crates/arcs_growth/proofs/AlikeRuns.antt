@@ -7,17 +7,18 @@ use Prim.Native.Nat.{ℕ, zero, suc, _<_}
 use borrow.Author.Tests.{ltb-true}
 use lib.Dec.{ltb}
 use lib.Ieee.{Float, lt}
+use Rattle.laws.proofs.Answers.{Both, both-then, both-with}
+use Rattle.laws.specs.Answer.{Answer, refused, given}
 use Rattle.net_node.specs.declared.EstTime.{EstTime}
 use Rattle.net_node.specs.declared.TimedEvent.{TimedEvent}
-use Rattle.net_node.specs.Table.{Indexed}
-use Rattle.net_insertion.specs.Insertion.{Table, at}
+use Rattle.net_node.specs.Table.{Indexed, Table, at}
 use Rattle.net_insertion.proofs.Puts.{RoomIn}
 use Rattle.net_strands.specs.declared.EstJoinPath.{EstJoinPath}
 use Rattle.net_joins.specs.declared.SpeedJoin.{SpeedJoin}
 use Rattle.net_joins.specs.Joins as Joins
 use Rattle.net_joins.specs.Joins.{chainEndAs, chainEnd, joinAt, joinedTable, closest, closestOf, appended, rebuilt, chosenAs, chosen, joinStep}
-use Rattle.grow_rules.specs.Run.{Answer, refused, given, Net, Run, After, insertEvent, joinedTo, Outcome, Ended, On, goesOn, withJoins, joinedAs, eventAs, runEvent, nextEvent, runEvents}
-use Rattle.arcs_growth.proofs.Answers.{Both, both-then, both-with, All, all-so}
+use Rattle.grow_rules.specs.Run.{Net, Run, After, insertEvent, joinedTo, Outcome, Ended, On, goesOn, withJoins, joinedAs, eventAs, runEvent, nextEvent, runEvents}
+use Rattle.arcs_growth.proofs.Answers.{All, all-so}
 use Rattle.arcs_growth.proofs.Labels.{Labels}
 use Rattle.arcs_growth.proofs.Invariant.{Grows, Listed, Stands}
 use Rattle.arcs_growth.proofs.Entries.{Stepped, step-right, Given, Good, GoodAll, rebuilt-good}

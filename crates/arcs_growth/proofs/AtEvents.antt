@@ -5,9 +5,9 @@ use mathlib.Core.List.{List, [], _∷_, _++_}
 use Prim.Native.Nat.{ℕ, _<_, _≤_}
 use native.Mathlib.Omega.{arith}
 use lib.Ieee.{binary64, sub}
+use Rattle.net_node.specs.Table.{at}
 use Rattle.net_node.specs.declared.EstTime.{EstTime}
 use Rattle.net_node.specs.declared.TimedEvent.{TimedEvent}
-use Rattle.net_insertion.specs.Insertion.{at}
 use Rattle.grow_path.specs.Path.{legEvents}
 use Rattle.grow_rules.specs.Run.{Arc, Net, Run, arcTo}
 use Rattle.arcs_growth.specs.Runs.{runEventsTo, NextTo, Follows}

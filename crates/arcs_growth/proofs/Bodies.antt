@@ -9,12 +9,11 @@ use native.Mathlib.Omega.{arith}
 use lib.Ieee.{binary64, sub}
 use Rattle.net_node.specs.declared.EstTime.{EstTime}
 use Rattle.net_node.specs.declared.TimedEvent.{TimedEvent}
-use Rattle.net_node.specs.Table.{Indexed, blank, noLinkEvent}
+use Rattle.net_node.specs.Table.{Indexed, blank, noLinkEvent, Table, at, isFake, fakeKind}
 use Rattle.net_insertion.specs.declared.Place.{Place}
-use Rattle.net_insertion.specs.Insertion.{Table, at, linkedTo, eventNode, splitFake, alternating, addBehind, splitAt}
+use Rattle.net_insertion.specs.Insertion.{linkedTo, eventNode, splitFake, alternating, addBehind, splitAt}
 use Rattle.net_insertion.proofs.Puts.{RoomIn, add-found, add-new, add-indexed, add-other, add-room, split-found, split-new, split-indexed, split-other, split-room}
 use Rattle.grow_rules.specs.Run.{Arc, memberOf}
-use Rattle.arcs_growth.specs.Arcs.{isFake, fakeKind}
 use Rattle.arcs_growth.proofs.Answers.{clash, below, either}
 use Rattle.arcs_growth.proofs.Labels.{Role, nought, start, event, split, join, stop, baseRole, lands, itself, Labels, Extends, labelled, labelled-old, new-role, new-goal}
 use Rattle.arcs_growth.proofs.NewNodes.{Attached, Alternated, NoStops, apart}

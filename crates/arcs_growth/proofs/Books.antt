@@ -6,8 +6,8 @@ use Prim.Native.Nat.{ℕ, zero, suc, _+_, _*_, _<_, _≤_}
 use native.Mathlib.Omega.{arith}
 use borrow.Author.Tests.{eqb-true, eq-eqb, ltb-false, leb-false}
 use lib.Dec.{eqb, ltb}
-use Rattle.fields.specs.Below.{someBelow}
-use Rattle.fields.proofs.Below.{none-left, none-right, none-at, or-right}
+use Rattle.laws.specs.Below.{someBelow}
+use Rattle.laws.proofs.Below.{none-left, none-right, none-at, or-right}
 use Rattle.book_format.specs.Format.{links, origins, destinations, legs, linkLength, linkNext, linkNextAlt, linkPrev, linkPrevAlt, originLink, destinationLink, legLink, legParent}
 use Rattle.book_format.specs.Rows.{noSuchLink, linkZero, badLink, badLegIndex, row5, badLeg}
 use Rattle.book_options.specs.Options.{member, originBelow, stacked, enter, search, optionsOf, keptOrigins, none, row8}

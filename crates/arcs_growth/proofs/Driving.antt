@@ -7,6 +7,8 @@ use Prim.Native.Nat.{ℕ, zero, suc, _+_, _-_, _<_, _≤_}
 use native.Mathlib.Omega.{arith}
 use borrow.Author.Tests.{eqb-true, eqb-false}
 use lib.Dec.{eqb, ltb}
+use Rattle.laws.proofs.Answers.{Holds, holds-then, holds-so}
+use Rattle.laws.specs.Answer.{given, andThen}
 use Rattle.book_format.specs.Format.{legs, linkNext, linkNextAlt, legLink, legParent}
 use Rattle.book_format.specs.Chains.{legBelow}
 use Rattle.book_options.specs.Options.{inSet}
@@ -14,12 +16,12 @@ use Rattle.event_walk.specs.Walk.{row11}
 use Rattle.net_node.specs.declared.EstTime.{EstTime}
 use Rattle.net_node.specs.declared.TimedEvent.{TimedEvent}
 use Rattle.grow_path.specs.Path.{linkOf, legCourse, legEvents}
-use Rattle.grow_rules.specs.Run.{given, andThen, Net, Run, arcToEnd, Outcome, Ended, On, runEvents}
+use Rattle.grow_rules.specs.Run.{Net, Run, arcToEnd, Outcome, Ended, On, runEvents}
 use Rattle.grow_rules.specs.Growth.{Growth, joinGap, takes, seekLeg, badFinish, finishedAt, finishAs, waiting, onOver, fitsIn, saveOver, onAs, goOn, finishes, legEndAs, legDone, legAs, takeLeg, drive}
 use Rattle.arcs_growth.specs.Arcs.{one}
 use Rattle.arcs_growth.specs.Runs.{runEventsTo}
 use Rattle.arcs_growth.specs.Read.{Read}
-use Rattle.arcs_growth.proofs.Answers.{Holds, holds-then, holds-so, All}
+use Rattle.arcs_growth.proofs.Answers.{All}
 use Rattle.arcs_growth.proofs.Labels.{Labels}
 use Rattle.arcs_growth.proofs.Invariant.{Stands, Waits, Owned}
 use Rattle.arcs_growth.proofs.Finishing.{finish-tip, finish-keeps}

@@ -8,15 +8,14 @@ use native.Mathlib.Omega.{arith}
 use borrow.Author.Tests.{eq-eqb, ne-eqb, ltb-true}
 use lib.Dec.{eqb, ltb}
 use lib.Ieee.{binary64, ofBits}
-use Rattle.fields.proofs.Below.{or-right}
+use Rattle.laws.proofs.Answers.{Holds, holds-then}
+use Rattle.laws.proofs.Below.{or-right}
 use Rattle.net_node.specs.declared.EstTime.{EstTime}
-use Rattle.net_node.specs.Table.{blank, noLinkEvent}
-use Rattle.net_insertion.specs.Insertion.{Table, put, at}
+use Rattle.net_node.specs.Table.{blank, noLinkEvent, Table, put, at, isFake}
 use Rattle.net_insertion.proofs.Puts.{RoomIn, put-room}
 use Rattle.grow_rules.specs.Run.{Arc, memberOf}
 use Rattle.grow_rules.specs.Growth.{fakeNode, leadsToEnd, Tail, roomFor, endFakes}
-use Rattle.arcs_growth.specs.Arcs.{isFake}
-use Rattle.arcs_growth.proofs.Answers.{Holds, holds-then, All, either, clash, below}
+use Rattle.arcs_growth.proofs.Answers.{All, either, clash, below}
 use Rattle.arcs_growth.proofs.Labels.{stop, baseRole, receives, itself, Labels, Extends, labelled, labelled-old, new-role, new-goal}
 use Rattle.arcs_growth.proofs.NewNodes.{Attached}
 use Rattle.arcs_growth.proofs.Weights.{arcThere, arcOut}

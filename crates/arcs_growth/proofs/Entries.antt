@@ -12,7 +12,7 @@ use lib.Dec.{eqb, ltb}
 use lib.Ieee.{Float, lt}
 use Rattle.floats.specs.Floats.{gap}
 use Rattle.floats.proofs.Order.{lt-asym}
-use Rattle.fields.proofs.Below.{none-left}
+use Rattle.laws.proofs.Below.{none-left}
 use Rattle.net_node.specs.declared.LinkEvent.{LinkEvent}
 use Rattle.net_node.specs.declared.EstTime.{EstTime}
 use Rattle.net_node.specs.declared.TimedEvent.{TimedEvent}

@@ -4,13 +4,13 @@ use mathlib.Core.List.{List, [], _∷_, _++_}
 use Prim.Native.Nat.{ℕ}
 use lib.ListN.{replicate}
 use lib.Ieee.{binary64, ofBits, isNan, le, add, sub, mul, div}
-use Rattle.fields.specs.Below.{someBelow}
+use Rattle.net_node.specs.Table.{Table}
+use Rattle.laws.specs.Answer.{Answer, refused, given}
+use Rattle.laws.specs.Below.{someBelow}
 use Rattle.book_format.specs.Format.{legs}
 use Rattle.book_format.specs.Rows.{row5}
-use Rattle.net_insertion.specs.Insertion.{Table}
-use Rattle.grow_rules.specs.Run.{Answer, refused, given}
 use Rattle.grow_rules.specs.Growth.{Grown, grow}
-use Rattle.fields.specs.Below as BelowOf
+use Rattle.laws.specs.Below as BelowOf
 use Rattle.fields.specs.Fields as FieldsOf
 use Rattle.floats.specs.Floats as FloatsOf
 use Rattle.root.specs.Root as RootRoot

@@ -8,10 +8,10 @@ use native.Mathlib.Omega.{arith}
 use borrow.Author.Tests.{eqb-true, eq-eqb, ne-eqb, not-false}
 use lib.Dec.{eqb}
 use lib.Ieee.{binary64, ofBits}
-use Rattle.fields.specs.Below.{sumBelow}
-use Rattle.fields.proofs.Below.{none-left, none-right}
+use Rattle.net_node.specs.Table.{at}
+use Rattle.laws.specs.Below.{sumBelow}
+use Rattle.laws.proofs.Below.{none-left, none-right}
 use Rattle.net_node.specs.declared.EstTime.{EstTime}
-use Rattle.net_insertion.specs.Insertion.{at}
 use Rattle.grow_rules.specs.Run.{Arc, Net, Run, arcToEnd, memberOf}
 use Rattle.grow_rules.specs.Growth.{badFinish, finishedAt}
 use Rattle.arcs_growth.proofs.Answers.{all-so, clash, either}

@@ -7,13 +7,11 @@ use Prim.Native.Nat.{ℕ, zero, suc, _<_}
 use native.Mathlib.Omega.{arith}
 use lib.Ieee.{binary64, ofBits}
 use Rattle.net_node.specs.declared.EstTime.{EstTime}
-use Rattle.net_node.specs.Table.{Indexed, blank, noLinkEvent}
-use Rattle.net_insertion.specs.Insertion.{Table, put, at}
+use Rattle.net_node.specs.Table.{Indexed, blank, noLinkEvent, Table, put, at, isFake}
 use Rattle.net_insertion.proofs.Puts.{RoomIn, put-room}
-use Rattle.fields.specs.Below.{sumBelow}
+use Rattle.laws.specs.Below.{sumBelow}
 use Rattle.grow_rules.specs.Run.{Arc}
 use Rattle.grow_rules.specs.Growth.{departure, fakeNode, firstNodes, originRun}
-use Rattle.arcs_growth.specs.Arcs.{isFake}
 use Rattle.arcs_growth.proofs.Answers.{clash}
 use Rattle.arcs_growth.proofs.Sums.{total}
 use Rattle.arcs_growth.proofs.Labels.{Role, nought, start, event, split, join, stop, baseRole, lands, Labels}

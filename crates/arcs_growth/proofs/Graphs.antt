@@ -5,10 +5,11 @@ use mathlib.Core.Bool.{true, false}
 use mathlib.Core.List.{List, _∷_}
 use Prim.Native.Nat.{ℕ, suc, _+_, _<_}
 use native.Mathlib.Omega.{arith}
+use Rattle.net_node.specs.Table.{isFake}
 use Rattle.net_node.specs.declared.EstTime.{EstTime}
-use Rattle.fields.specs.Below.{sumBelow}
+use Rattle.laws.specs.Below.{sumBelow}
 use Rattle.grow_rules.specs.Run.{Arc, memberOf}
-use Rattle.arcs_growth.specs.Arcs.{isFake, one}
+use Rattle.arcs_growth.specs.Arcs.{one}
 use Rattle.arcs_growth.proofs.Answers.{either}
 use Rattle.arcs_growth.proofs.Sums.{sum-same, sum-suc, total, total-more}
 use Rattle.arcs_growth.proofs.Labels.{Role, event, split, join, stop, baseRole, lands, Labels, Extends, labelled, labelled-old, new-role}

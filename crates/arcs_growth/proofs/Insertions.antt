@@ -9,19 +9,19 @@ use native.Mathlib.Omega.{arith}
 use lib.Dec.{eqb}
 use borrow.Author.Tests.{eqb-true}
 use lib.Ieee.{Float, binary64, sub, lt}
+use Rattle.laws.proofs.Answers.{Holds}
 use Rattle.floats.specs.Floats.{gap}
 use Rattle.net_node.specs.declared.LinkEvent.{LinkEvent}
 use Rattle.net_node.specs.declared.EstTime.{EstTime}
 use Rattle.net_node.specs.declared.TimedEvent.{TimedEvent}
-use Rattle.net_node.specs.Table.{sameEvent, sameKind, kindNumber, kindOf}
+use Rattle.net_node.specs.Table.{sameEvent, sameKind, kindNumber, kindOf, Table, at, fakeKind}
 use Rattle.net_node.proofs.Nodes.{kind-back}
 use Rattle.net_insertion.specs.declared.Place.{Place}
 use Rattle.net_insertion.specs.declared.Inserted.{Inserted}
 use Rattle.net_insertion.specs.declared.Inserted.the-variants.{Added, Moved, Refused}
-use Rattle.net_insertion.specs.Insertion.{Table, at, matches, placeAt, addBehind, splitAt, alternating, inserted, insertedTable}
+use Rattle.net_insertion.specs.Insertion.{matches, placeAt, addBehind, splitAt, alternating, inserted, insertedTable}
 use Rattle.grow_rules.specs.Run.{Net, Run, After, arcTo, addedTo, movedTo, memberOf, insertedRun, insertEvent}
-use Rattle.arcs_growth.specs.Arcs.{fakeKind}
-use Rattle.arcs_growth.proofs.Answers.{Holds, some-all, clash, below, either}
+use Rattle.arcs_growth.proofs.Answers.{some-all, clash, below, either}
 use Rattle.arcs_growth.proofs.Labels.{Role, nought, start, event, split, join, stop, fakeRole, baseRole, itself, Labels, Extends, labelled, labelled-old, new-role, new-owner, new-depth}
 use Rattle.arcs_growth.proofs.Laid.{EventOf, NextOf, Laid}
 use Rattle.arcs_growth.proofs.NewNodes.{Attached}

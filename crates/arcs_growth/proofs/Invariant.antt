@@ -7,7 +7,7 @@ use mathlib.Core.List.{List, [], _∷_}
 use Prim.Native.Nat.{ℕ, suc, _+_, _<_, _≤_}
 use native.Mathlib.Omega.{arith}
 use lib.ListN.{length}
-use Rattle.net_insertion.specs.Insertion.{at}
+use Rattle.net_node.specs.Table.{at}
 use Rattle.net_strands.specs.declared.EstJoinPath.{EstJoinPath}
 use Rattle.grow_rules.specs.Run.{Net, Run, memberOf}
 use Rattle.arcs_growth.proofs.Answers.{All, Some, all-so}

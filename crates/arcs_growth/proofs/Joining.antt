@@ -9,12 +9,11 @@ use lib.Ieee.{binary64, sub}
 use Rattle.net_node.specs.declared.LinkEvent.{LinkEvent}
 use Rattle.net_node.specs.declared.EstTime.{EstTime}
 use Rattle.net_node.specs.declared.TimedEvent.{TimedEvent}
-use Rattle.net_node.specs.Table.{Indexed, blank, noLinkEvent}
-use Rattle.net_insertion.specs.Insertion.{Table, put, at, linkedTo}
+use Rattle.net_node.specs.Table.{Indexed, blank, noLinkEvent, Table, put, at, isFake, fakeKind}
+use Rattle.net_insertion.specs.Insertion.{linkedTo}
 use Rattle.net_insertion.proofs.Puts.{RoomIn, put-room}
 use Rattle.net_joins.specs.Joins.{chainEndAs, chainEnd, joinedBy, joinFake, joinAt, joinedTable}
 use Rattle.grow_rules.specs.Run.{Net, Run, arcTo, memberOf, joinedTo}
-use Rattle.arcs_growth.specs.Arcs.{isFake, fakeKind}
 use Rattle.arcs_growth.proofs.Answers.{All, all-so, clash, below, either}
 use Rattle.arcs_growth.proofs.Labels.{event, join, stop, baseRole, lands, itself, Labels, Extends, labelled, labelled-old, new-role, new-goal}
 use Rattle.arcs_growth.proofs.Laid.{Laid}

@@ -5,9 +5,9 @@ use mathlib.Core.Logic.{_⊎_, inl, inr}
 use mathlib.Core.Bool.{Bool, true, false}
 use Prim.Native.Nat.{ℕ, zero, suc, _<_, _≤_}
 use native.Mathlib.Omega.{arith}
+use Rattle.net_node.specs.Table.{isFake, fakeKind}
 use Rattle.net_node.specs.declared.EstTime.{EstTime}
 use Rattle.net_node.specs.declared.LinkEvent.{LinkEvent}
-use Rattle.arcs_growth.specs.Arcs.{isFake, fakeKind}
 use Rattle.arcs_growth.proofs.Answers.{clash, below}
 use Rattle.arcs_growth.proofs.Labels.{Role, nought, start, event, split, join, stop, fakeRole, baseRole, receives, lands, itself, Labels, Extends}
 

@@ -6,7 +6,7 @@ use Prim.Native.Nat.{ℕ, zero, suc, _+_, _-_, _<_, _≤_}
 use native.Mathlib.Omega.{arith}
 use borrow.Author.Tests.{eq-eqb}
 use lib.Dec.{eqb}
-use Rattle.fields.specs.Below.{sumBelow}
+use Rattle.laws.specs.Below.{sumBelow}
 use Rattle.book_format.specs.Format.{legs, legParent}
 use Rattle.grow_rules.specs.Run.{Run}
 use Rattle.arcs_growth.specs.Arcs.{one}

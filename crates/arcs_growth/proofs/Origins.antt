@@ -8,21 +8,23 @@ use native.Mathlib.Omega.{arith}
 use borrow.Author.Tests.{eqb-true, eq-eqb}
 use lib.Dec.{eqb}
 use lib.Ieee.{Float, binary64, add, sub, ofBits}
+use Rattle.net_node.specs.Table.{Table, at}
+use Rattle.laws.proofs.Answers.{Holds, holds-then, holds-so}
+use Rattle.laws.specs.Answer.{given, andThen}
 use Rattle.book_format.specs.Format.{legs, originLink, legLink, legParent, lengthBits, floatOf}
 use Rattle.book_format.specs.Chains.{legBelow}
 use Rattle.book_options.specs.Options.{keptOrigins}
 use Rattle.net_node.specs.declared.EstType.the-variants.{Arrive, Clear}
 use Rattle.net_node.specs.declared.TimedEvent.{TimedEvent}
-use Rattle.net_insertion.specs.Insertion.{Table, at}
 use Rattle.grow_path.specs.Path.{legEvents}
-use Rattle.grow_rules.specs.Run.{given, andThen, Net, Run, After, arcTo, memberOf, insertEvent}
+use Rattle.grow_rules.specs.Run.{Net, Run, After, arcTo, memberOf, insertEvent}
 use Rattle.grow_rules.specs.Growth.{Growth, joinGap, departure, firstNodes, originEvent, originRun, takes, seekLeg, saves, growOrigin, growOrigins}
 use Rattle.arcs_growth.specs.Arcs.{one}
 use Rattle.arcs_growth.specs.Runs.{runEventsTo, NextTo, Follows}
 use Rattle.arcs_growth.specs.Read.{SomeKept, Read}
-use Rattle.fields.proofs.Below.{or-right}
+use Rattle.laws.proofs.Below.{or-right}
 use Rattle.net_insertion.proofs.Puts.{RoomIn}
-use Rattle.arcs_growth.proofs.Answers.{Holds, holds-then, holds-so, All, Some, all-so, either, clash}
+use Rattle.arcs_growth.proofs.Answers.{All, Some, all-so, either, clash}
 use Rattle.arcs_growth.proofs.Labels.{event, fakeRole, baseRole, Labels}
 use Rattle.arcs_growth.proofs.NewNodes.{apart}
 use Rattle.arcs_growth.proofs.Invariant.{Grows, Stands, Owned, Waits, stands-more, owned-popped}

@@ -7,6 +7,7 @@ use native.Mathlib.Omega.{arith}
 use borrow.Author.Tests.{eqb-true}
 use lib.Dec.{eqb, ltb}
 use lib.Ieee.{Float, binary64, add, ofBits}
+use Rattle.net_node.specs.Table.{fakeKind}
 use Rattle.book_format.specs.Format.{legs, legLink, legParent, lengthBits, floatOf}
 use Rattle.book_format.specs.Chains.{legBelow}
 use Rattle.net_node.specs.declared.EstType.the-variants.{Arrive, Clear}
@@ -19,7 +20,6 @@ use Rattle.event_walk.specs.Course.{Course}
 use Rattle.event_walk.specs.Walk.{offsetNext, clearsNext, emits, turn, passedAs, passedNext, walk, turnsLeft, passedFrom, pointsPassed, start}
 use Rattle.grow_path.specs.Path.{legsTo, pathOf, linkOf, legCourse, eventAt, eventsAt, legEvents}
 use Rattle.grow_rules.specs.Growth.{originEvent}
-use Rattle.arcs_growth.specs.Arcs.{fakeKind}
 use Rattle.arcs_growth.specs.Runs.{eventsOfLegs, originEvents, runEventsTo}
 use Rattle.arcs_growth.specs.Read.{Read}
 use Rattle.arcs_growth.proofs.Answers.{All}

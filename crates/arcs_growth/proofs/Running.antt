@@ -6,14 +6,16 @@ use mathlib.Core.List.{List, [], _∷_}
 use Prim.Native.Nat.{ℕ, suc, _<_, _≤_}
 use native.Mathlib.Omega.{arith}
 use lib.Ieee.{Float}
+use Rattle.net_node.specs.Table.{at, fakeKind}
+use Rattle.laws.proofs.Answers.{Holds, holds-then}
+use Rattle.laws.specs.Answer.{Answer, refused, given}
 use Rattle.net_node.specs.declared.LinkEvent.{LinkEvent}
 use Rattle.net_node.specs.declared.TimedEvent.{TimedEvent}
-use Rattle.net_insertion.specs.Insertion.{at, matches}
+use Rattle.net_insertion.specs.Insertion.{matches}
 use Rattle.net_strands.specs.declared.EstJoinPath.{EstJoinPath}
 use Rattle.net_joins.specs.Joins.{JoinStep, JoinsTo, GoesOn, Beyond, joinStep}
-use Rattle.grow_rules.specs.Run.{Answer, refused, given, Net, Run, After, arcTo, insertEvent, joinedTo, Outcome, Ended, On, goesOn, withJoins, joinedAs, eventAs, runEvent, nextEvent, runEvents}
-use Rattle.arcs_growth.specs.Arcs.{fakeKind}
-use Rattle.arcs_growth.proofs.Answers.{Holds, holds-then, All}
+use Rattle.grow_rules.specs.Run.{Net, Run, After, arcTo, insertEvent, joinedTo, Outcome, Ended, On, goesOn, withJoins, joinedAs, eventAs, runEvent, nextEvent, runEvents}
+use Rattle.arcs_growth.proofs.Answers.{All}
 use Rattle.arcs_growth.proofs.Labels.{event, baseRole, itself, Labels}
 use Rattle.arcs_growth.proofs.Laid.{NextOf}
 use Rattle.arcs_growth.proofs.Seeks.{Reached}

@@ -7,12 +7,13 @@ use native.Mathlib.Omega.{arith}
 use borrow.Author.Tests.{eqb-true, eqb-false, ltb-true}
 use lib.Dec.{eqb, ltb}
 use lib.Ieee.{Float}
+use Rattle.net_node.specs.Table.{Table, at}
 use Rattle.net_node.specs.declared.EstTime.{EstTime}
 use Rattle.net_node.specs.declared.TimedEvent.{TimedEvent}
 use Rattle.net_insertion.specs.declared.Place.{Place}
 use Rattle.net_insertion.specs.declared.Inserted.{Inserted}
 use Rattle.net_insertion.specs.declared.Inserted.the-variants.{Added, Moved, Refused}
-use Rattle.net_insertion.specs.Insertion.{Table, at, matches, found, seek, soughtIn, placeAt, addedAs, insertedAs, tableAs, inserted, insertedTable, addBehind, splitAt}
+use Rattle.net_insertion.specs.Insertion.{matches, found, seek, soughtIn, placeAt, addedAs, insertedAs, tableAs, inserted, insertedTable, addBehind, splitAt}
 use Rattle.net_insertion.proofs.Seeking.{seek-turn}
 use Rattle.arcs_growth.proofs.Labels.{split, baseRole, Labels}
 use Rattle.arcs_growth.proofs.Laid.{AltOf, Laid}

@@ -7,11 +7,12 @@ use Prim.Native.Nat.{ℕ, zero, suc, _+_, _-_, _<_, _≤_}
 use native.Mathlib.Omega.{arith}
 use borrow.Author.Tests.{eqb-true, eqb-false, eq-eqb, ne-eqb, ltb-true, lt-ltb}
 use lib.Dec.{eqb, ltb}
-use Rattle.fields.specs.Below.{someBelow}
-use Rattle.fields.proofs.Below.{some-at}
+use Rattle.net_node.specs.Table.{isFake}
+use Rattle.laws.specs.Below.{someBelow}
+use Rattle.laws.proofs.Below.{some-at}
 use Rattle.net_node.specs.declared.EstTime.{EstTime}
 use Rattle.grow_rules.specs.Run.{Arc}
-use Rattle.arcs_growth.specs.Arcs.{isFake, isAlternative, isBase, alternativeOf, sourceOf, goalOf, arcOf}
+use Rattle.arcs_growth.specs.Arcs.{isAlternative, isBase, alternativeOf, sourceOf, goalOf, arcOf}
 use Rattle.arcs_growth.specs.Shape.{isReceiver, Shape}
 use Rattle.arcs_growth.proofs.Answers.{either, clash, below}
 use Rattle.arcs_growth.proofs.Labels.{Role, nought, start, event, split, join, stop, fakeRole, baseRole, receives, lands, itself, Labels}

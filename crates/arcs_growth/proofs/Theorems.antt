@@ -8,18 +8,19 @@ use native.Mathlib.Omega.{arith}
 use borrow.Author.Tests.{ltb-true}
 use lib.ListN.{length}
 use lib.Dec.{ltb}
+use Rattle.laws.proofs.Answers.{Holds, holds-then, holds-given}
+use Rattle.laws.specs.Answer.{given, andThen}
 use Rattle.book_format.specs.Format.{legs}
 use Rattle.book_options.specs.Options.{keptOrigins}
 use Rattle.net_node.specs.declared.EstTime.{EstTime}
-use Rattle.net_node.specs.Table.{Room, Indexed}
-use Rattle.net_insertion.specs.Insertion.{Table, at}
-use Rattle.grow_rules.specs.Run.{given, andThen, Arc, Net, memberOf}
+use Rattle.net_node.specs.Table.{Room, Indexed, Table, at}
+use Rattle.grow_rules.specs.Run.{Arc, Net, memberOf}
 use Rattle.grow_rules.specs.Growth.{Growth, firstNodes, growOrigins, drive, Tail, endFakes, lastNode, Grown, startAs, grownWith, grow}
 use Rattle.arcs_growth.specs.Arcs.{arcsRead, SameArcs}
 use Rattle.arcs_growth.specs.Shape.{Shape}
 use Rattle.arcs_growth.specs.Noted.{AllOfRuns, EndsInside}
 use Rattle.arcs_growth.specs.Read.{Read}
-use Rattle.arcs_growth.proofs.Answers.{Holds, holds-then, holds-given, All}
+use Rattle.arcs_growth.proofs.Answers.{All}
 use Rattle.arcs_growth.proofs.Labels.{baseRole}
 use Rattle.arcs_growth.proofs.AtEvents.{Notes, Driven}
 use Rattle.arcs_growth.proofs.Driving.{drives}

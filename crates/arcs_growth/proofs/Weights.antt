@@ -8,7 +8,7 @@ use borrow.Author.Tests.{eq-eqb, ne-eqb}
 use lib.Dec.{eqb}
 use lib.Ieee.{binary64, ofBits}
 use Rattle.net_node.specs.declared.EstTime.{EstTime}
-use Rattle.fields.specs.Below.{sumBelow}
+use Rattle.laws.specs.Below.{sumBelow}
 use Rattle.grow_rules.specs.Run.{Arc, memberOf}
 use Rattle.arcs_growth.proofs.Sums.{sum-same, sum-suc, sum-point}
 use Rattle.arcs_growth.proofs.Labels.{baseRole, Labels, Extends}

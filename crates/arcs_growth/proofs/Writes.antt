@@ -3,9 +3,9 @@ use mathlib.Core.Path.{_≡_, sym, ap, _∙_}
 use mathlib.Core.Logic.{_⊎_, inl, inr}
 use Prim.Native.Nat.{ℕ, suc, _<_}
 use native.Mathlib.Omega.{arith}
+use Rattle.net_node.specs.Table.{Table, put, at}
 use Rattle.net_node.specs.declared.EstTime.{EstTime}
 use Rattle.net_node.proofs.Nodes.{node-put-same, node-put-other}
-use Rattle.net_insertion.specs.Insertion.{Table, put, at}
 use Rattle.net_insertion.proofs.Puts.{RoomIn}
 use Rattle.arcs_growth.proofs.Answers.{either, below}
 

@@ -8,20 +8,11 @@ use mathlib.Core.List.{List, [], _∷_, _++_}
 use Prim.Native.Nat.{ℕ, zero, suc, _+_, _-_}
 use lib.Dec.{eqb}
 use lib.Ieee.{Float, binary64, toBits, sub}
-use Rattle.fields.specs.Below.{someBelow}
-use Rattle.net_node.specs.declared.EstType.{EstType}
-use Rattle.net_node.specs.declared.EstType.the-variants.{Arrive, Clear, Fake}
+use Rattle.laws.specs.Below.{someBelow}
 use Rattle.net_node.specs.declared.EstTime.{EstTime}
+use Rattle.net_node.specs.Table.{isFake}
 use Rattle.net_node.specs.declared.TimedEvent.{TimedEvent}
 use Rattle.grow_rules.specs.Run.{Arc}
-
-abbrev pub fakeKind : EstType → Bool
-fakeKind Arrive = false
-fakeKind Clear = false
-fakeKind Fake = true
-
-abbrev pub isFake : EstTime → Bool
-isFake x = fakeKind (x .«link_event» .«est_type»)
 
 module _ (node : ℕ → EstTime) (n : ℕ) where
   -- "Fakes that are next alternatives, 0 being none"

@@ -1,7 +1,7 @@
 -- "The growth rule is a definition over the book alone": two growths are the same when they have the same nodes, counts and noted arcs, whatever lies beyond the nodes in their tables.
 use mathlib.Core.Path.{_≡_}
 use Prim.Native.Nat.{ℕ, _<_}
-use Rattle.net_insertion.specs.Insertion.{at}
+use Rattle.net_node.specs.Table.{at}
 use Rattle.grow_rules.specs.Growth.{Grown}
 
 pub record SameGrowth (g other : Grown) : Type 0 where

@@ -5,8 +5,9 @@ use mathlib.Core.Logic.{_⊎_}
 use mathlib.Core.Bool.{Bool, true, false, not, _&&_, _||_}
 use Prim.Native.Nat.{ℕ, zero, suc, _-_, _≤_, _<_}
 use lib.Dec.{eqb, ltb}
+use Rattle.net_node.specs.Table.{isFake}
 use Rattle.net_node.specs.declared.EstTime.{EstTime}
-use Rattle.arcs_growth.specs.Arcs.{isFake, isAlternative, isBase, goalOf}
+use Rattle.arcs_growth.specs.Arcs.{isAlternative, isBase, goalOf}
 
 -- "event nodes, join Fakes and end Fakes": no node 0, no start, no end, no split Fake
 unfoldable pub isReceiver : (ℕ → EstTime) → ℕ → ℕ → Bool

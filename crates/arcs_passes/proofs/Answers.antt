@@ -3,14 +3,9 @@ use mathlib.Core.Path.{_≡_, refl, subst}
 use mathlib.Core.Bool.{Bool, true, false, cond}
 use mathlib.Core.List.{List, [], _∷_}
 use Prim.Native.Nat.{ℕ}
-use Rattle.net_node.specs.declared.EstType.{EstType}
-use Rattle.net_node.specs.declared.EstType.the-variants.{Arrive, Clear, Fake}
-use Rattle.net_node.specs.declared.EstTime.{EstTime}
 use Rattle.pass_queue.specs.declared.Entry.{Entry}
 use Rattle.pass_queue.specs.Queue.{before, better, best, others}
 use Rattle.pass_rules.specs.Net.{Answer, fails, given, andThen, asserting}
-use Rattle.pass_rules.specs.Checks
-use Rattle.arcs_growth.specs.Arcs
 
 abbrev pub Holds : {A : Type 0} → (A → Type 0) → Answer A → Type 0
 Holds P fails = Unit
@@ -50,13 +45,3 @@ others-hold P back e (x ∷ xs) p q = (
   cond-holds (λ (z : Entry). P (z .node)) (before back x e) e x p (q .0),
   others-hold P back (better back e x) xs (cond-holds (λ (z : Entry). P (z .node)) (before back x e) x e (q .0) p) (q .1),
 )
-
--- ---- the checks' Fakes are the arcs'
-
-kind-agrees : (k : EstType) → Checks.fakeKind k ≡ Arcs.fakeKind k
-kind-agrees Arrive = refl
-kind-agrees Clear = refl
-kind-agrees Fake = refl
-
-pub fake-agrees : (x : EstTime) → Checks.isFake x ≡ Arcs.isFake x
-fake-agrees x = kind-agrees (x .«link_event» .«est_type»)

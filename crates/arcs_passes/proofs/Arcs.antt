@@ -7,7 +7,7 @@ use Prim.Native.Nat.{ℕ, zero, suc, _+_, _≤_, _<_}
 use native.Mathlib.Nat.{le-refl}
 use native.Mathlib.Omega.{arith}
 use lib.Ieee.{Float}
-use Rattle.fields.specs.Below.{sumBelow}
+use Rattle.laws.specs.Below.{sumBelow}
 use Rattle.net_node.specs.declared.EstTime.{EstTime}
 use Rattle.grow_rules.specs.Run.{Arc}
 use Rattle.arcs_growth.specs.Arcs.{isBase, sourceOf, goalOf, arcOf, arcsBelow, arcsRead, sameArc, one, timesIn, SameArcs}

@@ -8,21 +8,20 @@ use native.Mathlib.Omega.{arith}
 use borrow.Author.Tests.{not-true}
 use lib.Dec.{eqb}
 use lib.Ieee.{Float, binary64, sub, ofBits, isNan}
-use Rattle.fields.proofs.Below.{none-right}
+use Rattle.net_node.specs.Table.{Table, at, isFake}
+use Rattle.laws.proofs.Below.{none-right}
 use Rattle.net_node.specs.declared.EstTime.{EstTime}
 use Rattle.pass_queue.specs.declared.Entry.{Entry}
 use Rattle.pass_queue.specs.Queue.{best, others}
-use Rattle.net_insertion.specs.Insertion.{Table, at}
 use Rattle.net_insertion.proofs.Puts.{RoomIn}
-use Rattle.pass_rules.specs.Checks
 use Rattle.pass_rules.specs.Net.{given, andThen, asserting, Pass}
 use Rattle.pass_rules.specs.Backward.{queued, enqueue, passed, At, relinkWalk, relinked, alternatedBy, stepOn, step, stopsAt, stopIf, strand, addedIf, settledBy, settle, turn, turns, lastTwo, backward}
-use Rattle.arcs_growth.specs.Arcs.{isFake, isBase}
+use Rattle.arcs_growth.specs.Arcs.{isBase}
 use Rattle.arcs_growth.specs.Shape.{isReceiver, Shape}
 use Rattle.arcs_passes.proofs.Roles.{never, receiver-inside}
 use Rattle.arcs_passes.proofs.Frames.{base-same, receiver-same}
 use Rattle.arcs_passes.proofs.Ways.{upward, event-receives}
-use Rattle.arcs_passes.proofs.Answers.{Holds, holds-then, holds-if, holds-given, Every, best-holds, others-hold, fake-agrees}
+use Rattle.arcs_passes.proofs.Answers.{Holds, holds-then, holds-if, holds-given, Every, best-holds, others-hold}
 use Rattle.arcs_passes.proofs.BackwardRelinks.{Akin, walk-holds, Kept, kept-itself, kept-timed, kept-split}
 
 module _ (node : ℕ → EstTime) (n places : ℕ) (l : n ≤ places) where
@@ -57,8 +56,8 @@ module _ (node : ℕ → EstTime) (n places : ℕ) (l : n ≤ places) where
       go (inl e) = inl (base-there t f (at t i .«idx_prev») (e .0), e .1)
       go (inr e) = inr e
 
-  event-there : (t : Table) → Kept node n places t → (i : ℕ) → i < n → Checks.isFake (at t i) ≡ false → isReceiver node n i ≡ true
-  event-there t f i h e = receives-there t f i (event-receives (at t) n (f .shape) i h (sym (fake-agrees (at t i)) ∙ e))
+  event-there : (t : Table) → Kept node n places t → (i : ℕ) → i < n → isFake (at t i) ≡ false → isReceiver node n i ≡ true
+  event-there t f i h e = receives-there t f i (event-receives (at t) n (f .shape) i h (e))
 
   -- ---- entries and times
 
@@ -119,7 +118,7 @@ module _ (node : ℕ → EstTime) (n places : ℕ) (l : n ≤ places) where
   goes-on a s e = record { good = s .good; inside = s .stands .1; base = ⊎-elim (λ (b : Base (a .prev)). b) first (s .ahead) }
     where
       event : isFake (at (a .pass .table) (a .prev)) ≡ false
-      event = sym (fake-agrees (at (a .pass .table) (a .prev))) ∙ none-right (not (eqb (at (a .pass .table) (a .prev) .«idx_next_alt») 0)) (Checks.isFake (at (a .pass .table) (a .prev))) e
+      event = none-right (not (eqb (at (a .pass .table) (a .prev) .«idx_next_alt») 0)) (isFake (at (a .pass .table) (a .prev))) e
 
       first : a .prev ≡ 0 → Base (a .prev)
       first o = never (s .good .kept .shape .first-fake) (subst (λ (x : ℕ). isFake (at (a .pass .table) x) ≡ false) o event)
@@ -135,7 +134,7 @@ module _ (node : ℕ → EstTime) (n places : ℕ) (l : n ≤ places) where
 
   -- ---- the end of a strand
 
-  added-holds : (a : At) → Stepped a → (c : Bool) → Holds Good (addedIf c (Checks.isFake (at (a .pass .table) (a .curr))) a)
+  added-holds : (a : At) → Stepped a → (c : Bool) → Holds Good (addedIf c (isFake (at (a .pass .table) (a .curr))) a)
   added-holds a s true =
       let time = at (a .pass .table) (a .curr) .«time_sched» in
       let some = s .good .kept .shape .some in
@@ -144,9 +143,9 @@ module _ (node : ℕ → EstTime) (n places : ℕ) (l : n ≤ places) where
       passed-holds (passed (a .pass) (a .prev) time) (passed-holds (a .pass) (s .good) (a .prev) time inside) 0 time first
   added-holds a s false =
       let time = sub binary64 (at (a .pass .table) (a .curr) .«time_sched») (at (a .pass .table) (a .prev) .«time_to_next») in
-      holds-if Good (not (Checks.isFake (at (a .pass .table) (a .curr)))) (enqueue (a .pass) time (a .less) (a .curr))
+      holds-if Good (not (isFake (at (a .pass .table) (a .curr)))) (enqueue (a .pass) time (a .less) (a .curr))
       (λ o. enqueue-holds (a .pass) (s .good) time (a .less) (a .curr)
-      (event-there (a .pass .table) (s .good .kept) (a .curr) (s .stands .1) (not-true (Checks.isFake (at (a .pass .table) (a .curr))) o)))
+      (event-there (a .pass .table) (s .good .kept) (a .curr) (s .stands .1) (not-true (isFake (at (a .pass .table) (a .curr))) o)))
 
   settle-holds : (a : At) → Stepped a → Holds Good (settle a)
   unfolding settle
@@ -155,7 +154,7 @@ module _ (node : ℕ → EstTime) (n places : ℕ) (l : n ≤ places) where
       go : (c : Bool) → Holds Good (settledBy c a)
       go false = added-holds a s (eqb (at (a .pass .table) (a .prev) .«idx_prev») 0)
       go true =
-          holds-if Good (Checks.isFake (at (a .pass .table) (a .curr))) (asserting (eqb (a .curr) (at (a .pass .table) (a .prev) .«idx_next_alt»)) (given (a .pass)))
+          holds-if Good (isFake (at (a .pass .table) (a .curr))) (asserting (eqb (a .curr) (at (a .pass .table) (a .prev) .«idx_next_alt»)) (given (a .pass)))
           (λ o. holds-if Good (eqb (a .curr) (at (a .pass .table) (a .prev) .«idx_next_alt»)) (given (a .pass)) (λ q. s .good))
 
   -- ---- the pass

@@ -8,13 +8,12 @@ use native.Mathlib.Omega.{arith}
 use borrow.Author.Tests.{eqb-false, not-true}
 use lib.Dec.{eqb}
 use lib.Ieee.{Float}
+use Rattle.net_node.specs.Table.{Table, at, isFake}
 use Rattle.net_node.specs.declared.EstTime.{EstTime}
-use Rattle.net_insertion.specs.Insertion.{Table, at}
 use Rattle.net_insertion.proofs.Puts.{RoomIn}
-use Rattle.pass_rules.specs.Checks
 use Rattle.pass_rules.specs.Net.{Answer, fails, given, Pass, setTime}
 use Rattle.pass_rules.specs.Backward.{isPassable, walkedOn, relinkWalk, swapSplit, swappedIf}
-use Rattle.arcs_growth.specs.Arcs.{isFake, isBase, sourceOf, arcsRead, SameArcs, timesIn}
+use Rattle.arcs_growth.specs.Arcs.{isBase, sourceOf, arcsRead, SameArcs, timesIn}
 use Rattle.arcs_growth.specs.Shape.{isReceiver, Shape}
 use Rattle.arcs_passes.proofs.Roles.{and-left, and-right, receiver-inside}
 use Rattle.arcs_passes.proofs.Frames.{SameFrames}
@@ -23,7 +22,7 @@ use Rattle.arcs_passes.proofs.Swapped.{Swapped, swapped-shape}
 use Rattle.arcs_passes.proofs.Arcs.{Held, heldOf, goal-swapped, read-same, source-swapped-read}
 use Rattle.arcs_passes.proofs.Sets.{sets, sets-at, sets-other}
 use Rattle.arcs_passes.proofs.Stores.{view-itself, time-set, next-set, prev-set, held-set, times-swapped, both-swapped}
-use Rattle.arcs_passes.proofs.Answers.{Holds, fake-agrees}
+use Rattle.arcs_passes.proofs.Answers.{Holds}
 
 -- ---- the walk
 
@@ -41,9 +40,9 @@ module _ (p : Pass) (n : ℕ) (s : Shape (at (p .table)) n) where
   unfolding isPassable
   passed-up i b e =
       let fake : isFake (net i) ≡ true =
-      sym (fake-agrees (net i)) ∙ and-left (Checks.isFake (net i)) (not (p .done (net i .«idx_prev»))) (and-left (Checks.isFake (net i) && not (p .done (net i .«idx_prev»))) (not (eqb (net i .«idx_prev») 0)) e) in
+      and-left (isFake (net i)) (not (p .done (net i .«idx_prev»))) (and-left (isFake (net i) && not (p .done (net i .«idx_prev»))) (not (eqb (net i .«idx_prev») 0)) e) in
       let some : net i .«idx_prev» ≢ 0 =
-      eqb-false (net i .«idx_prev») 0 (not-true (eqb (net i .«idx_prev») 0) (and-right (Checks.isFake (net i) && not (p .done (net i .«idx_prev»))) (not (eqb (net i .«idx_prev») 0)) e)) in
+      eqb-false (net i .«idx_prev») 0 (not-true (eqb (net i .«idx_prev») 0) (and-right (isFake (net i) && not (p .done (net i .«idx_prev»))) (not (eqb (net i .«idx_prev») 0)) e)) in
       let alternative = fake-base net n s i b fake (λ (o : i ≡ 1). some (ap (λ (x : ℕ). net x .«idx_prev») o ∙ s .start-prev)) in
       let q = split-is net n s i alternative in
       record { base = q .base; inside = q .prev-inside; source = source-up net n s i alternative }

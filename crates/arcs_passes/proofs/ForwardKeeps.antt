@@ -8,22 +8,21 @@ use native.Mathlib.Omega.{arith}
 use borrow.Author.Tests.{not-true}
 use lib.Dec.{eqb}
 use lib.Ieee.{Float, binary64, ofBits, isNan}
-use Rattle.fields.proofs.Below.{none-right}
+use Rattle.net_node.specs.Table.{Table, at, isFake}
+use Rattle.laws.proofs.Below.{none-right}
 use Rattle.net_node.specs.declared.EstTime.{EstTime}
 use Rattle.pass_queue.specs.declared.Entry.{Entry}
 use Rattle.pass_queue.specs.Queue.{best, others}
-use Rattle.net_insertion.specs.Insertion.{Table, at}
 use Rattle.net_insertion.proofs.Puts.{RoomIn}
-use Rattle.pass_rules.specs.Checks
 use Rattle.pass_rules.specs.Net.{given, andThen, asserting, Pass, setTime}
 use Rattle.pass_rules.specs.Forward.{timeNext, queued, enqueue, timed, At, relinkWalk, relinked, alternatedBy, stepOn, step, stopsAt, stopIf, strand, addedIf, settledBy, settle, turn, turns, firstTwo, forward}
-use Rattle.arcs_growth.specs.Arcs.{isFake, isBase, arcsRead}
+use Rattle.arcs_growth.specs.Arcs.{isBase, arcsRead}
 use Rattle.arcs_growth.specs.Shape.{isReceiver, Shape}
 use Rattle.arcs_passes.proofs.Roles.{never, base-start, base-event, base-alternative, alternative-named, receiver-inside}
 use Rattle.arcs_passes.proofs.Frames.{fake-same, base-same, receiver-same}
 use Rattle.arcs_passes.proofs.Ways.{onward}
 use Rattle.arcs_passes.proofs.Arcs.{read-same}
-use Rattle.arcs_passes.proofs.Answers.{Holds, holds-then, holds-if, holds-given, Every, best-holds, others-hold, fake-agrees}
+use Rattle.arcs_passes.proofs.Answers.{Holds, holds-then, holds-if, holds-given, Every, best-holds, others-hold}
 use Rattle.arcs_passes.proofs.ForwardRelinks.{Alike, walk-holds, Forth, forth-itself, forth-timed, forth-joined}
 
 module _ (node : ℕ → EstTime) (n places : ℕ) (l : n ≤ places) where
@@ -48,8 +47,8 @@ module _ (node : ℕ → EstTime) (n places : ℕ) (l : n ≤ places) where
   onward-there : (t : Table) → Forth node n places t → (i : ℕ) → isReceiver node n i ≡ true → (isReceiver node n (at t i .«idx_next») ≡ true) ⊎ (at t i .«idx_next» ≡ n - 1)
   onward-there t f i e = ⊎-elim (λ (r : isReceiver (at t) n (at t i .«idx_next») ≡ true). inl (receives-there t f (at t i .«idx_next») r)) inr (onward (at t) n (f .shape) i (receives-here t f i e))
 
-  event-there : (t : Table) → Forth node n places t → (i : ℕ) → Checks.isFake (at t i) ≡ false → isBase node n i ≡ true
-  event-there t f i e = base-event node n i (sym (fake-same node (at t) (f .frames) i) ∙ sym (fake-agrees (at t i)) ∙ e)
+  event-there : (t : Table) → Forth node n places t → (i : ℕ) → isFake (at t i) ≡ false → isBase node n i ≡ true
+  event-there t f i e = base-event node n i (sym (fake-same node (at t) (f .frames) i) ∙ e)
 
   -- ---- entries and times
 
@@ -113,7 +112,7 @@ module _ (node : ℕ → EstTime) (n places : ℕ) (l : n ≤ places) where
   goes-on a s e = record { good = s .good; inside = receiver-inside node n (a .curr) (s .stands); receives = ⊎-elim (λ (r : isReceiver node n (a .next) ≡ true). r) last (s .ahead) }
     where
       event : isFake (at (a .pass .table) (a .next)) ≡ false
-      event = sym (fake-agrees (at (a .pass .table) (a .next))) ∙ none-right (not (eqb (at (a .pass .table) (a .next) .«idx_prev_alt») 0)) (Checks.isFake (at (a .pass .table) (a .next))) e
+      event = none-right (not (eqb (at (a .pass .table) (a .next) .«idx_prev_alt») 0)) (isFake (at (a .pass .table) (a .next))) e
 
       last : a .next ≡ n - 1 → isReceiver node n (a .next) ≡ true
       last o = never (s .good .forth .shape .end-fake) (subst (λ (x : ℕ). isFake (at (a .pass .table) x) ≡ false) o event)
@@ -129,15 +128,15 @@ module _ (node : ℕ → EstTime) (n places : ℕ) (l : n ≤ places) where
 
   -- ---- the end of a strand
 
-  added-holds : (a : At) → Stepped a → (c : Bool) → Holds Good (addedIf c (Checks.isFake (at (a .pass .table) (a .curr))) a)
+  added-holds : (a : At) → Stepped a → (c : Bool) → Holds Good (addedIf c (isFake (at (a .pass .table) (a .curr))) a)
   added-holds a s true =
       let some = s .good .forth .shape .some in
       let inside : a .next < n = ⊎-elim (receiver-inside node n (a .next)) (λ (e : a .next ≡ n - 1). omega arith) (s .ahead) in
       timed-holds (a .pass) (s .good) (a .next) (at (a .pass .table) (a .curr) .«time_sched») inside
   added-holds a s false =
-      holds-if Good (not (Checks.isFake (at (a .pass .table) (a .curr)))) (enqueue (a .pass) (a .curr))
+      holds-if Good (not (isFake (at (a .pass .table) (a .curr)))) (enqueue (a .pass) (a .curr))
       (λ o. enqueue-holds (a .pass) (s .good) (a .curr)
-      (event-there (a .pass .table) (s .good .forth) (a .curr) (not-true (Checks.isFake (at (a .pass .table) (a .curr))) o), receiver-inside node n (a .curr) (s .stands)))
+      (event-there (a .pass .table) (s .good .forth) (a .curr) (not-true (isFake (at (a .pass .table) (a .curr))) o), receiver-inside node n (a .curr) (s .stands)))
 
   settle-holds : (a : At) → Stepped a → Holds Good (settle a)
   unfolding settle
@@ -146,7 +145,7 @@ module _ (node : ℕ → EstTime) (n places : ℕ) (l : n ≤ places) where
       go : (c : Bool) → Holds Good (settledBy c a)
       go false = added-holds a s (eqb (at (a .pass .table) (a .next) .«idx_next») 0)
       go true =
-          holds-if Good (Checks.isFake (at (a .pass .table) (a .curr))) (asserting (eqb (a .curr) (at (a .pass .table) (a .next) .«idx_prev_alt»)) (given (a .pass)))
+          holds-if Good (isFake (at (a .pass .table) (a .curr))) (asserting (eqb (a .curr) (at (a .pass .table) (a .next) .«idx_prev_alt»)) (given (a .pass)))
           (λ o. holds-if Good (eqb (a .curr) (at (a .pass .table) (a .next) .«idx_prev_alt»)) (given (a .pass)) (λ q. s .good))
 
   -- ---- the pass

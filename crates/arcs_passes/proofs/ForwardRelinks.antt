@@ -7,13 +7,12 @@ use native.Mathlib.Omega.{arith}
 use borrow.Author.Tests.{eqb-false, not-true}
 use lib.Dec.{eqb}
 use lib.Ieee.{Float}
+use Rattle.net_node.specs.Table.{Table, at, isFake}
 use Rattle.net_node.specs.declared.EstTime.{EstTime}
-use Rattle.net_insertion.specs.Insertion.{Table, at}
 use Rattle.net_insertion.proofs.Puts.{RoomIn}
-use Rattle.pass_rules.specs.Checks
 use Rattle.pass_rules.specs.Net.{Answer, fails, given, Pass, setTime}
 use Rattle.pass_rules.specs.Forward.{isPassable, walkedOn, relinkWalk, swapJoin, swappedIf}
-use Rattle.arcs_growth.specs.Arcs.{isFake, isBase, goalOf}
+use Rattle.arcs_growth.specs.Arcs.{isBase, goalOf}
 use Rattle.arcs_growth.specs.Shape.{isReceiver, Shape}
 use Rattle.arcs_passes.proofs.Roles.{and-left, and-right, receiver-inside}
 use Rattle.arcs_passes.proofs.Frames.{SameFrames, base-same}
@@ -21,7 +20,7 @@ use Rattle.arcs_passes.proofs.Ways.{onward, goal-on}
 use Rattle.arcs_passes.proofs.Swapped.{Swapped, swapped-shape}
 use Rattle.arcs_passes.proofs.Arcs.{heldOf, EachArc, goal-swapped}
 use Rattle.arcs_passes.proofs.Stores.{view-itself, time-set, next-set, prev-set, times-swapped, both-swapped}
-use Rattle.arcs_passes.proofs.Answers.{Holds, fake-agrees}
+use Rattle.arcs_passes.proofs.Answers.{Holds}
 
 -- ---- the walk
 
@@ -38,10 +37,10 @@ module _ (p : Pass) (n : ℕ) (s : Shape (at (p .table)) n) where
   unfolding isPassable
   passed-on i r e =
       let fake : isFake (net i) ≡ true =
-      sym (fake-agrees (net i)) ∙ and-left (Checks.isFake (net i)) (not (p .done (net i .«idx_next»)))
-      (and-left (Checks.isFake (net i) && not (p .done (net i .«idx_next»))) (not (eqb (net i .«idx_next») (n - 1))) e) in
+      and-left (isFake (net i)) (not (p .done (net i .«idx_next»)))
+      (and-left (isFake (net i) && not (p .done (net i .«idx_next»))) (not (eqb (net i .«idx_next») (n - 1))) e) in
       let last : net i .«idx_next» ≢ n - 1 =
-      eqb-false (net i .«idx_next») (n - 1) (not-true (eqb (net i .«idx_next») (n - 1)) (and-right (Checks.isFake (net i) && not (p .done (net i .«idx_next»))) (not (eqb (net i .«idx_next») (n - 1))) e)) in
+      eqb-false (net i .«idx_next») (n - 1) (not-true (eqb (net i .«idx_next») (n - 1)) (and-right (isFake (net i) && not (p .done (net i .«idx_next»))) (not (eqb (net i .«idx_next») (n - 1))) e)) in
       record {
         receives = ⊎-elim (λ (q : isReceiver net n (net i .«idx_next») ≡ true). q) (λ (q : net i .«idx_next» ≡ n - 1). absurd (last q)) (onward net n s i r);
         goal = goal-on net n s i r fake;

@@ -4,10 +4,11 @@ use mathlib.Core.Logic.{_⊎_, inl, inr}
 use mathlib.Core.Bool.{Bool, true, false, not, _&&_, _||_, cond}
 use Prim.Native.Nat.{ℕ, zero, suc, _-_}
 use lib.Dec.{eqb, ltb}
-use Rattle.fields.specs.Below.{someBelow}
+use Rattle.net_node.specs.Table.{fakeKind, isFake}
+use Rattle.laws.specs.Below.{someBelow}
 use Rattle.net_node.specs.declared.LinkEvent.{LinkEvent}
 use Rattle.net_node.specs.declared.EstTime.{EstTime}
-use Rattle.arcs_growth.specs.Arcs.{fakeKind, isFake, isAlternative, isBase, alternativeOf, sourceOf}
+use Rattle.arcs_growth.specs.Arcs.{isAlternative, isBase, alternativeOf, sourceOf}
 use Rattle.arcs_growth.specs.Shape.{isReceiver}
 use Rattle.arcs_passes.proofs.Roles.{either, source-itself, source-step}
 

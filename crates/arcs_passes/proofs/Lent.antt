@@ -6,11 +6,12 @@ use mathlib.Core.List.{List, [], _∷_}
 use Prim.Native.Nat.{ℕ, zero, suc, _-_, _≤_, _<_}
 use native.Mathlib.Omega.{arith}
 use lib.Dec.{eqb}
-use Rattle.fields.specs.Below.{someBelow}
-use Rattle.fields.proofs.Below.{some-same}
+use Rattle.net_node.specs.Table.{isFake}
+use Rattle.laws.specs.Below.{someBelow}
+use Rattle.laws.proofs.Below.{some-same}
 use Rattle.net_node.specs.declared.EstTime.{EstTime}
 use Rattle.grow_rules.specs.Run.{Arc}
-use Rattle.arcs_growth.specs.Arcs.{isFake, isAlternative, isBase, alternativeOf, sourceOf, goalOf, arcOf, arcsBelow, arcsRead}
+use Rattle.arcs_growth.specs.Arcs.{isAlternative, isBase, alternativeOf, sourceOf, goalOf, arcOf, arcsBelow, arcsRead}
 use Rattle.arcs_growth.specs.Shape.{Shape, isReceiver}
 use Rattle.arcs_passes.proofs.Roles.{either, source-itself, source-step, goal-end, goal-event, goal-fake, receiver-is, receiver-inside}
 

@@ -7,10 +7,11 @@ use Prim.Native.Nat.{ℕ, zero, suc, _-_, _<_}
 use native.Mathlib.Omega.{arith}
 use borrow.Author.Tests.{eqb-true, eqb-false, ltb-true, lt-ltb, eq-eqb, ne-eqb, not-true}
 use lib.Dec.{eqb, ltb}
-use Rattle.fields.specs.Below.{someBelow}
-use Rattle.fields.proofs.Below.{some-at, or-left, or-right}
+use Rattle.net_node.specs.Table.{isFake}
+use Rattle.laws.specs.Below.{someBelow}
+use Rattle.laws.proofs.Below.{some-at, or-left, or-right}
 use Rattle.net_node.specs.declared.EstTime.{EstTime}
-use Rattle.arcs_growth.specs.Arcs.{isFake, isAlternative, isBase, alternativeOf, sourceOf, goalOf}
+use Rattle.arcs_growth.specs.Arcs.{isAlternative, isBase, alternativeOf, sourceOf, goalOf}
 use Rattle.arcs_growth.specs.Shape.{isReceiver}
 
 -- ---- Bools

@@ -6,8 +6,8 @@ use Prim.Native.Nat.{ℕ, _<_}
 use native.Mathlib.Omega.{arith}
 use lib.Dec.{eqb}
 use lib.Ieee.{Float}
+use Rattle.net_node.specs.Table.{Table, at}
 use Rattle.net_node.specs.declared.EstTime.{EstTime}
-use Rattle.net_insertion.specs.Insertion.{Table, at}
 use Rattle.net_insertion.proofs.Puts.{RoomIn}
 use Rattle.pass_rules.specs.Net.{setTime, setNext, setPrev, setArc}
 use Rattle.pass_rules.proofs.Fields.{Changed, withTime, withNext, withPrev, withArc, time-set as set-time, next-set as set-next, prev-set as set-prev, arc-set as set-arc}

@@ -4,7 +4,7 @@ use mathlib.Core.Logic.{_⊎_, inl, inr, _≢_}
 use Prim.Native.Nat.{ℕ, zero, suc, _+_, _<_}
 use native.Mathlib.Nat.{not-suc-le-zero}
 use native.Mathlib.Omega.{arith}
-use Rattle.fields.specs.Below.{sumBelow}
+use Rattle.laws.specs.Below.{sumBelow}
 use Rattle.arcs_passes.proofs.Sets.{sets, sets-at, sets-other}
 use Rattle.arcs_passes.proofs.Roles.{same-or-not}
 

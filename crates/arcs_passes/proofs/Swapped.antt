@@ -4,8 +4,9 @@ use mathlib.Core.Logic.{_⊎_, inl, inr, _≢_, ⊎-elim}
 use mathlib.Core.Bool.{true, false}
 use Prim.Native.Nat.{ℕ, zero, suc, _-_, _<_}
 use native.Mathlib.Omega.{arith}
+use Rattle.net_node.specs.Table.{isFake}
 use Rattle.net_node.specs.declared.EstTime.{EstTime}
-use Rattle.arcs_growth.specs.Arcs.{isFake, isAlternative, isBase, goalOf}
+use Rattle.arcs_growth.specs.Arcs.{isAlternative, isBase, goalOf}
 use Rattle.arcs_growth.specs.Shape.{isReceiver, Shape}
 use Rattle.arcs_passes.proofs.Roles.{either, same-or-not, never, alternative-named, receiver-is, end-receives-not, fake-receiver, goal-end, goal-event, goal-fake}
 use Rattle.arcs_passes.proofs.Frames.{SameFrames, fake-same, next-alt-same, prev-alt-same, base-same, receiver-same}

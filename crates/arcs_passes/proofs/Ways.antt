@@ -6,9 +6,10 @@ use Prim.Native.Nat.{ℕ, zero, suc, _-_, _≤_, _<_}
 use native.Mathlib.Omega.{arith}
 use borrow.Author.Tests.{eqb-false, ne-eqb, not-false}
 use lib.Dec.{eqb}
-use Rattle.fields.proofs.Below.{none-left, none-right}
+use Rattle.net_node.specs.Table.{isFake}
+use Rattle.laws.proofs.Below.{none-left, none-right}
 use Rattle.net_node.specs.declared.EstTime.{EstTime}
-use Rattle.arcs_growth.specs.Arcs.{isFake, isAlternative, isBase, alternativeOf, sourceOf, goalOf}
+use Rattle.arcs_growth.specs.Arcs.{isAlternative, isBase, alternativeOf, sourceOf, goalOf}
 use Rattle.arcs_growth.specs.Shape.{isReceiver, Shape}
 use Rattle.arcs_passes.proofs.Roles.{either, same-or-not, never, alternative-above, alternative-some, base-event, base-alternative, base-is, is-receiver, receiver-inside, end-receives-not, source-itself, source-step, goal-fake}
 

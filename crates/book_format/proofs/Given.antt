@@ -6,8 +6,8 @@ use mathlib.Core.List.{List}
 use Prim.Native.Nat.{ℕ, _≤_, _<_}
 use borrow.Author.Tests.{ltb-false, leb-false, not-false}
 use lib.Dec.{ltb, eqb}
-use Rattle.fields.specs.Below.{someBelow}
-use Rattle.fields.proofs.Below.{none-at, none-left, none-right}
+use Rattle.laws.specs.Below.{someBelow}
+use Rattle.laws.proofs.Below.{none-at, none-left, none-right}
 use Rattle.floats.specs.Floats.{bookFloat}
 use Rattle.book_format.specs.declared.Link.{Link}
 use Rattle.book_format.specs.declared.Origin.{Origin}

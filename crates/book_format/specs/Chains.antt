@@ -6,7 +6,7 @@ use mathlib.Core.List.{List}
 use Prim.Native.Nat.{ℕ, zero, suc, _+_, _*_, _≤_, _<_}
 use lib.Dec.{eqb}
 use lib.ListN.{length, getD, set}
-use Rattle.fields.specs.Below.{someBelow, sumBelow}
+use Rattle.laws.specs.Below.{someBelow, sumBelow}
 use Rattle.book_format.specs.declared.Sections.{Sections}
 use Rattle.book_format.specs.Format.{Sized, legs, samples, legLink, legParent, legSamples, firstSample}
 use Rattle.book_format.specs.Rows.{badCount, row4, row5, badLeg}

@@ -8,7 +8,7 @@ use Prim.Native.Nat.{ℕ, _+_, _-_, _*_}
 use lib.ListN.{length}
 use lib.Ieee.{Float, binary64, ofBits}
 use Rattle.fields.specs.Fields.{u32At, u64At}
-use Rattle.fields.specs.Below.{sumBelow}
+use Rattle.laws.specs.Below.{sumBelow}
 use Rattle.book_format.specs.declared.Sections.{Sections}
 use Rattle.book_format.specs.declared.Link.{Link}
 use Rattle.book_format.specs.declared.Origin.{Origin}

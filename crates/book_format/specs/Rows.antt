@@ -7,7 +7,7 @@ use lib.Dec.{leb, ltb, eqb}
 use lib.ListN.{length}
 use lib.Ieee.{lt}
 use Rattle.fields.specs.Fields.{u64At}
-use Rattle.fields.specs.Below.{someBelow, sumBelow}
+use Rattle.laws.specs.Below.{someBelow, sumBelow}
 use Rattle.floats.specs.Floats.{bookFloat}
 use Rattle.book_format.specs.declared.Measured.{Measured}
 use Rattle.book_format.specs.declared.Measured.the-variants.{Whole, Short, Long}

@@ -11,8 +11,8 @@ use lib.Dec.{eqb, T}
 use lib.ListN.{length, getD, set, length-set}
 use lib.Seq.{getD-set-same, getD-set-other}
 use borrow.Author.Tests.{eq-eqb, ne-eqb, eqb-true, eqb-false}
-use Rattle.fields.specs.Below.{someBelow, sumBelow}
-use Rattle.fields.proofs.Below.{none-at, sum-more, sum-part}
+use Rattle.laws.specs.Below.{someBelow, sumBelow}
+use Rattle.laws.proofs.Below.{none-at, sum-more, sum-part}
 use Rattle.space.specs.Space.{zeros}
 use Rattle.space.proofs.Zeros.{zeros-length, zero-at}
 use Rattle.book_format.specs.declared.Sections.{Sections}

@@ -7,8 +7,8 @@ use native.Mathlib.Nat.{le-refl}
 use native.Mathlib.Omega.{arith}
 use lib.Dec.{eqb, ltb}
 use borrow.Author.Tests.{ltb-false, eqb-false}
-use Rattle.fields.specs.Below.{someBelow, sumBelow}
-use Rattle.fields.proofs.Below.{none-left, none-right, none-at, sum-more, sum-part}
+use Rattle.laws.specs.Below.{someBelow, sumBelow}
+use Rattle.laws.proofs.Below.{none-left, none-right, none-at, sum-more, sum-part}
 use Rattle.book_format.specs.declared.Sections.{Sections}
 use Rattle.book_format.specs.declared.Leg.{Leg}
 use Rattle.book_format.specs.Format.{Sized, links, origins, legs, destinations, samples, legLink, legParent, legSamples, firstSample, legAt}

@@ -7,8 +7,8 @@ use native.Mathlib.Numerals.{add-one}
 use native.Mathlib.Omega.{arith}
 use lib.Dec.{T}
 use lib.ListN.{length, getD, set}
-use Rattle.fields.specs.Below.{someBelow, sumBelow}
-use Rattle.fields.proofs.Below.{none-more, some-at, none-left, none-right}
+use Rattle.laws.specs.Below.{someBelow, sumBelow}
+use Rattle.laws.proofs.Below.{none-more, some-at, none-left, none-right}
 use Rattle.space.specs.Space.{zeros}
 use Rattle.space.proofs.Zeros.{zeros-length}
 use Rattle.book_format.specs.declared.Sections.{Sections}

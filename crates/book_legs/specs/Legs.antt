@@ -5,7 +5,7 @@ use mathlib.Core.List.{List}
 use Prim.Native.Nat.{ℕ, zero, suc, _+_, _-_, _*_, _≤_, _<_}
 use lib.Dec.{eqb}
 use lib.ListN.{getD}
-use Rattle.fields.specs.Below.{someBelow}
+use Rattle.laws.specs.Below.{someBelow}
 use Rattle.book_format.specs.Format.{links, legs, departureBits, sampleTime, firstSample}
 use Rattle.book_format.specs.Rows.{falls, sameSample}
 use Rattle.book_format.specs.Chains.{legBelow}

@@ -7,7 +7,7 @@ ghost use mathlib.Core.List.{List};
 ghost use Prim.Native.Nat.{ℕ, _+_, _*_, _-_, _≤_, _<_};
 ghost use lib.Dec.{eqb};
 ghost use lib.ListN.{length, getD, set};
-ghost use Rattle.fields.specs.Below.{someBelow};
+ghost use Rattle.laws.specs.Below.{someBelow};
 ghost use Rattle.space.specs.Space.{zeros};
 ghost use Rattle.book_format.specs.Format.{Sized, links, legs, samples, legParent, firstSample};
 ghost use Rattle.book_format.specs.Rows.{falls, sameSample, legFalls, legBegins};

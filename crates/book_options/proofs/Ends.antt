@@ -7,7 +7,7 @@ use native.Mathlib.Omega.{arith}
 use borrow.Author.Tests.{eq-eqb, ne-eqb}
 use lib.Dec.{eqb}
 use lib.ListN.{length, getD}
-use Rattle.fields.specs.Below.{someBelow}
+use Rattle.laws.specs.Below.{someBelow}
 use Rattle.book_format.specs.Format.{links, destinations, destinationLink}
 use Rattle.book_options.specs.Options.{Search, member, search, optionsOf, inSet, keptOrigins, none, row8, linkOptions, OptionsIn}
 use Rattle.book_options.specs.Turns.{stackAt, outsideSet, Walking}

@@ -4,7 +4,7 @@ use mathlib.Core.List.{List, [], _∷_, _++_}
 use Prim.Native.Nat.{ℕ}
 use lib.ListN.{replicate}
 use Rattle.fields.specs.Fields.{u32At}
-use Rattle.fields.specs.Below.{someBelow}
+use Rattle.laws.specs.Below.{someBelow}
 use Rattle.book_format.specs.Format.{links, origins, destinations, originsAt, destinationsAt, linkPrev, linkPrevAlt, originLink, destinationLink}
 use Rattle.book_options.specs.Options.{member, originBelow, stacked, pushed, optionsOf, keptOrigins, linkOptions}
 use Rattle.book_options.specs.declared.LinkOptions.the-variants.{Kept, NoPath}

@@ -11,7 +11,7 @@ use borrow.Author.Tests.{eqb-true, eqb-false, eq-eqb, ne-eqb}
 use lib.Dec.{eqb}
 use lib.ListN.{length, getD, set, length-append, List·getD-append}
 use lib.Seq.{getD-set-same, getD-set-other, getD-at}
-use Rattle.fields.specs.Below.{sumBelow}
+use Rattle.laws.specs.Below.{sumBelow}
 use Rattle.book_format.specs.Format.{links, origins, destinations}
 use Rattle.book_options.specs.Options.{member, originBelow}
 use Rattle.book_options.specs.Turns.{stackAt, outsideSet, even, SearchIn}

@@ -10,8 +10,8 @@ use native.Mathlib.Omega.{arith}
 use borrow.Author.Tests.{eq-eqb, ne-eqb}
 use lib.Dec.{eqb}
 use lib.ListN.{length, getD, set, getD-replicate}
-use Rattle.fields.specs.Below.{someBelow, sumBelow}
-use Rattle.fields.proofs.Below.{none-more, some-at}
+use Rattle.laws.specs.Below.{someBelow, sumBelow}
+use Rattle.laws.proofs.Below.{none-more, some-at}
 use Rattle.space.specs.Space.{zeros}
 use Rattle.book_format.specs.Format.{links, origins, destinations, originLink, destinationLink}
 use Rattle.book_format.specs.Rows.{row5}

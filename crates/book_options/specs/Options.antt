@@ -7,7 +7,7 @@ use mathlib.Core.List.{List, [], _∷_, _++_}
 use Prim.Native.Nat.{ℕ, zero, suc, _+_, _*_, _%_, _<_}
 use lib.Dec.{eqb}
 use lib.ListN.{length, getD}
-use Rattle.fields.specs.Below.{someBelow}
+use Rattle.laws.specs.Below.{someBelow}
 use Rattle.book_format.specs.Format.{links, origins, destinations, linkPrev, linkPrevAlt, originLink, destinationLink}
 use Rattle.book_options.specs.declared.LinkOptions.{LinkOptions}
 use Rattle.book_options.specs.declared.LinkOptions.the-variants.{Kept, NoPath}

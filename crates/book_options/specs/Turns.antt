@@ -5,7 +5,7 @@ use mathlib.Core.List.{List, [], _∷_}
 use Prim.Native.Nat.{ℕ, zero, suc, _+_, _-_, _*_, _%_, _≤_, _<_}
 use lib.Dec.{eqb}
 use lib.ListN.{length, getD}
-use Rattle.fields.specs.Below.{someBelow, sumBelow}
+use Rattle.laws.specs.Below.{someBelow, sumBelow}
 use Rattle.book_format.specs.Format.{links, origins, destinations, originLink, destinationLink}
 use Rattle.book_options.specs.Options.{member, originBelow, search, optionsOf}
 use Rattle.book_options.specs.declared.Walk.{Walk}

@@ -5,7 +5,7 @@ ghost use mathlib.Core.Bool.{true, false};
 ghost use Prim.Native.Nat.{ℕ, _+_, _*_, _≤_, _<_};
 ghost use lib.Dec.{eqb};
 ghost use lib.ListN.{length, getD};
-ghost use Rattle.fields.specs.Below.{someBelow};
+ghost use Rattle.laws.specs.Below.{someBelow};
 ghost use Rattle.space.specs.Space.{zeros};
 ghost use Rattle.book_format.specs.Format.{Sized, links, origins, destinations, destinationLink};
 ghost use Rattle.book_format.specs.Rows.{badCount, row4, row5, row6};

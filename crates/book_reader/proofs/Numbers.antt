@@ -8,8 +8,8 @@ use native.Mathlib.Omega.{arith}
 use lib.Dec.{T, ltb, eqb}
 use lib.ListN.{length}
 use borrow.Author.Tests.{le-ltb}
-use Rattle.fields.specs.Below.{someBelow}
-use Rattle.fields.proofs.Below.{or-left, none-left, none-right}
+use Rattle.laws.specs.Below.{someBelow}
+use Rattle.laws.proofs.Below.{or-left, none-left, none-right}
 use Rattle.book_format.specs.declared.Sections.{Sections}
 use Rattle.book_format.specs.Format.{Sized, endOf, links, origins, destinations, legs}
 use Rattle.book_format.specs.Rows.{row1, row2, row3, row4, row5, row6, row7, badOriginPlace, originRepeats, badLeg, legRepeats, legFalls, legBegins, lowest}

@@ -6,8 +6,8 @@ use Prim.Native.Nat.{ℕ, zero, suc, _+_, _*_, _/_, _≤_, _<_, min}
 use native.Mathlib.Omega.{arith}
 use lib.Dec.{eqb, ltb}
 use borrow.Author.Tests.{ltb-false, ltb-true, lt-ltb, le-ltb, eqb-true, eqb-false}
-use Rattle.fields.specs.Below.{someBelow, sumBelow}
-use Rattle.fields.proofs.Below.{none-left, none-right}
+use Rattle.laws.specs.Below.{someBelow, sumBelow}
+use Rattle.laws.proofs.Below.{none-left, none-right}
 use Rattle.space.specs.Space.{unitsOf, bytesOf}
 use Rattle.book_format.specs.declared.Sections.{Sections}
 use Rattle.book_format.specs.Format.{Sized, links, origins, destinations, legs, samples, legSamples}

@@ -7,7 +7,7 @@ ghost use mathlib.Core.Bool.{false};
 ghost use mathlib.Core.List.{[], _∷_};
 ghost use Prim.Native.Nat.{_+_, _*_, _≤_, min};
 ghost use lib.ListN.{length};
-ghost use Rattle.fields.specs.Below.{someBelow};
+ghost use Rattle.laws.specs.Below.{someBelow};
 ghost use Rattle.space.specs.Space.{bytesOf, zeros, zeroFloats};
 ghost use Rattle.book_format.specs.Format.{Sized, links, origins, destinations, legs};
 ghost use Rattle.book_format.specs.Rows.{row6, row7, badLeg, lowest};

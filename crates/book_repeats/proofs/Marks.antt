@@ -10,7 +10,7 @@ use lib.Dec.{eqb}
 use lib.ListN.{length, getD, set}
 use lib.Seq.{getD-set-same, getD-set-other}
 use borrow.Author.Tests.{eqb-true, eqb-false}
-use Rattle.fields.specs.Below.{someBelow}
+use Rattle.laws.specs.Below.{someBelow}
 use Rattle.space.specs.Space.{zeros}
 use Rattle.space.proofs.Zeros.{zero-at}
 use Rattle.book_repeats.specs.Repeats.{Under}

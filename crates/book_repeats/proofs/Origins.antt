@@ -8,8 +8,8 @@ use native.Mathlib.Omega.{arith}
 use lib.Dec.{eqb}
 use lib.ListN.{length, getD, set, length-set}
 use borrow.Author.Tests.{eq-eqb, eqb-true, leb-false, not-false}
-use Rattle.fields.specs.Below.{someBelow}
-use Rattle.fields.proofs.Below.{some-more, none-more, none-at, some-at}
+use Rattle.laws.specs.Below.{someBelow}
+use Rattle.laws.proofs.Below.{some-more, none-more, none-at, some-at}
 use Rattle.floats.specs.Floats.{bookFloat}
 use Rattle.space.specs.Space.{zeros}
 use Rattle.book_format.specs.declared.Sections.{Sections}

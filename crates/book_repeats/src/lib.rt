@@ -4,7 +4,7 @@ ghost use mathlib.Core.Path.{_≡_};
 ghost use mathlib.Core.Bool.{false};
 ghost use Prim.Native.Nat.{_+_, _≤_, _<_};
 ghost use lib.ListN.{length};
-ghost use Rattle.fields.specs.Below.{someBelow};
+ghost use Rattle.laws.specs.Below.{someBelow};
 ghost use Rattle.space.specs.Space.{zeros};
 ghost use Rattle.book_format.specs.Format.{Sized, links, origins, legs};
 ghost use Rattle.book_format.specs.Rows.{row4, row5, originRepeats, legRepeats};

@@ -8,7 +8,7 @@ use native.Mathlib.Nat.{zero-add, suc-add, min-comm, min-eq-left}
 use native.Mathlib.Numerals.{add-one}
 use native.Mathlib.Omega.{arith}
 use borrow.Author.Tests.{lt-ltb, le-ltb}
-use Rattle.fields.specs.Below.{someBelow}
+use Rattle.laws.specs.Below.{someBelow}
 use Rattle.book_format.specs.Rows.{lowest}
 use Rattle.book_rows.specs.Elements.{lower, lowestBelow, numberOf, splice}
 

@@ -5,7 +5,7 @@ ghost use mathlib.Core.Bool.{true};
 ghost use mathlib.Core.List.{List, [], _∷_};
 ghost use Prim.Native.Nat.{ℕ, _+_, _≤_, _<_, min};
 ghost use lib.Dec.{leb, eqb};
-ghost use Rattle.fields.specs.Below.{someBelow, sumBelow};
+ghost use Rattle.laws.specs.Below.{someBelow, sumBelow};
 ghost use Rattle.floats.specs.Floats.{bookFloat};
 ghost use Rattle.book_format.specs.Format.{Sized, origins, legs, linkLength, legSamples};
 ghost use Rattle.book_format.specs.Rows.{row3, row4, row5, outsideLimits, badCount, workBytes, linkZero, badLink, badOriginPlace, badLeg, lowest};

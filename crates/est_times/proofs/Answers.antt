@@ -6,9 +6,9 @@ use native.Mathlib.Nat.{sub-zero}
 use native.Mathlib.Omega.{arith}
 use lib.ListN.{length, take}
 use lib.Ieee.{Float}
+use Rattle.net_node.specs.Table.{Table}
+use Rattle.laws.specs.Answer.{Answer, refused, given}
 use Rattle.space.specs.Space.{bytesOf, zeros, zeroFloats}
-use Rattle.net_insertion.specs.Insertion.{Table}
-use Rattle.grow_rules.specs.Run.{Answer, refused, given}
 use Rattle.grow_rules.specs.Growth.{Grown, departure}
 use Rattle.pass_rules.specs.Passes.{Timed, timedAs, passes}
 use Rattle.pass_rules.specs.Passes.{refused as untimed}

@@ -8,8 +8,7 @@ use lib.Seq.{length-take-le, getD-take}
 use lib.Ieee.{Float, nan}
 use Rattle.space.specs.Space.{placesOf, bytesOf, zeros, zeroFloats}
 use Rattle.net_node.specs.declared.EstTime.{EstTime}
-use Rattle.net_node.specs.Table.{kindOf, nodeAt}
-use Rattle.net_insertion.specs.Insertion.{Table, at}
+use Rattle.net_node.specs.Table.{kindOf, nodeAt, Table, at}
 use Rattle.grow_rules.specs.Growth.{Grown, departure}
 use Rattle.arcs_growth.proofs.OneGrowth.{one-growth}
 use Rattle.arcs_passes.proofs.Sheet.{SheetWell, sheet-well, lent-arcs, lent-of-runs}

@@ -8,22 +8,21 @@ use lib.Dec.{T}
 use lib.ListN.{length, take}
 use lib.Seq.{length-take-le}
 use lib.Ieee.{Float, binary64, nanBits, ofBits}
+use Rattle.laws.specs.Answer.{Answer, refused, given}
 use Rattle.fields.specs.Fields.{u64At}
 use Rattle.floats.specs.Floats.{bookFloat}
 use Rattle.space.specs.Space.{placesOf, bytesOf}
 use Rattle.book_format.specs.Format.{departureBits}
 use Rattle.book_format.proofs.Floats.{book-no-nan}
 use Rattle.net_node.specs.declared.EstTime.{EstTime}
-use Rattle.net_node.specs.Table.{nodeAt, Room}
-use Rattle.net_insertion.specs.Insertion.{Table, at}
-use Rattle.grow_rules.specs.Run.{Answer, refused, given}
+use Rattle.net_node.specs.Table.{nodeAt, Room, Table, at}
 use Rattle.grow_rules.specs.GrownBook.{Grown, departure}
 use Rattle.pass_rules.specs.Walks.{Inside}
 use Rattle.pass_rules.specs.Passes.{Timed, timedAs, passes}
 use Rattle.pass_rules.specs.Passes.{refused as untimed}
 use Rattle.pass_all.specs.Answers.{timedNumber, TimedInto}
 use Rattle.pass_all.proofs.Proper.{Proper, passes-proper}
-use Rattle.grow_book.specs.declared.Report.{Report}
+use Rattle.report.specs.declared.Report.{Report}
 use Rattle.grow_book.specs.declared.GrownBook.{GrownBook}
 use Rattle.grow_book.specs.declared.GrownBook.the-variants.{Whole, Stopped}
 use Rattle.grow_book.specs.Answers.{WholeAs, GrownAs}

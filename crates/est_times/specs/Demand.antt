@@ -4,11 +4,11 @@ use mathlib.Core.List.{List}
 use Prim.Native.Nat.{ℕ, _+_}
 use lib.ListN.{length}
 use lib.Ieee.{Float}
-use Rattle.net_node.specs.Table.{nodeAt, Room}
-use Rattle.net_insertion.specs.Insertion.{Table}
-use Rattle.grow_rules.specs.Run.{Answer, given, Arc}
+use Rattle.laws.specs.Answer.{Answer, given}
+use Rattle.net_node.specs.Table.{nodeAt, Room, Table}
+use Rattle.grow_rules.specs.Run.{Arc}
 use Rattle.grow_rules.specs.Growth.{Grown, grow}
-use Rattle.grow_book.specs.declared.Report.{Report}
+use Rattle.report.specs.declared.Report.{Report}
 use Rattle.arcs_growth.specs.Arcs.{arcsRead, SameArcs}
 use Rattle.arcs_growth.specs.Noted.{AllOfRuns}
 use Rattle.est_times.specs.declared.Sheet.{Sheet}

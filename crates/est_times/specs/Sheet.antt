@@ -4,13 +4,13 @@ use mathlib.Core.List.{List, _++_}
 use Prim.Native.Nat.{ℕ, zero, suc, _-_, _*_}
 use lib.ListN.{take}
 use lib.Ieee.{Float}
+use Rattle.net_node.specs.Table.{Table}
+use Rattle.laws.specs.Answer.{Answer, refused, given}
 use Rattle.space.specs.Space.{zeros, zeroFloats}
-use Rattle.net_insertion.specs.Insertion.{Table}
-use Rattle.grow_rules.specs.Run.{Answer, refused, given}
 use Rattle.grow_rules.specs.Growth.{Grown, departure}
 use Rattle.pass_rules.specs.Passes.{Timed, timedAs, passes}
 use Rattle.pass_rules.specs.Passes.{refused as untimed}
-use Rattle.grow_book.specs.declared.Report.{Report}
+use Rattle.report.specs.declared.Report.{Report}
 use Rattle.grow_for_tests.specs.Network.{network}
 use Rattle.est_times.specs.declared.Sheet.{Sheet}
 use Rattle.est_times.specs.declared.Sheet.the-variants.{Made, Refused}

@@ -1,6 +1,6 @@
 // Estimated times: a book to its sheet. Contracts: specs/Sheet.antt, specs/Demand.antt.
 use grow_book::GrownBook;
-use grow_book::Report;
+use report::Report;
 ghost use mathlib.Core.Path.{_≡_};
 ghost use mathlib.Core.Bool.{true};
 ghost use Prim.Native.Nat.{_≤_};

@@ -8,7 +8,7 @@ use lib.ListN.{length}
 use lib.Ieee.{Float, nan, fin, binary64, add, sub, mul, div, lt, le, isNan, ofBits, toBits, ofInt}
 use Rattle.floats.specs.Floats.{tableFloat, bookFloat, bookValue, smaller}
 use Rattle.fields.specs.Fields.{u64At, u32At}
-use Rattle.fields.specs.Below.{someBelow}
+use Rattle.laws.specs.Below.{someBelow}
 use Rattle.space.specs.Space.{zeros, zeroFloats}
 use Rattle.root.specs.Root.{sqrt}
 use Rattle.book_format.specs.Format.{sampleFrom}

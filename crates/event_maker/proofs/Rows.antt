@@ -10,8 +10,8 @@ use lib.ListN.{length, getD}
 use lib.Ieee.{Float, nan, inf, fin, binary64, lt, le, fits, ofBits, toBits, top}
 use lib.Ieee.Bits.{ofBits-toBits}
 use lib.Ieee.Scale.{finite}
-use Rattle.fields.specs.Below.{someBelow}
-use Rattle.fields.proofs.Below.{none-left, none-right, none-at, none-all, some-at, some-same}
+use Rattle.laws.specs.Below.{someBelow}
+use Rattle.laws.proofs.Below.{none-left, none-right, none-at, none-all, some-at, some-same}
 use Rattle.floats.specs.Floats.{tableFloat, bookFloat, bookValue, Size}
 use Rattle.floats.proofs.Order.{not-lt, not-le, le-trans, size-of-bits, size-of-value}
 use Rattle.book_format.specs.declared.Sample.{Sample}

@@ -7,8 +7,8 @@ use native.Mathlib.Numerals.{add-one}
 use native.Mathlib.Omega.{arith}
 use lib.ListN.{getD}
 use lib.Ieee.{Float, nan, lt}
-use Rattle.fields.specs.Below.{someBelow}
-use Rattle.fields.proofs.Below.{some-more, none-more, some-at, none-at}
+use Rattle.laws.specs.Below.{someBelow}
+use Rattle.laws.proofs.Below.{some-more, none-more, some-at, none-at}
 use Rattle.floats.specs.Floats.{bookFloat}
 use Rattle.fields.specs.Fields.{u64At}
 use Rattle.book_format.specs.declared.Sample.{Sample}

@@ -8,7 +8,7 @@ use borrow.Author.Tests.{lt-ltb, le-ltb, ltb-false}
 use lib.Dec.{ltb}
 use lib.ListN.{length, getD, length-append}
 use lib.Ieee.{Float}
-use Rattle.fields.proofs.Below.{or-left, or-right, none-left, none-right}
+use Rattle.laws.proofs.Below.{or-left, or-right, none-left, none-right}
 use Rattle.space.specs.Space.{zeros, zeroFloats}
 use Rattle.event_walk.specs.declared.Heads.{Heads}
 use Rattle.event_walk.specs.declared.PassedPoint.{PassedPoint}

@@ -6,7 +6,7 @@ use Prim.Native.Nat.{ℕ, suc, _+_, _-_, _*_}
 use lib.Dec.{ltb}
 use lib.ListN.{length, set, getD}
 use lib.Ieee.{Float, nan, lt}
-use Rattle.fields.specs.Below.{someBelow}
+use Rattle.laws.specs.Below.{someBelow}
 use Rattle.floats.specs.Floats.{bookValue}
 use Rattle.space.specs.Space.{zeros, zeroFloats}
 use Rattle.book_format.specs.Format.{sampleFrom}

@@ -7,8 +7,8 @@ use native.Mathlib.Omega.{arith}
 use borrow.Author.Tests.{ltb-true, ltb-false}
 use lib.Dec.{ltb, eqb}
 use lib.Ieee.{Float, binary64, sub, le}
-use Rattle.fields.specs.Below.{someBelow}
-use Rattle.fields.proofs.Below.{some-same}
+use Rattle.laws.specs.Below.{someBelow}
+use Rattle.laws.proofs.Below.{some-same}
 use Rattle.event_formula.specs.Event.{eventOffset, clears, passingAt}
 use Rattle.book_format.specs.declared.Sample.{Sample}
 use Rattle.event_walk.specs.declared.Heads.{Heads}

@@ -7,7 +7,7 @@ use lib.IntN.{pos}
 use lib.ListN.{length, getD}
 use lib.Ieee.{Float, nan, binary64, add, sub, mul, div, lt, le, isNan, ofBits, ofInt}
 use Rattle.floats.specs.Floats.{tableFloat, smaller}
-use Rattle.fields.specs.Below.{someBelow}
+use Rattle.laws.specs.Below.{someBelow}
 use Rattle.root.specs.Root.{sqrt}
 use Rattle.net_node.specs.declared.EstType.{EstType}
 use Rattle.net_node.specs.declared.EstType.the-variants.{Arrive, Clear}

@@ -12,8 +12,8 @@ use lib.ListN.{length, getD}
 use lib.Ieee.{Float, nan, binary64, le, ofBits, nanBits}
 use Rattle.floats.specs.Floats.{bookFloat}
 use Rattle.fields.specs.Fields.{u64At}
-use Rattle.fields.specs.Below.{someBelow}
-use Rattle.fields.proofs.Below.{none-more, some-at}
+use Rattle.laws.specs.Below.{someBelow}
+use Rattle.laws.proofs.Below.{none-more, some-at}
 use Rattle.net_node.specs.declared.EstType.{EstType}
 use Rattle.net_node.specs.declared.EstType.the-variants.{Arrive, Clear}
 use Rattle.book_format.specs.declared.Sample.{Sample}

@@ -6,7 +6,7 @@ use mathlib.Core.List.{List, [], _∷_}
 use Prim.Native.Nat.{ℕ, zero, suc, _+_, _-_, _*_, _≤_, _<_}
 use lib.Dec.{ltb, eqb}
 use lib.Ieee.{Float, binary64, sub, le}
-use Rattle.fields.specs.Below.{someBelow}
+use Rattle.laws.specs.Below.{someBelow}
 use Rattle.net_node.specs.declared.EstType.{EstType}
 use Rattle.net_node.specs.declared.EstType.the-variants.{Arrive, Clear}
 use Rattle.event_formula.specs.declared.Passing.{Passing}

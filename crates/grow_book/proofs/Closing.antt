@@ -5,14 +5,14 @@ use Prim.Native.Nat.{ℕ, _+_, _-_, _*_, _≤_, _<_}
 use native.Mathlib.Omega.{arith}
 use lib.ListN.{length}
 use lib.Ieee.{Float}
-use Rattle.net_node.specs.Table.{Room}
-use Rattle.net_insertion.specs.Insertion.{Table}
+use Rattle.laws.specs.Answer.{Answer, refused, given, andThen}
+use Rattle.net_node.specs.Table.{Room, Table}
 use Rattle.net_event_map.specs.declared.Layout.{Layout}
 use Rattle.grow_ends.specs.declared.TailAnswer.{TailAnswer}
 use Rattle.grow_ends.specs.declared.TailAnswer.the-variants.{Nodes, Full}
 use Rattle.grow_ends.specs.Ends.{EndsIn, SomeEnds, TailAs}
 use Rattle.grow_ends.proofs.Kept.{fakes-counted}
-use Rattle.grow_rules.specs.Run.{Answer, refused, given, andThen, Net}
+use Rattle.grow_rules.specs.Run.{Net}
 use Rattle.grow_rules.specs.Growth.{Tail, endFakes, lastNode, grownWith}
 use Rattle.grow_rules.specs.Growth.{Grown as Network}
 use Rattle.grow_events.specs.declared.Counts.{Counts}

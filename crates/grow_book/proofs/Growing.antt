@@ -9,20 +9,20 @@ use borrow.Author.Tests.{lt-ltb, le-ltb}
 use lib.Dec.{ltb}
 use lib.ListN.{length, getD}
 use lib.Ieee.{Float, binary64, ofBits, nan}
+use Rattle.laws.specs.Answer.{Answer, refused, andThen}
 use Rattle.space.specs.Space.{placesOf}
 use Rattle.book_format.specs.declared.Sections.{Sections}
 use Rattle.book_format.specs.Format.{links, legs}
 use Rattle.book_options.specs.Options.{keptOrigins}
 use Rattle.book_reader.specs.Reader.{Ready}
 use Rattle.net_node.specs.declared.EstTime.{EstTime}
-use Rattle.net_node.specs.Table.{Room, nodeAt}
-use Rattle.net_insertion.specs.Insertion.{Table, put, at}
+use Rattle.net_node.specs.Table.{Room, nodeAt, Table, put, at}
 use Rattle.net_event_map.proofs.Kept.{mapped-start}
 use Rattle.grow_ends.proofs.Kept.{ends-none, flag-none, first-room, first-indexed, node-one, zero-fake, one-fake}
 use Rattle.grow_path.specs.Path.{pointOffset}
 use Rattle.grow_path.specs.Kept.{PathIn}
 use Rattle.grow_waiting.proofs.Kept.{saved-none}
-use Rattle.grow_rules.specs.Run.{Answer, refused, andThen, Net, Run}
+use Rattle.grow_rules.specs.Run.{Net, Run}
 use Rattle.grow_rules.specs.Growth.{Growth, fakeNode, firstNodes, growOrigins, drive, startAs, grow}
 use Rattle.grow_rules.specs.Growth.{Grown}
 use Rattle.grow_events.specs.Held.{NetIn, endsAt}

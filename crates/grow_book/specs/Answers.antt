@@ -3,8 +3,9 @@ use mathlib.Core.Path.{_≡_}
 use mathlib.Core.List.{List, [], _∷_}
 use Prim.Native.Nat.{ℕ}
 use lib.Ieee.{Float}
+use Rattle.laws.specs.Answer.{Answer, refused, given, andThen}
 use Rattle.book_format.specs.Format.{legs}
-use Rattle.grow_rules.specs.Run.{Answer, refused, given, andThen, Net, Run}
+use Rattle.grow_rules.specs.Run.{Net, Run}
 use Rattle.grow_rules.specs.Growth.{growOrigins, takeLeg, drive, endFakes, lastNode, grownWith, Growth, Tail}
 use Rattle.book_options.specs.Options.{keptOrigins}
 use Rattle.net_event_map.specs.declared.Layout.{Layout}

@@ -6,6 +6,7 @@ use grow_state::GrowthAnswer;
 use grow_state::Plan;
 use grow_state::State;
 use net_event_map::Layout;
+use report::Report;
 ghost use mathlib.Core.Path.{_≡_};
 ghost use mathlib.Core.Bool.{true, false, not, _&&_};
 ghost use mathlib.Core.List.{List, []};
@@ -24,15 +25,6 @@ ghost use Rattle.grow_rules.specs.Growth.{drive, grow};
 ghost use Rattle.grow_state.specs.Held.{PlanIn, DriveIn, Driving, SomeDrive, TurnedAs};
 ghost use Rattle.grow_origins.specs.Origins.{startState, OriginsIn, SomeOrigins, OnlyStart};
 ghost use Rattle.grow_book.specs.Answers.{nextTurn, DriveAs, Closing, SomeClosing, closing, grownFrom, GrownAs};
-
-// The report's counts.
-pub struct Report {
-    pub nodes: usize,
-    pub added: usize,
-    pub splits: usize,
-    pub joined: usize,
-    pub finished: usize,
-}
 
 // The counts of a network that has grown, or the number of a refusal.
 pub enum GrownBook {

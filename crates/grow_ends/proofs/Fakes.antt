@@ -8,11 +8,10 @@ use native.Mathlib.Omega.{arith}
 use borrow.Author.Tests.{lt-ltb, le-ltb}
 use lib.ListN.{length, getD}
 use lib.Ieee.{Float, binary64, ofBits}
+use Rattle.laws.specs.Answer.{refused, given, andThen}
 use Rattle.net_node.specs.declared.EstTime.{EstTime}
-use Rattle.net_node.specs.Table.{nodeAt, putFloats, putNumbers}
-use Rattle.net_insertion.specs.Insertion.{Table, put, at}
+use Rattle.net_node.specs.Table.{nodeAt, putFloats, putNumbers, Table, put, at}
 use Rattle.net_event_map.specs.EventMap.{headOf}
-use Rattle.grow_rules.specs.Run.{refused, given, andThen}
 use Rattle.grow_rules.specs.Growth.{Tail, fakeNode, leadsToEnd, roomFor, endFakes, lastNode}
 use Rattle.grow_ends.specs.Ends.{EndsIn, Below, SomeEnds}
 

@@ -10,9 +10,9 @@ use lib.Dec.{eqb}
 use lib.ListN.{getD, set}
 use lib.Ieee.{Float}
 use Rattle.net_node.specs.declared.EstTime.{EstTime}
-use Rattle.net_node.specs.Table.{nodeAt}
+use Rattle.net_node.specs.Table.{nodeAt, Table, at}
 use Rattle.net_insertion.specs.declared.Place.{Place}
-use Rattle.net_insertion.specs.Insertion.{Table, at, flagged}
+use Rattle.net_insertion.specs.Insertion.{flagged}
 use Rattle.net_insertion.proofs.Answers.{flagged-set, flagged-clear}
 use Rattle.grow_rules.specs.Run.{Net, Run, memberOf}
 use Rattle.grow_rules.specs.Growth.{badFinish}

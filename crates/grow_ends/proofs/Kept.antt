@@ -10,15 +10,16 @@ use lib.Dec.{eqb, ltb}
 use lib.ListN.{length, getD, set}
 use lib.Seq.{getD-set-same, getD-set-other}
 use lib.Ieee.{Float, binary64, ofBits}
+use Rattle.laws.specs.Answer.{Answer, refused, given, andThen}
 use Rattle.net_node.specs.declared.EstTime.{EstTime}
 use Rattle.net_node.specs.declared.EstType.the-variants.{Fake}
-use Rattle.net_node.specs.Table.{Indexed, blank, noLinkEvent}
-use Rattle.net_insertion.specs.Insertion.{Table, put, at, flagged}
+use Rattle.net_node.specs.Table.{Indexed, blank, noLinkEvent, Table, put, at}
+use Rattle.net_insertion.specs.Insertion.{flagged}
 use Rattle.net_insertion.proofs.Puts.{RoomIn, put-room, put-same, put-other, Fits, fits-indexed}
 use Rattle.net_insertion.proofs.Answers.{flagged-set, flagged-clear}
 use Rattle.net_event_map.specs.EventMap.{headOf}
 use Rattle.net_event_map.proofs.Lists.{known, not-both}
-use Rattle.grow_rules.specs.Run.{Answer, refused, given, andThen, Net, Run, memberOf}
+use Rattle.grow_rules.specs.Run.{Net, Run, memberOf}
 use Rattle.grow_rules.specs.Growth.{Tail, fakeNode, badFinish, leadsToEnd, roomFor, endFakes, lastNode}
 use Rattle.grow_ends.specs.declared.TailAnswer.the-variants.{Nodes}
 use Rattle.grow_ends.specs.Ends.{EndsIn, Below, SomeEnds, TailAs, MarkedAs}

@@ -6,10 +6,11 @@ use mathlib.Core.List.{List, [], _∷_}
 use Prim.Native.Nat.{ℕ, suc, _+_, _*_, _<_}
 use lib.ListN.{getD, set}
 use lib.Ieee.{Float}
+use Rattle.laws.specs.Answer.{Answer, refused, given}
 use Rattle.net_insertion.specs.declared.Place.{Place}
 use Rattle.net_insertion.specs.Insertion.{flagged}
 use Rattle.net_event_map.specs.EventMap.{headOf}
-use Rattle.grow_rules.specs.Run.{Answer, refused, given, Net, Run, memberOf}
+use Rattle.grow_rules.specs.Run.{Net, Run, memberOf}
 use Rattle.grow_rules.specs.Growth.{Tail, badFinish}
 use Rattle.grow_ends.specs.declared.TailAnswer.{TailAnswer}
 use Rattle.grow_ends.specs.declared.TailAnswer.the-variants.{Nodes, Full}

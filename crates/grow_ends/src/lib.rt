@@ -6,8 +6,7 @@ ghost use mathlib.Core.List.{List};
 ghost use Prim.Native.Nat.{ℕ, _+_, _*_, _≤_, _<_};
 ghost use lib.ListN.{length};
 ghost use lib.Ieee.{binary64, ofBits};
-ghost use Rattle.net_node.specs.Table.{Room};
-ghost use Rattle.net_insertion.specs.Insertion.{put};
+ghost use Rattle.net_node.specs.Table.{Room, put};
 ghost use Rattle.grow_rules.specs.Growth.{fakeNode, leadsToEnd, endFakes, lastNode};
 ghost use Rattle.grow_ends.specs.Ends.{EndsIn, SomeEnds, TailAs, FinishAs, MarkedAs};
 

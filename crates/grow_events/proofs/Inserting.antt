@@ -8,20 +8,21 @@ use native.Mathlib.Omega.{arith}
 use lib.Dec.{ltb}
 use lib.Ieee.{Float}
 use lib.ListN.{length, getD}
+use Rattle.laws.specs.Answer.{refused}
 use Rattle.net_node.specs.declared.EstType.the-variants.{Fake}
 use Rattle.net_node.specs.declared.EstTime.{EstTime}
 use Rattle.net_node.specs.declared.TimedEvent.{TimedEvent}
-use Rattle.net_node.specs.Table.{nodeAt, Indexed}
+use Rattle.net_node.specs.Table.{nodeAt, Indexed, Table, at}
 use Rattle.net_insertion.specs.declared.Place.{Place}
 use Rattle.net_insertion.specs.declared.Inserted.{Inserted}
 use Rattle.net_insertion.specs.declared.Inserted.the-variants.{Added, Moved, Refused}
-use Rattle.net_insertion.specs.Insertion.{Table, at, linkedTo, eventNode, splitFake, alternating, inserted, insertedTable, InsertedInto, flagged}
+use Rattle.net_insertion.specs.Insertion.{linkedTo, eventNode, splitFake, alternating, inserted, insertedTable, InsertedInto, flagged}
 use Rattle.net_insertion.proofs.Puts.{RoomIn, either}
 use Rattle.net_insertion.proofs.Kept.{inserted-same, more, Kept, inserted-room, call-kept}
 use Rattle.net_event_map.specs.declared.Layout.{Layout}
 use Rattle.net_event_map.specs.EventMap.{Mapped, MapOnly}
 use Rattle.net_event_map.proofs.Kept.{apart-same, mapped-same, mapped-fake}
-use Rattle.grow_rules.specs.Run.{refused, Net, Run, arcTo, memberOf, countIf, addedTo, movedTo, insertEvent, goesOn}
+use Rattle.grow_rules.specs.Run.{Net, Run, arcTo, memberOf, countIf, addedTo, movedTo, insertEvent, goesOn}
 use Rattle.grow_rules.specs.Run.{insertedRun as answeredAs}
 use Rattle.grow_events.specs.declared.Counts.{Counts}
 use Rattle.grow_events.specs.declared.Mover.{Mover}

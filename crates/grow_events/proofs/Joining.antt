@@ -6,9 +6,9 @@ use Prim.Native.Nat.{ℕ, _+_, _<_}
 use native.Mathlib.Omega.{arith}
 use borrow.Author.Tests.{not-true, not-false}
 use lib.Ieee.{Float}
+use Rattle.laws.specs.Answer.{refused}
 use Rattle.net_node.specs.declared.TimedEvent.{TimedEvent}
-use Rattle.net_node.specs.Table.{nodeAt, Indexed}
-use Rattle.net_insertion.specs.Insertion.{Table, at}
+use Rattle.net_node.specs.Table.{nodeAt, Indexed, Table, at}
 use Rattle.net_insertion.proofs.Puts.{RoomIn}
 use Rattle.net_event_map.specs.declared.Layout.{Layout}
 use Rattle.net_event_map.specs.EventMap.{Mapped}
@@ -18,7 +18,7 @@ use Rattle.net_joins.specs.declared.Step.{Step}
 use Rattle.net_joins.specs.declared.Step.the-variants.{Joined, Waits, Refused}
 use Rattle.net_joins.specs.Joins.{JoinStep, joinStep, joinedTable, StepAs, SteppedInto, CellsAs}
 use Rattle.net_joins.proofs.Kept.{Target, joined-target, waits-sound, stepped-table, joined-room, joined-indexed, joined-mapped}
-use Rattle.grow_rules.specs.Run.{refused, Net, Run, joinedTo, withJoins, insertEvent, goesOn, joinedAs, eventAs, runEvent}
+use Rattle.grow_rules.specs.Run.{Net, Run, joinedTo, withJoins, insertEvent, goesOn, joinedAs, eventAs, runEvent}
 use Rattle.grow_events.specs.declared.Counts.{Counts}
 use Rattle.grow_events.specs.declared.Mover.{Mover}
 use Rattle.grow_events.specs.declared.RunAnswer.{RunAnswer}

@@ -6,11 +6,12 @@ use Prim.Native.Nat.{ℕ, _+_, _*_, _≤_, _<_}
 use native.Mathlib.Omega.{arith}
 use lib.Ieee.{Float}
 use lib.ListN.{length, getD}
+use Rattle.laws.specs.Answer.{Answer, refused, given}
 use Rattle.net_event_map.specs.declared.Layout.{Layout}
 use Rattle.net_strands.specs.declared.EstJoinPath.{EstJoinPath}
 use Rattle.net_strands.specs.Entries.{Valid}
 use Rattle.grow_path.specs.Kept.{PathIn}
-use Rattle.grow_rules.specs.Run.{Answer, refused, given, Net, Run, After, goesOn}
+use Rattle.grow_rules.specs.Run.{Net, Run, After, goesOn}
 use Rattle.grow_rules.specs.Run.{Outcome as Became, Ended as Left, On as Goes}
 use Rattle.grow_events.specs.declared.Counts.{Counts}
 use Rattle.grow_events.specs.declared.Mover.{Mover}

@@ -9,6 +9,7 @@ use native.Mathlib.Omega.{arith}
 use lib.Dec.{ltb}
 use lib.Ieee.{Float}
 use lib.ListN.{length, getD}
+use Rattle.laws.specs.Answer.{Answer, refused, andThen}
 use Rattle.net_node.specs.declared.TimedEvent.{TimedEvent}
 use Rattle.event_formula.specs.declared.Passing.{Passing}
 use Rattle.event_formula.specs.Event.{passingAt}
@@ -22,7 +23,7 @@ use Rattle.grow_path.proofs.Testing.{bad-first, fine-first}
 use Rattle.grow_path.specs.Path.{eventAt, eventsAt}
 use Rattle.net_event_map.specs.declared.Layout.{Layout}
 use Rattle.net_event_map.specs.EventMap.{RealKind, Real}
-use Rattle.grow_rules.specs.Run.{Answer, refused, andThen, Net, Run, After, runEvent, nextEvent, runEvents}
+use Rattle.grow_rules.specs.Run.{Net, Run, After, runEvent, nextEvent, runEvents}
 use Rattle.grow_rules.specs.Run.{Outcome}
 use Rattle.grow_events.specs.declared.Counts.{Counts}
 use Rattle.grow_events.specs.declared.Mover.{Mover}

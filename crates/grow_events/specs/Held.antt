@@ -7,6 +7,7 @@ use mathlib.Core.List.{List, [], _∷_}
 use Prim.Native.Nat.{ℕ, suc, _+_, _*_, _≤_, _<_}
 use lib.ListN.{length, getD}
 use lib.Ieee.{Float}
+use Rattle.laws.specs.Answer.{Answer, refused, given}
 use Rattle.net_node.specs.Table.{nodeAt, Room, Indexed}
 use Rattle.net_insertion.specs.Insertion.{flagged}
 use Rattle.net_strands.specs.Entries.{entriesIn, Valid}
@@ -15,7 +16,7 @@ use Rattle.net_event_map.specs.EventMap.{CellsApart, Mapped}
 use Rattle.grow_path.specs.Path.{pointLink}
 use Rattle.grow_path.specs.Kept.{PathIn}
 use Rattle.grow_ends.specs.Ends.{EndsIn, Below}
-use Rattle.grow_rules.specs.Run.{Answer, refused, given, Net, Run, After, memberOf}
+use Rattle.grow_rules.specs.Run.{Net, Run, After, memberOf}
 use Rattle.grow_rules.specs.Run.{Outcome, Ended as Left, On as Goes}
 use Rattle.grow_events.specs.declared.Counts.{Counts}
 use Rattle.grow_events.specs.declared.Mover.{Mover}

@@ -6,8 +6,8 @@ use Prim.Native.Nat.{ℕ, zero, suc, _+_, _*_, _/_, _≤_, _<_, min}
 use native.Mathlib.Omega.{arith}
 use borrow.Author.Tests.{not-false}
 use lib.ListN.{length}
-use Rattle.fields.specs.Below.{someBelow}
-use Rattle.fields.proofs.Below.{none-left, none-right}
+use Rattle.laws.specs.Below.{someBelow}
+use Rattle.laws.proofs.Below.{none-left, none-right}
 use Rattle.floats.specs.Floats.{bookFloat}
 use Rattle.space.specs.Space.{placesOf, unitsOf, bytesOf}
 use Rattle.book_format.specs.declared.Sections.{Sections}

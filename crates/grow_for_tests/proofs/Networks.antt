@@ -6,14 +6,13 @@ use native.Mathlib.Nat.{sub-zero}
 use native.Mathlib.Omega.{arith}
 use lib.ListN.{length, take}
 use lib.Ieee.{Float}
+use Rattle.laws.specs.Answer.{Answer, refused, given}
 use Rattle.space.specs.Space.{placesOf, bytesOf, zeros, zeroFloats}
 use Rattle.space.proofs.Zeros.{zeros-length}
 use Rattle.book_reader.specs.Reader.{readNumber}
-use Rattle.net_node.specs.Table.{Room}
-use Rattle.net_insertion.specs.Insertion.{Table}
-use Rattle.grow_rules.specs.Run.{Answer, refused, given}
+use Rattle.net_node.specs.Table.{Room, Table}
 use Rattle.grow_rules.specs.GrownBook.{Grown, grow}
-use Rattle.grow_book.specs.declared.Report.{Report}
+use Rattle.report.specs.declared.Report.{Report}
 use Rattle.grow_book.specs.declared.GrownBook.{GrownBook}
 use Rattle.grow_book.specs.declared.GrownBook.the-variants.{Whole, Stopped}
 use Rattle.grow_book.specs.Answers.{WholeAs, GrownAs}

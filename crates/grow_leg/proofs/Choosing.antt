@@ -7,13 +7,14 @@ use native.Mathlib.Omega.{arith}
 use borrow.Author.Tests.{eq-eqb, ne-eqb, eqb-false, ltb-false, leb-false}
 use lib.Dec.{eqb, ltb}
 use lib.ListN.{getD}
-use Rattle.fields.specs.Below.{someBelow}
-use Rattle.fields.proofs.Below.{some-at, none-at, none-left, none-right, none-more}
+use Rattle.laws.specs.Answer.{refused, andThen}
+use Rattle.laws.specs.Below.{someBelow}
+use Rattle.laws.proofs.Below.{some-at, none-at, none-left, none-right, none-more}
 use Rattle.book_format.specs.declared.Link.{Link}
 use Rattle.book_format.specs.Format.{links, origins, destinations, legs, linkAt, linkLength, linkNext, linkNextAlt, linkPrev, linkPrevAlt, originLink, destinationLink}
 use Rattle.book_format.specs.Rows.{noSuchLink, linkZero, badLink, badLegIndex, row5}
 use Rattle.book_options.specs.Options.{OptionsIn, inSet}
-use Rattle.grow_rules.specs.Run.{refused, andThen, Net, Run}
+use Rattle.grow_rules.specs.Run.{Net, Run}
 use Rattle.grow_rules.specs.Growth.{isDestination, onOver, saveOver, onAs}
 use Rattle.grow_leg.specs.declared.Ways.the-variants.{None, One, Both}
 use Rattle.grow_leg.specs.OneLeg.{waysAs}

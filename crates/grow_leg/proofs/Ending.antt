@@ -8,13 +8,14 @@ use native.Mathlib.Omega.{arith}
 use lib.Dec.{eqb, ltb}
 use lib.ListN.{length}
 use lib.Ieee.{Float}
+use Rattle.laws.specs.Answer.{Answer, refused, andThen}
 use Rattle.book_format.specs.declared.Leg.{Leg}
 use Rattle.book_format.specs.Format.{links, legs, legAt, legParent, linkNext, linkNextAlt}
 use Rattle.book_format.specs.Rows.{row5}
 use Rattle.book_format.proofs.Given.{leg-link, leg-parent, leg-named}
 use Rattle.book_options.specs.Options.{inSet}
 use Rattle.grow_path.specs.Path.{linkOf}
-use Rattle.grow_rules.specs.Run.{Answer, refused, andThen, Net, Run}
+use Rattle.grow_rules.specs.Run.{Net, Run}
 use Rattle.grow_rules.specs.Growth.{Growth, onOver, saveOver, goOn, onAs, isDestination, finishes, finishAs, badFinish, legEndAs}
 use Rattle.grow_state.specs.declared.Plan.{Plan}
 use Rattle.grow_state.specs.declared.State.{State}

@@ -7,6 +7,7 @@ use native.Mathlib.Omega.{arith}
 use lib.ListN.{length, getD, set, length-set}
 use lib.Seq.{getD-set-other}
 use lib.Ieee.{Float}
+use Rattle.laws.specs.Answer.{refused}
 use Rattle.net_node.specs.Table.{nodeAt, Room}
 use Rattle.net_insertion.specs.declared.Place.{Place}
 use Rattle.net_event_map.specs.declared.Layout.{Layout}
@@ -15,7 +16,7 @@ use Rattle.net_event_map.proofs.Kept.{mapped-else}
 use Rattle.grow_ends.specs.Ends.{EndsIn, FinishAs, MarkedAs}
 use Rattle.grow_ends.proofs.Kept.{Finished, finished, last-below}
 use Rattle.grow_path.specs.Path.{pathOf}
-use Rattle.grow_rules.specs.Run.{refused, Net, Run}
+use Rattle.grow_rules.specs.Run.{Net, Run}
 use Rattle.grow_rules.specs.Growth.{badFinish, finishedAt, finishAs}
 use Rattle.grow_events.specs.declared.Counts.{Counts}
 use Rattle.grow_events.specs.Held.{NetIn, endsAt}

@@ -8,6 +8,7 @@ use borrow.Author.Tests.{lt-ltb, le-ltb}
 use lib.Dec.{ltb}
 use lib.ListN.{length, getD}
 use lib.Ieee.{Float}
+use Rattle.laws.specs.Answer.{refused, given, andThen}
 use Rattle.book_format.specs.Format.{legs}
 use Rattle.book_format.specs.Chains.{legBelow}
 use Rattle.book_legs.specs.declared.TakenLeg.{TakenLeg}
@@ -20,7 +21,7 @@ use Rattle.grow_waiting.specs.Held.{Waiting, SavedIn, SavedElsewhere, waitingOf
 use Rattle.grow_waiting.specs.Held.{Untaken}
 use Rattle.grow_waiting.proofs.Kept.{save-chained, save-path, save-mapped, node-left, saved-room}
 use Rattle.grow_path.specs.Path.{pathOf}
-use Rattle.grow_rules.specs.Run.{refused, given, andThen, Net, Run}
+use Rattle.grow_rules.specs.Run.{Net, Run}
 use Rattle.grow_rules.specs.Growth.{takes, seekLeg, onOver, waiting, fitsIn, saveOver}
 use Rattle.grow_events.specs.Held.{endsAt}
 use Rattle.grow_state.specs.declared.Plan.{Plan}

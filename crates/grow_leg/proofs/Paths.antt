@@ -8,7 +8,7 @@ use native.Mathlib.Omega.{arith}
 use borrow.Author.Tests.{eqb-true, eq-eqb}
 use lib.Dec.{eqb}
 use lib.ListN.{length, length-append}
-use Rattle.fields.proofs.Below.{or-left, or-right}
+use Rattle.laws.proofs.Below.{or-left, or-right}
 use Rattle.book_format.specs.Format.{links, legs, legLink, legParent}
 use Rattle.book_format.specs.Chains.{legBelow}
 use Rattle.net_event_map.proofs.Lists.{known, not-both}

@@ -7,6 +7,7 @@ use native.Mathlib.Omega.{arith}
 use lib.ListN.{length, getD, set}
 use lib.Seq.{getD-set-other}
 use lib.Ieee.{Float}
+use Rattle.laws.specs.Answer.{Answer, refused, andThen}
 use Rattle.book_format.specs.Format.{legs}
 use Rattle.book_format.specs.Chains.{Chained}
 use Rattle.event_walk.specs.Walk.{row11}
@@ -16,7 +17,7 @@ use Rattle.net_strands.proofs.Entries.{entries-count}
 use Rattle.net_insertion.specs.declared.Place.{Place}
 use Rattle.grow_path.specs.Path.{pathOf, linkOf, legCourse}
 use Rattle.grow_path.specs.Kept.{PathIn}
-use Rattle.grow_rules.specs.Run.{Answer, refused, andThen, Net, Run, Outcome}
+use Rattle.grow_rules.specs.Run.{Net, Run, Outcome}
 use Rattle.grow_rules.specs.Growth.{Growth, legAs, legDone, legEndAs, finishes, takeLeg}
 use Rattle.grow_events.specs.declared.Counts.{Counts}
 use Rattle.grow_events.specs.declared.Mover.{Mover}

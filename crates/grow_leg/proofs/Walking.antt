@@ -8,7 +8,8 @@ use native.Mathlib.Omega.{arith}
 use lib.ListN.{length, getD, set, length-set}
 use lib.Seq.{getD-set-other}
 use lib.Ieee.{Float, nan, binary64, add}
-use Rattle.fields.proofs.Below.{sum-more, sum-part}
+use Rattle.laws.specs.Answer.{Answer}
+use Rattle.laws.proofs.Below.{sum-more, sum-part}
 use Rattle.floats.specs.Floats.{bookFloat}
 use Rattle.book_format.specs.declared.Leg.{Leg}
 use Rattle.book_format.specs.Format.{links, legs, samples, samplesAt, legAt, legLink, legSamples, firstSample, linkLength, lengthBits, floatOf}
@@ -31,7 +32,7 @@ use Rattle.grow_path.specs.Kept.{PathIn, Sound}
 use Rattle.grow_path.proofs.Extending.{path-begins, path-extends}
 use Rattle.grow_path.proofs.Legs.{leg-held, leg-sound, leg-alike}
 use Rattle.grow_path.proofs.Testing.{reaches, passes, walkable}
-use Rattle.grow_rules.specs.Run.{Answer, Net, Run, Outcome, runEvents}
+use Rattle.grow_rules.specs.Run.{Net, Run, Outcome, runEvents}
 use Rattle.grow_rules.specs.Growth.{joinGap}
 use Rattle.grow_events.specs.declared.RunAnswer.{RunAnswer}
 use Rattle.grow_events.specs.declared.RunAnswer.the-variants.{Refused}

@@ -6,12 +6,13 @@ use mathlib.Core.List.{List, _∷_}
 use Prim.Native.Nat.{ℕ, suc, _+_, _*_, _≤_, _<_}
 use lib.ListN.{length, getD, set}
 use lib.Ieee.{Float, nan}
+use Rattle.laws.specs.Answer.{Answer, refused, given}
 use Rattle.book_format.specs.Format.{legs, legParent, legLink}
 use Rattle.book_format.specs.Chains.{Chained}
 use Rattle.event_walk.specs.Walk.{row11}
 use Rattle.grow_path.specs.Path.{pathOf, linkOf, legCourse, legEvents}
 use Rattle.grow_path.specs.Kept.{PathIn}
-use Rattle.grow_rules.specs.Run.{Answer, refused, given, Net, Run, Outcome, runEvents}
+use Rattle.grow_rules.specs.Run.{Net, Run, Outcome, runEvents}
 use Rattle.grow_rules.specs.Growth.{joinGap}
 use Rattle.grow_events.specs.Held.{NetIn, OutcomeAs}
 use Rattle.grow_events.specs.declared.RunAnswer.{RunAnswer}

@@ -9,17 +9,18 @@ use native.Mathlib.Omega.{arith}
 use borrow.Author.Tests.{ltb-true}
 use lib.Dec.{ltb}
 use lib.Ieee.{Float, binary64, add, ofBits}
+use Rattle.laws.specs.Answer.{Answer, refused, given, andThen}
 use Rattle.book_format.specs.Format.{originLink, lengthBits, floatOf}
 use Rattle.net_node.specs.declared.EstType.the-variants.{Arrive, Clear}
 use Rattle.net_node.specs.declared.EstTime.{EstTime}
 use Rattle.net_node.specs.declared.TimedEvent.{TimedEvent}
-use Rattle.net_node.specs.Table.{Indexed}
+use Rattle.net_node.specs.Table.{Indexed, Table, at}
 use Rattle.net_insertion.specs.declared.Place.{Place}
 use Rattle.net_insertion.specs.declared.Inserted.{Inserted}
 use Rattle.net_insertion.specs.declared.Inserted.the-variants.{Added}
-use Rattle.net_insertion.specs.Insertion.{Table, at, seek, linkedTo, eventNode, splitFake, alternating, addBehind, splitAt, placeAt, addedAs, inserted, insertedTable}
+use Rattle.net_insertion.specs.Insertion.{seek, linkedTo, eventNode, splitFake, alternating, addBehind, splitAt, placeAt, addedAs, inserted, insertedTable}
 use Rattle.net_insertion.proofs.Puts.{RoomIn, add-found, add-new, add-indexed, add-other, add-room, split-found, split-new, split-indexed, split-other, split-room}
-use Rattle.grow_rules.specs.Run.{Answer, refused, given, andThen, Net, Run, After, addedTo, movedTo, memberOf, insertedRun, insertEvent}
+use Rattle.grow_rules.specs.Run.{Net, Run, After, addedTo, movedTo, memberOf, insertedRun, insertEvent}
 use Rattle.grow_rules.specs.Growth.{Growth, joinGap, originEvent, originRun, seekLeg, growOrigin}
 use Rattle.grow_origins.specs.Origins.{OtherLinks}
 use Rattle.grow_origins.proofs.Starting.{AtLast, Alone, Leading, Comes, comes-first, first-finds, last-past, open-stops, open-answer, open-table, past-answer, past-table, last-behind, last-split}

@@ -6,6 +6,8 @@ use Prim.{Unit, tt}
 use Prim.Native.Nat.{ℕ, _≤_, _<_}
 use native.Mathlib.Omega.{arith}
 use lib.Ieee.{Float, binary64, add, ofBits}
+use Rattle.net_node.specs.Table.{Table}
+use Rattle.laws.specs.Answer.{Answer, refused, given, andThen}
 use Rattle.book_format.specs.Format.{lengthBits, floatOf}
 use Rattle.net_node.specs.declared.EstType.{EstType}
 use Rattle.net_node.specs.declared.EstType.the-variants.{Arrive, Clear}
@@ -14,12 +16,12 @@ use Rattle.net_insertion.specs.declared.Place.{Place}
 use Rattle.net_insertion.specs.declared.Inserted.{Inserted}
 use Rattle.net_insertion.specs.declared.Inserted.the-variants.{Added, Moved}
 use Rattle.net_insertion.specs.declared.Inserted.the-variants.{Refused as NotIn}
-use Rattle.net_insertion.specs.Insertion.{Table, inserted, insertedTable}
+use Rattle.net_insertion.specs.Insertion.{inserted, insertedTable}
 use Rattle.net_strands.specs.declared.EstJoinPath.{EstJoinPath}
 use Rattle.net_strands.specs.Entries.{entriesIn}
 use Rattle.net_event_map.specs.declared.Layout.{Layout}
 use Rattle.net_event_map.specs.EventMap.{RealKind, Real}
-use Rattle.grow_rules.specs.Run.{Answer, refused, given, andThen, Arc, Net, Run, After, arcTo, addedTo, movedTo, insertedRun, insertEvent, goesOn, memberOf}
+use Rattle.grow_rules.specs.Run.{Arc, Net, Run, After, arcTo, addedTo, movedTo, insertedRun, insertEvent, goesOn, memberOf}
 use Rattle.grow_rules.specs.Run.{Outcome, Ended as Left, On as Goes}
 use Rattle.grow_rules.specs.Growth.{joinGap, departure, originEvent, originRun, seekLeg, growOrigin}
 use Rattle.grow_events.specs.declared.Counts.{Counts}

@@ -8,6 +8,7 @@ use native.Mathlib.Omega.{arith}
 use lib.ListN.{length, getD, drop}
 use lib.Seq.{drop-cons, drop-length}
 use lib.Ieee.{Float}
+use Rattle.laws.specs.Answer.{Answer, refused, given, andThen}
 use Rattle.book_format.specs.Format.{links, origins, destinations, legLink, originLink}
 use Rattle.book_format.proofs.Given.{limits}
 use Rattle.book_format.proofs.Places.{sized-links, sized-destinations}
@@ -15,7 +16,7 @@ use Rattle.book_options.specs.Options.{OptionsIn, keptOrigins}
 use Rattle.book_options.proofs.Kept.{kept-named, kept-most}
 use Rattle.arcs_growth.proofs.Books.{Other, kept-apart}
 use Rattle.arcs_growth.proofs.Books.{Apart as AllOther}
-use Rattle.grow_rules.specs.Run.{Answer, refused, given, andThen, Net, Run}
+use Rattle.grow_rules.specs.Run.{Net, Run}
 use Rattle.grow_rules.specs.Growth.{Growth, growOrigin, growOrigins}
 use Rattle.grow_events.specs.declared.Counts.{Counts}
 use Rattle.grow_events.specs.declared.Mover.{Mover}
@@ -27,8 +28,7 @@ use Rattle.grow_state.specs.declared.State.{State}
 use Rattle.grow_state.specs.declared.GrowthAnswer.{GrowthAnswer}
 use Rattle.grow_state.specs.declared.GrowthAnswer.the-variants.{On, Refused}
 use Rattle.grow_state.specs.Held.{PlanIn}
-use Rattle.net_node.specs.Table.{Indexed, nodeAt}
-use Rattle.net_insertion.specs.Insertion.{Table, at}
+use Rattle.net_node.specs.Table.{Indexed, nodeAt, Table, at}
 use Rattle.net_insertion.proofs.Puts.{RoomIn}
 use Rattle.grow_origins.specs.Origins.{originAnswer, LeadsFrom, OnlyStart, OtherLinks, AllFirst, NotOver, OriginsIn, SomeOrigin, SomeOrigins, OriginsGiven, OriginsAs, savedOrigin, OriginInserted, SomeOriginInserted}
 use Rattle.grow_origins.proofs.OriginEvents.{fewer-as, origin-joins, origin-not-left, origin-given, origin-refused}

@@ -7,8 +7,8 @@ use native.Mathlib.Omega.{arith}
 use borrow.Author.Tests.{not-false}
 use lib.Dec.{T}
 use lib.Ieee.{binary64, ofBits, nanBits}
-use Rattle.fields.specs.Below.{someBelow}
-use Rattle.fields.proofs.Below.{none-left, none-right}
+use Rattle.laws.specs.Below.{someBelow}
+use Rattle.laws.proofs.Below.{none-left, none-right}
 use Rattle.floats.specs.Floats.{bookFloat}
 use Rattle.book_format.specs.declared.Sections.{Sections}
 use Rattle.book_format.specs.declared.HeadPatterns.{HeadPatterns}

@@ -9,6 +9,7 @@ use native.Mathlib.Omega.{arith}
 use borrow.Author.Tests.{ne-eqb}
 use lib.ListN.{length, getD}
 use lib.Ieee.{Float}
+use Rattle.laws.specs.Answer.{refused, given, andThen}
 use Rattle.book_format.specs.Format.{legs, legParent, legLink}
 use Rattle.book_format.specs.Chains.{legBelow, Chained}
 use Rattle.book_legs.specs.declared.TakenLeg.{TakenLeg}
@@ -26,7 +27,7 @@ use Rattle.grow_waiting.specs.Held.{Waiting, Untaken, SavedIn, waitingOf}
 use Rattle.grow_waiting.specs.Held.{SavedElsewhere}
 use Rattle.grow_waiting.proofs.Kept.{node-left, save-chained, save-path, save-mapped, saved-room}
 use Rattle.arcs_growth.proofs.Paths.{LegOf, leg-found}
-use Rattle.grow_rules.specs.Run.{refused, given, andThen, Net, Run, memberOf}
+use Rattle.grow_rules.specs.Run.{Net, Run, memberOf}
 use Rattle.grow_rules.specs.Growth.{takes, seekLeg}
 use Rattle.grow_events.specs.declared.Counts.{Counts}
 use Rattle.grow_events.specs.Held.{NetIn, endsAt}

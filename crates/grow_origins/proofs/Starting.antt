@@ -12,10 +12,10 @@ use Rattle.book_format.specs.Format.{originLink}
 use Rattle.net_node.specs.declared.EstTime.{EstTime}
 use Rattle.net_node.specs.declared.TimedEvent.{TimedEvent}
 use Rattle.net_node.specs.declared.LinkEvent.{LinkEvent}
-use Rattle.net_node.specs.Table.{Indexed, sameEvent}
+use Rattle.net_node.specs.Table.{Indexed, sameEvent, Table, at}
 use Rattle.net_insertion.specs.declared.Place.{Place}
 use Rattle.net_insertion.specs.declared.Inserted.the-variants.{Added}
-use Rattle.net_insertion.specs.Insertion.{Table, at, matches, found, seek, linkedTo, splitFake, alternating, addBehind, splitAt, placeAt, addedAs, insertedAs, tableAs, soughtIn, inserted, insertedTable}
+use Rattle.net_insertion.specs.Insertion.{matches, found, seek, linkedTo, splitFake, alternating, addBehind, splitAt, placeAt, addedAs, insertedAs, tableAs, soughtIn, inserted, insertedTable}
 use Rattle.net_insertion.proofs.Seeking.{seek-turn}
 use Rattle.net_insertion.proofs.Puts.{either}
 use Rattle.grow_origins.specs.Origins.{OtherLinks, placeOn, LeadsFrom, OnlyStart}

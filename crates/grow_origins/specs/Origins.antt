@@ -5,13 +5,15 @@ use mathlib.Core.Bool.{Bool, false}
 use mathlib.Core.List.{List, [], _∷_}
 use Prim.Native.Nat.{ℕ, _-_, _<_}
 use lib.Ieee.{Float, binary64, add, ofBits}
+use Rattle.net_node.specs.Table.{Table}
+use Rattle.laws.specs.Answer.{Answer, refused, given, andThen}
 use Rattle.book_format.specs.Format.{legParent, legLink, originLink, lengthBits, floatOf}
 use Rattle.net_node.specs.declared.EstType.the-variants.{Arrive, Clear}
 use Rattle.net_node.specs.declared.EstTime.{EstTime}
 use Rattle.net_node.specs.declared.TimedEvent.{TimedEvent}
 use Rattle.net_insertion.specs.declared.Place.{Place}
-use Rattle.net_insertion.specs.Insertion.{Table, inserted, insertedTable}
-use Rattle.grow_rules.specs.Run.{Answer, refused, given, andThen, Net, Run, After, Outcome, insertEvent, goesOn}
+use Rattle.net_insertion.specs.Insertion.{inserted, insertedTable}
+use Rattle.grow_rules.specs.Run.{Net, Run, After, Outcome, insertEvent, goesOn}
 use Rattle.grow_rules.specs.Growth.{joinGap, originEvent, originRun, seekLeg, Growth}
 use Rattle.grow_events.specs.declared.Counts.{Counts}
 use Rattle.grow_state.specs.declared.Plan.{Plan}

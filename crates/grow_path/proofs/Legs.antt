@@ -11,8 +11,8 @@ use lib.Ieee.{Float, nan, inf, fin, binary64, top, add, le, fits, ofBits}
 use lib.Ieee.Fits.{add-fits}
 use lib.Ieee.Scale.{finite}
 use Rattle.fields.specs.Fields.{u64At}
-use Rattle.fields.specs.Below.{sumBelow}
-use Rattle.fields.proofs.Below.{none-at, sum-more, sum-part}
+use Rattle.laws.specs.Below.{sumBelow}
+use Rattle.laws.proofs.Below.{none-at, sum-more, sum-part}
 use Rattle.floats.specs.Floats.{tableFloat, bookFloat, Size}
 use Rattle.floats.proofs.Order.{size-of-bits, add-grows, le-trans}
 use Rattle.book_format.specs.declared.Sample.{Sample}

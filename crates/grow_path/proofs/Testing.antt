@@ -6,7 +6,7 @@ use Prim.Native.Nat.{ℕ, _-_, _≤_, _<_}
 use native.Mathlib.Omega.{arith}
 use lib.ListN.{length}
 use lib.Ieee.{lt, le}
-use Rattle.fields.proofs.Below.{or-left, none-at}
+use Rattle.laws.proofs.Below.{or-left, none-at}
 use Rattle.floats.proofs.Order.{not-le}
 use Rattle.event_walk.specs.declared.Heads.{Heads}
 use Rattle.event_walk.specs.declared.PassedPoint.{PassedPoint}

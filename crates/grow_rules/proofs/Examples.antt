@@ -3,14 +3,14 @@
 use mathlib.Core.Path.{_≡_, refl}
 use mathlib.Core.List.{List, [], _∷_}
 use Prim.Native.Nat.{ℕ, zero, suc, _*_}
+use Rattle.laws.specs.Answer.{Answer, refused, given}
 use Rattle.net_node.specs.declared.EstTime.{EstTime}
-use Rattle.net_node.specs.Table.{kindNumber}
+use Rattle.net_node.specs.Table.{kindNumber, Table, put, at}
 use lib.ListN.{replicate}
 use lib.Ieee.{Float, binary64, ofBits, toBits, add, sub, mul, div, lt, le, eq, round, sum, isNan, neg, below, level}
-use Rattle.net_insertion.specs.Insertion.{Table}
-use Rattle.grow_rules.specs.Run.{Answer, refused, given, Arc}
+use Rattle.grow_rules.specs.Run.{Arc}
 use Rattle.grow_rules.specs.Growth.{Grown}
-use Rattle.fields.specs.Below.{someBelow, sumBelow}
+use Rattle.laws.specs.Below.{someBelow, sumBelow}
 use Rattle.fields.specs.Fields.{u32At, u64At}
 use Rattle.floats.specs.Floats.{billion, tableFloat, abs, gap, smaller}
 use Rattle.root.specs.Root.{rootDigits, wholeRoot, rootOf, sqrt}
@@ -21,7 +21,7 @@ use Rattle.event_formula.specs.Event.{eventOffset, clears, twiceAhead, speedAt,
 use Rattle.net_node.specs.Table.{sameKind, sameEvent, nodeAt, putFloats, putNumbers, noLinkEvent, blank}
 use Rattle.event_walk.specs.Course.{courseOf}
 use Rattle.event_walk.specs.Walk.{firstBeyond, startBack, startFront, start, offsetNext, inRange, clearsNext, emits, turned, turn, passedAs, passedNext, walk, turnsLeft, passedFrom, pointsPassed, reachesLast, badPoint, someBad, row11}
-use Rattle.net_insertion.specs.Insertion.{matches, seek, linkedTo, eventNode, splitFake, alternating, put, at, addBehind, splitAt, placeAt, soughtIn, inserted, insertedTable, flagged}
+use Rattle.net_insertion.specs.Insertion.{matches, seek, linkedTo, eventNode, splitFake, alternating, addBehind, splitAt, placeAt, soughtIn, inserted, insertedTable, flagged}
 use Rattle.net_strands.specs.Entries.{entry, entryAt, entriesIn, push}
 use Rattle.net_strands.specs.Space.{alternatives, strandFrom, strands, extended, extendedAll}
 use Rattle.net_event_map.specs.EventMap.{seenIn, nodesFrom, eventNodes, lastOf, arriveAt, clearAt}

@@ -7,7 +7,8 @@ use Prim.Native.Nat.{ℕ, zero, suc, _+_, _-_}
 use lib.Dec.{eqb, ltb}
 use lib.ListN.{length}
 use lib.Ieee.{Float, binary64, add, ofBits}
-use Rattle.fields.specs.Below.{someBelow}
+use Rattle.laws.specs.Answer.{Answer, refused, given, andThen}
+use Rattle.laws.specs.Below.{someBelow}
 use Rattle.book_format.specs.Format.{legs, destinations, linkNext, linkNextAlt, originLink, destinationLink, legParent, joinBits, departureBits, lengthBits, floatOf}
 use Rattle.book_format.specs.Chains.{legBelow}
 use Rattle.book_options.specs.Options.{inSet, keptOrigins}
@@ -16,12 +17,11 @@ use Rattle.net_node.specs.declared.EstType.{EstType}
 use Rattle.net_node.specs.declared.EstType.the-variants.{Arrive, Clear}
 use Rattle.net_node.specs.declared.EstTime.{EstTime}
 use Rattle.net_node.specs.declared.TimedEvent.{TimedEvent}
-use Rattle.net_node.specs.Table.{blank}
+use Rattle.net_node.specs.Table.{blank, Table, put, at}
 use Rattle.net_insertion.specs.declared.Place.{Place}
-use Rattle.net_insertion.specs.Insertion.{Table, put, at}
 use Rattle.net_strands.specs.declared.EstJoinPath.{EstJoinPath}
 use Rattle.grow_path.specs.Path.{linkOf, legCourse, legEvents}
-use Rattle.grow_rules.specs.Run.{Answer, refused, given, andThen, Arc, Net, Run, After, Outcome, Ended, On, arcToEnd, memberOf, insertEvent, runEvents}
+use Rattle.grow_rules.specs.Run.{Arc, Net, Run, After, Outcome, Ended, On, arcToEnd, memberOf, insertEvent, runEvents}
 
 -- the book's J, departure and train length
 abbrev pub joinGap : List ℕ → Float

@@ -5,23 +5,16 @@ use mathlib.Core.List.{List, [], _∷_}
 use Prim.Native.Nat.{ℕ, zero, suc, _+_}
 use lib.Dec.{eqb}
 use lib.Ieee.{Float, binary64, sub, ofBits}
+use Rattle.net_node.specs.Table.{Table, at}
+use Rattle.laws.specs.Answer.{Answer, refused, given, andThen}
 use Rattle.net_node.specs.declared.EstTime.{EstTime}
 use Rattle.net_node.specs.declared.TimedEvent.{TimedEvent}
 use Rattle.net_insertion.specs.declared.Place.{Place}
 use Rattle.net_insertion.specs.declared.Inserted.{Inserted}
 use Rattle.net_insertion.specs.declared.Inserted.the-variants.{Added, Moved, Refused}
-use Rattle.net_insertion.specs.Insertion.{Table, at, inserted, insertedTable}
+use Rattle.net_insertion.specs.Insertion.{inserted, insertedTable}
 use Rattle.net_strands.specs.declared.EstJoinPath.{EstJoinPath}
 use Rattle.net_joins.specs.Joins.{JoinStep, JoinsTo, GoesOn, Beyond, joinStep, joinedTable}
-
--- an answer that may be a refusal's number
-pub data Answer (A : Type 0) : Type 0 where
-  refused : ℕ → Answer A
-  given : A → Answer A
-
-abbrev pub andThen : {A B : Type 0} → Answer A → (A → Answer B) → Answer B
-andThen (refused n) f = refused n
-andThen (given a) f = f a
 
 -- An arc: from the start or an event's node to an event's node, 0 being the end, with its time and distance.
 pub record Arc : Type 0 where

@@ -6,6 +6,7 @@ use mathlib.Core.List.{List, [], _∷_, _++_}
 use Prim.Native.Nat.{ℕ, _+_, _-_, _*_, _≤_, _<_}
 use lib.ListN.{length}
 use lib.Ieee.{Float}
+use Rattle.laws.specs.Answer.{Answer, refused, given}
 use Rattle.book_format.specs.Format.{links, legs, legParent, lengthBits, floatOf}
 use Rattle.book_format.specs.Chains.{Readable, Chained}
 use Rattle.grow_path.specs.Path.{pathOf}
@@ -13,7 +14,7 @@ use Rattle.grow_path.specs.Kept.{PathIn}
 use Rattle.net_strands.specs.Entries.{Valid}
 use Rattle.grow_waiting.specs.Held.{Waiting, SavedIn}
 use Rattle.grow_waiting.specs.declared.Rooms.{Rooms}
-use Rattle.grow_rules.specs.Run.{Answer, refused, given, Net, Run, memberOf}
+use Rattle.grow_rules.specs.Run.{Net, Run, memberOf}
 use Rattle.grow_rules.specs.Growth.{Growth, joinGap, departure}
 use Rattle.grow_events.specs.Held.{NetIn, RunIn}
 use Rattle.grow_state.specs.declared.Plan.{Plan}

@@ -3,7 +3,7 @@ use mathlib.Core.Path.{_≡_, sym, ap, _∙_, subst}
 use mathlib.Core.List.{List}
 use Prim.Native.Nat.{ℕ}
 use lib.Ieee.{Float}
-use Rattle.grow_book.specs.declared.Report.{Report}
+use Rattle.report.specs.declared.Report.{Report}
 use Rattle.grow_book.specs.declared.GrownBook.{GrownBook}
 use Rattle.grow_for_tests.specs.Network.{grownNumber, reported as grownReport}
 use Rattle.listing.specs.declared.Listed.{Listed}

@@ -1,7 +1,7 @@
 // The listing of a sheet, as bytes. Contracts: specs/Listing.antt, specs/Written.antt.
-use grow_book::Report;
 use net_node::EstTime;
 use net_node::EstType;
+use report::Report;
 ghost use mathlib.Core.Path.{_≡_};
 ghost use mathlib.Core.List.{List, [], _∷_, _++_};
 ghost use Prim.Native.Nat.{ℕ, _-_, _*_, _/_, _≤_, _<_, min};

@@ -24,7 +24,7 @@ use Rattle.pass_queue.specs.Queue.{best}
 use Rattle.est_times.specs.declared.Sheet.the-variants.{Made}
 use Rattle.est_times.specs.Sheet.{Job, stopped, finished, job, reportOf, answered, floatsAs, numbersAs}
 use Rattle.listing.specs.Listing.{sheetText, refusedText}
-use Rattle.fields.specs.Below as BelowOf
+use Rattle.laws.specs.Below as BelowOf
 use Rattle.fields.specs.Fields as FieldsOf
 use Rattle.floats.specs.Floats as FloatsOf
 use Rattle.space.specs.Space as SpaceOf

@@ -9,8 +9,8 @@ use lib.Dec.{eqb}
 use lib.ListN.{length, getD, set, length-set}
 use lib.Seq.{getD-set-same, getD-set-other}
 use borrow.Author.Tests.{ne-eqb}
-use Rattle.fields.specs.Below.{someBelow}
-use Rattle.fields.proofs.Below.{some-more, or-right, some-at, none-all}
+use Rattle.laws.specs.Below.{someBelow}
+use Rattle.laws.proofs.Below.{some-more, or-right, some-at, none-all}
 use Rattle.net_node.specs.declared.EstType.{EstType}
 use Rattle.net_node.specs.declared.EstType.the-variants.{Arrive, Clear, Fake}
 use Rattle.net_node.specs.declared.LinkEvent.{LinkEvent}

@@ -7,12 +7,12 @@ use borrow.Author.Tests.{lt-ltb, le-ltb}
 use lib.ListN.{getD}
 use lib.Ieee.{Float}
 use Rattle.net_node.specs.declared.TimedEvent.{TimedEvent}
-use Rattle.net_node.specs.Table.{nodeAt}
+use Rattle.net_node.specs.Table.{nodeAt, Table, at}
 use Rattle.net_insertion.specs.declared.Place.{Place}
 use Rattle.net_insertion.specs.declared.Seek.{Seek}
 use Rattle.net_insertion.specs.declared.Seek.the-variants.{Open, Match, Split}
 use Rattle.net_insertion.specs.declared.Inserted.the-variants.{Added, Moved, Refused}
-use Rattle.net_insertion.specs.Insertion.{Table, at, seek, addBehind, splitAt, placeAt, addedAs, insertedAs, tableAs, inserted, insertedTable, flagged}
+use Rattle.net_insertion.specs.Insertion.{seek, addBehind, splitAt, placeAt, addedAs, insertedAs, tableAs, inserted, insertedTable, flagged}
 
 pub flagged-set : (cells : List ℕ) (base i : ℕ) → 0 < getD cells (base + i * 8) 0 → flagged cells base i ≡ true
 unfolding flagged

@@ -9,11 +9,11 @@ use Rattle.net_node.specs.declared.EstType.{EstType}
 use Rattle.net_node.specs.declared.EstType.the-variants.{Arrive, Clear, Fake}
 use Rattle.net_node.specs.declared.EstTime.{EstTime}
 use Rattle.net_node.specs.declared.TimedEvent.{TimedEvent}
-use Rattle.net_node.specs.Table.{kindNumber, sameEvent, nodeAt, putFloats, putNumbers}
+use Rattle.net_node.specs.Table.{kindNumber, sameEvent, nodeAt, putFloats, putNumbers, Table, at}
 use Rattle.net_insertion.specs.declared.Place.{Place}
 use Rattle.net_insertion.specs.declared.Seek.the-variants.{Match, Split}
 use Rattle.net_insertion.specs.declared.Inserted.the-variants.{Added, Moved, Refused}
-use Rattle.net_insertion.specs.Insertion.{Table, linkedTo, eventNode, splitFake, alternating, at, addBehind, splitAt, placeAt, soughtIn, inserted, insertedTable}
+use Rattle.net_insertion.specs.Insertion.{linkedTo, eventNode, splitFake, alternating, addBehind, splitAt, placeAt, soughtIn, inserted, insertedTable}
 
 abbrev 0s : Float
 0s = ofBits binary64 0

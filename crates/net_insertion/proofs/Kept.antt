@@ -10,13 +10,13 @@ use lib.Dec.{ltb}
 use lib.Ieee.{Float}
 use Rattle.net_node.specs.declared.EstTime.{EstTime}
 use Rattle.net_node.specs.declared.TimedEvent.{TimedEvent}
-use Rattle.net_node.specs.Table.{nodeAt, Indexed}
+use Rattle.net_node.specs.Table.{nodeAt, Indexed, Table, at}
 use Rattle.net_insertion.specs.declared.Place.{Place}
 use Rattle.net_insertion.specs.declared.Seek.{Seek}
 use Rattle.net_insertion.specs.declared.Seek.the-variants.{Open, Match, Split}
 use Rattle.net_insertion.specs.declared.Inserted.{Inserted}
 use Rattle.net_insertion.specs.declared.Inserted.the-variants.{Added, Moved, Refused}
-use Rattle.net_insertion.specs.Insertion.{Table, at, matches, linkedTo, eventNode, splitFake, alternating, addBehind, splitAt, placeAt, addedAs, insertedAs, tableAs, soughtIn, inserted, insertedTable, InsertedInto}
+use Rattle.net_insertion.specs.Insertion.{matches, linkedTo, eventNode, splitFake, alternating, addBehind, splitAt, placeAt, addedAs, insertedAs, tableAs, soughtIn, inserted, insertedTable, InsertedInto}
 use Rattle.net_insertion.proofs.Seeking.{Found, sought-found}
 use Rattle.net_insertion.proofs.Puts.{RoomIn, add-found, add-new, add-indexed, add-other, add-room, split-found, split-new, split-indexed, split-other, split-room}
 

@@ -10,10 +10,10 @@ use lib.Dec.{eqb}
 use lib.Ieee.{Float}
 use Rattle.net_node.specs.declared.EstTime.{EstTime}
 use Rattle.net_node.specs.declared.TimedEvent.{TimedEvent}
-use Rattle.net_node.specs.Table.{nodeAt, putFloats, putNumbers, Room, Indexed}
+use Rattle.net_node.specs.Table.{nodeAt, putFloats, putNumbers, Room, Indexed, Table, put, at}
 use Rattle.net_node.proofs.Nodes.{node-put-same, node-put-other, length-put-floats, length-put-numbers}
 use Rattle.net_insertion.specs.declared.Place.{Place}
-use Rattle.net_insertion.specs.Insertion.{Table, put, at, linkedTo, eventNode, splitFake, alternating, addBehind, splitAt}
+use Rattle.net_insertion.specs.Insertion.{linkedTo, eventNode, splitFake, alternating, addBehind, splitAt}
 
 abbrev pub RoomIn : Table → ℕ → Type 0
 RoomIn t places = Room (t .floats) (t .numbers) places

@@ -10,7 +10,7 @@ use lib.Ieee.{Float, binary64, sub, lt}
 use Rattle.floats.specs.Floats.{gap}
 use Rattle.net_node.specs.declared.EstTime.{EstTime}
 use Rattle.net_node.specs.declared.TimedEvent.{TimedEvent}
-use Rattle.net_node.specs.Table.{nodeAt, putFloats, putNumbers, sameEvent, blank}
+use Rattle.net_node.specs.Table.{Table, put, at, sameEvent, blank}
 use Rattle.net_insertion.specs.declared.Place.{Place}
 use Rattle.net_insertion.specs.declared.Seek.{Seek}
 use Rattle.net_insertion.specs.declared.Seek.the-variants.{Open, Match, Split}
@@ -100,16 +100,6 @@ alternating n alt = record {
 }
 
 -- ---- the table afterwards
-
-pub record Table : Type 0 where
-  pub floats : List Float
-  pub numbers : List ℕ
-
-unfoldable pub put : Table → ℕ → EstTime → Table
-put t i n = record { floats = putFloats (t .floats) i n; numbers = putNumbers (t .numbers) i n }
-
-unfoldable pub at : Table → ℕ → EstTime
-at t i = nodeAt (t .floats) (t .numbers) i
 
 -- the event added as node k behind node i
 unfoldable pub addBehind : Table → ℕ → ℕ → TimedEvent → Table

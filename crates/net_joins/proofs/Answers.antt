@@ -14,8 +14,7 @@ use Rattle.net_node.specs.declared.EstType.the-variants.{Arrive, Clear, Fake}
 use Rattle.net_node.specs.declared.LinkEvent.{LinkEvent}
 use Rattle.net_node.specs.declared.EstTime.{EstTime}
 use Rattle.net_node.specs.declared.TimedEvent.{TimedEvent}
-use Rattle.net_node.specs.Table.{Room, Indexed}
-use Rattle.net_insertion.specs.Insertion.{Table}
+use Rattle.net_node.specs.Table.{Room, Indexed, Table}
 use Rattle.net_event_map.specs.declared.Layout.{Layout}
 use Rattle.net_event_map.specs.EventMap.{seenIn, eventNodes, arriveAt, CellsApart, Mapped}
 use Rattle.net_event_map.proofs.Chains.{arrive-is}

@@ -4,14 +4,14 @@ use mathlib.Core.List.{List, [], _∷_}
 use mathlib.Core.Option.{Option, some}
 use Prim.Native.Nat.{ℕ}
 use lib.Ieee.{Float, binary64, sub, lt, ofBits}
-use Rattle.fields.specs.Below.{someBelow}
+use Rattle.laws.specs.Below.{someBelow}
 use Rattle.floats.specs.Floats.{gap}
 use Rattle.net_node.specs.declared.EstType.{EstType}
 use Rattle.net_node.specs.declared.EstType.the-variants.{Arrive, Clear, Fake}
 use Rattle.net_node.specs.declared.EstTime.{EstTime}
 use Rattle.net_node.specs.declared.TimedEvent.{TimedEvent}
-use Rattle.net_node.specs.Table.{kindNumber, sameEvent, nodeAt, putFloats, putNumbers, noLinkEvent, blank}
-use Rattle.net_insertion.specs.Insertion.{Table, at, linkedTo}
+use Rattle.net_node.specs.Table.{kindNumber, sameEvent, nodeAt, putFloats, putNumbers, noLinkEvent, blank, Table, at}
+use Rattle.net_insertion.specs.Insertion.{linkedTo}
 use Rattle.net_event_map.specs.EventMap.{seenIn, eventNodes}
 use Rattle.net_strands.specs.declared.EstJoinPath.{EstJoinPath}
 use Rattle.net_strands.specs.Entries.{entry, push}

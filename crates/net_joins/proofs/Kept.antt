@@ -15,8 +15,8 @@ use Rattle.net_node.specs.declared.EstType.the-variants.{Fake}
 use Rattle.net_node.specs.declared.LinkEvent.{LinkEvent}
 use Rattle.net_node.specs.declared.EstTime.{EstTime}
 use Rattle.net_node.specs.declared.TimedEvent.{TimedEvent}
-use Rattle.net_node.specs.Table.{Indexed}
-use Rattle.net_insertion.specs.Insertion.{Table, put, at, linkedTo}
+use Rattle.net_node.specs.Table.{Indexed, Table, put, at}
+use Rattle.net_insertion.specs.Insertion.{linkedTo}
 use Rattle.net_insertion.proofs.Puts.{RoomIn, put-room, put-same, put-other, Fits, fits-at, fits-indexed, either}
 use Rattle.net_event_map.specs.declared.Layout.{Layout}
 use Rattle.net_event_map.specs.EventMap.{seenIn, eventNodes, Mapped}

@@ -5,8 +5,8 @@ use Prim.Native.Nat.{ℕ, _-_}
 use lib.Ieee.{Float}
 use Rattle.net_node.specs.declared.EstTime.{EstTime}
 use Rattle.net_node.specs.declared.TimedEvent.{TimedEvent}
-use Rattle.net_node.specs.Table.{nodeAt, putFloats, putNumbers}
-use Rattle.net_insertion.specs.Insertion.{Table, put, at, linkedTo}
+use Rattle.net_node.specs.Table.{nodeAt, putFloats, putNumbers, Table, put, at}
+use Rattle.net_insertion.specs.Insertion.{linkedTo}
 use Rattle.net_joins.specs.Joins.{chainEnd, joinedBy, joinFake, joinAt, joinedTable}
 
 abbrev pub lists : List Float → List ℕ → Table

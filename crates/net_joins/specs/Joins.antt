@@ -10,8 +10,8 @@ use Rattle.floats.specs.Floats.{gap}
 use Rattle.net_node.specs.declared.LinkEvent.{LinkEvent}
 use Rattle.net_node.specs.declared.EstTime.{EstTime}
 use Rattle.net_node.specs.declared.TimedEvent.{TimedEvent}
-use Rattle.net_node.specs.Table.{sameEvent, blank}
-use Rattle.net_insertion.specs.Insertion.{Table, put, at, linkedTo}
+use Rattle.net_node.specs.Table.{sameEvent, blank, Table, put, at}
+use Rattle.net_insertion.specs.Insertion.{linkedTo}
 use Rattle.net_event_map.specs.EventMap.{seenIn, eventNodes}
 use Rattle.net_strands.specs.declared.EstJoinPath.{EstJoinPath}
 use Rattle.net_strands.specs.Entries.{entry, push, andThen, entriesIn}

@@ -1,6 +1,6 @@
 -- A node table in two lent slices, document 01: "Each node is read and written as one record of four floats (time, time to next, distance to next, speed), four indices, and its event,
 -- which holds the link and the kind: Arrive 0, Clear 1, Fake 2." Node i has 4 floats from 4 i and 6 numbers from 6 i on. Everything above this file goes by the laws of proofs/Nodes.antt.
-use mathlib.Core.Bool.{Bool, _&&_}
+use mathlib.Core.Bool.{Bool, true, false, _&&_}
 use mathlib.Core.List.{List}
 use Prim.Native.Nat.{ℕ, zero, suc, _+_, _*_, _≤_, _<_}
 use lib.Dec.{eqb}
@@ -21,6 +21,15 @@ abbrev pub kindOf : ℕ → EstType
 kindOf zero = Arrive
 kindOf (suc zero) = Clear
 kindOf (suc (suc n)) = Fake
+
+-- whether a kind is a Fake's, and a node
+abbrev pub fakeKind : EstType → Bool
+fakeKind Arrive = false
+fakeKind Clear = false
+fakeKind Fake = true
+
+abbrev pub isFake : EstTime → Bool
+isFake x = fakeKind (x .«link_event» .«est_type»)
 
 -- "Events are equal when link and kind are."
 unfoldable pub sameKind : EstType → EstType → Bool
@@ -51,6 +60,17 @@ putFloats fs i n = set (set (set (set fs (i * 4) (n .«time_sched»)) (i * 4 + 1
 unfoldable pub putNumbers : List ℕ → ℕ → EstTime → List ℕ
 putNumbers us i n =
     set (set (set (set (set (set us (i * 6) (n .«idx_next»)) (i * 6 + 1) (n .«idx_next_alt»)) (i * 6 + 2) (n .«idx_prev»)) (i * 6 + 3) (n .«idx_prev_alt»)) (i * 6 + 4) (n .«link_event» .«link_idx»)) (i * 6 + 5) (kindNumber (n .«link_event» .«est_type»))
+
+-- a table: its two lists, a node of it, and the table after a node was written
+pub record Table : Type 0 where
+  pub floats : List Float
+  pub numbers : List ℕ
+
+unfoldable pub put : Table → ℕ → EstTime → Table
+put t i n = record { floats = putFloats (t .floats) i n; numbers = putNumbers (t .numbers) i n }
+
+unfoldable pub at : Table → ℕ → EstTime
+at t i = nodeAt (t .floats) (t .numbers) i
 
 -- "The blank node and the no-link event are named constants of their records": the source's defaults, with a time of 0, since untimed is a state of its own
 unfoldable pub noLinkEvent : LinkEvent

@@ -4,7 +4,7 @@ use mathlib.Core.Bool.{Bool, true, false}
 use Prim.Native.Nat.{ℕ, suc}
 use native.Mathlib.Omega.{arith}
 use lib.Ieee.{Float}
-use Rattle.net_insertion.specs.Insertion.{Table, at}
+use Rattle.net_node.specs.Table.{Table, at}
 use Rattle.pass_rules.specs.Checks.{row14}
 use Rattle.pass_rules.specs.Net.{Answer, fails, given, Pass}
 use Rattle.pass_rules.specs.Forward.{forward}

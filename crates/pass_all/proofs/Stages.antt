@@ -10,8 +10,7 @@ use lib.ListN.{length, getD}
 use lib.Ieee.{Float}
 use Rattle.space.specs.Space.{zeros}
 use Rattle.space.proofs.Zeros.{zero-at}
-use Rattle.net_node.specs.Table.{nodeAt, Room}
-use Rattle.net_insertion.specs.Insertion.{Table, at}
+use Rattle.net_node.specs.Table.{nodeAt, Room, Table, at}
 use Rattle.pass_rules.specs.Checks.{row14}
 use Rattle.pass_rules.specs.Net.{Answer, fails, given, Pass}
 use Rattle.pass_rules.specs.Forward.{forward}

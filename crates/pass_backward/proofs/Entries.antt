@@ -8,8 +8,7 @@ use native.Mathlib.Omega.{arith}
 use lib.ListN.{length, set}
 use lib.Ieee.{Float, binary64, sub, isNan}
 use Rattle.net_node.specs.declared.EstTime.{EstTime}
-use Rattle.net_node.specs.Table.{nodeAt}
-use Rattle.net_insertion.specs.Insertion.{at}
+use Rattle.net_node.specs.Table.{nodeAt, at}
 use Rattle.pass_queue.specs.declared.Entry.{Entry}
 use Rattle.pass_rules.specs.Net.{Answer, Pass, setTime}
 use Rattle.pass_rules.specs.Backward.{queued, enqueue, passed, alternatedBy}

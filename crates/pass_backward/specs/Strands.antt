@@ -2,7 +2,7 @@
 use mathlib.Core.Bool.{not}
 use Prim.Native.Nat.{ℕ}
 use lib.Ieee.{Float}
-use Rattle.net_insertion.specs.Insertion.{at}
+use Rattle.net_node.specs.Table.{at}
 use Rattle.pass_rules.specs.Net.{Answer, given, andThen, asserting, Pass}
 use Rattle.pass_rules.specs.Backward.{At, relinkWalk, relinked}
 

@@ -8,8 +8,7 @@ use native.Mathlib.Omega.{arith}
 use lib.ListN.{length, set}
 use lib.Ieee.{Float, binary64, add, ofBits, isNan}
 use Rattle.net_node.specs.declared.EstTime.{EstTime}
-use Rattle.net_node.specs.Table.{nodeAt}
-use Rattle.net_insertion.specs.Insertion.{Table, at}
+use Rattle.net_node.specs.Table.{nodeAt, Table, at}
 use Rattle.pass_rules.specs.Net.{Answer, Pass, setTime}
 use Rattle.pass_rules.specs.Forward.{timeNext, queued, enqueue, timed, alternatedBy}
 use Rattle.pass_state.specs.declared.Passed.{Passed}

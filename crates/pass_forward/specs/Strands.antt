@@ -2,8 +2,8 @@
 use mathlib.Core.Bool.{not}
 use Prim.Native.Nat.{ℕ}
 use lib.Ieee.{binary64, ofBits}
+use Rattle.net_node.specs.Table.{Table, at}
 use Rattle.pass_queue.specs.declared.Entry.{Entry}
-use Rattle.net_insertion.specs.Insertion.{Table, at}
 use Rattle.pass_rules.specs.Net.{Answer, given, andThen, asserting, Pass}
 use Rattle.pass_rules.specs.Forward.{At, timeNext, relinkWalk, relinked}
 

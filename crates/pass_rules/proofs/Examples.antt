@@ -5,12 +5,10 @@ use mathlib.Core.List.{List, [], _∷_}
 use Prim.Native.Nat.{ℕ, zero, suc}
 use lib.Ieee.{Float, binary64, ofBits, toBits, add, sub, lt, le, eq, round, sum, isNan, neg, below, level}
 use Rattle.net_node.specs.declared.EstTime.{EstTime}
-use Rattle.net_node.specs.Table.{kindNumber}
-use Rattle.net_insertion.specs.Insertion.{Table}
+use Rattle.net_node.specs.Table.{kindNumber, Table, at}
 use Rattle.pass_rules.specs.Passes.{Timed, refused, timedAs}
-use Rattle.fields.specs.Below.{someBelow}
+use Rattle.laws.specs.Below.{someBelow}
 use Rattle.net_node.specs.Table.{nodeAt}
-use Rattle.net_insertion.specs.Insertion.{at}
 use Rattle.pass_queue.specs.Queue.{byBits, beforeForward, beforeBackward, before, best, others}
 use Rattle.pass_rules.specs.Passes.{someLeft, allZero, passes}
 use Rattle.pass_rules.specs.Checks.{prevHolds, nextHolds, fakeHolds, prevLeads, nextLeads, notBothAlternates, nodeHolds, row14}

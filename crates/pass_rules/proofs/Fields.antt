@@ -7,8 +7,7 @@ use lib.ListN.{getD, set, length-set}
 use lib.Seq.{getD-set-same, getD-set-other}
 use lib.Ieee.{Float, nan}
 use Rattle.net_node.specs.declared.EstTime.{EstTime}
-use Rattle.net_node.specs.Table.{nodeAt, kindOf}
-use Rattle.net_insertion.specs.Insertion.{Table, at}
+use Rattle.net_node.specs.Table.{nodeAt, kindOf, Table, at}
 use Rattle.net_insertion.proofs.Puts.{RoomIn}
 use Rattle.pass_rules.specs.Net.{setTime, setNext, setPrev, setArc}
 

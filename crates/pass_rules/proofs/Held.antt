@@ -5,13 +5,13 @@ use Prim.Native.Nat.{ℕ, _+_, _-_, _≤_, _<_}
 use native.Mathlib.Omega.{arith}
 use lib.Dec.{eqb, leb, ltb}
 use borrow.Author.Tests.{ltb-true, lt-leb, ne-eqb}
-use Rattle.fields.specs.Below.{someBelow}
-use Rattle.fields.proofs.Below.{some-at, none-more}
+use Rattle.laws.specs.Below.{someBelow}
+use Rattle.laws.proofs.Below.{some-at, none-more}
 use Rattle.net_node.specs.declared.EstType.{EstType}
 use Rattle.net_node.specs.declared.EstType.the-variants.{Arrive, Clear, Fake}
 use Rattle.net_node.specs.declared.EstTime.{EstTime}
-use Rattle.net_node.specs.Table.{kindNumber}
-use Rattle.pass_rules.specs.Checks.{fakeKind, isFake, differ, prevHolds, nextHolds, fakeHolds, prevLeads, nextLeads, notBothAlternates, nodeHolds, row14}
+use Rattle.net_node.specs.Table.{kindNumber, fakeKind, isFake}
+use Rattle.pass_rules.specs.Checks.{differ, prevHolds, nextHolds, fakeHolds, prevLeads, nextLeads, notBothAlternates, nodeHolds, row14}
 use Rattle.pass_rules.specs.Plain.{plain}
 
 pub fake-number : (k : EstType) → eqb (kindNumber k) 2 ≡ fakeKind k

@@ -8,9 +8,7 @@ use lib.Dec.{eqb, ltb}
 use lib.ListN.{getD}
 use lib.Ieee.{Float}
 use Rattle.net_node.specs.declared.EstTime.{EstTime}
-use Rattle.net_node.specs.Table.{nodeAt}
-use Rattle.net_insertion.specs.Insertion.{Table, at}
-use Rattle.pass_rules.specs.Checks.{fakeKind}
+use Rattle.net_node.specs.Table.{nodeAt, Table, at, fakeKind}
 use Rattle.pass_rules.specs.Net.{Answer, fails, given, Pass}
 use Rattle.pass_rules.specs.Walks.{Inside, doneIn, passOf, ahead, endOf, passable, relinkWalk}
 use Rattle.pass_rules.specs.Forward as Forward

@@ -2,18 +2,9 @@
 use mathlib.Core.Bool.{Bool, true, false, not, _&&_, _||_}
 use Prim.Native.Nat.{ℕ, _-_}
 use lib.Dec.{eqb, leb}
-use Rattle.fields.specs.Below.{someBelow}
-use Rattle.net_node.specs.declared.EstType.{EstType}
-use Rattle.net_node.specs.declared.EstType.the-variants.{Arrive, Clear, Fake}
+use Rattle.laws.specs.Below.{someBelow}
 use Rattle.net_node.specs.declared.EstTime.{EstTime}
-
-abbrev pub fakeKind : EstType → Bool
-fakeKind Arrive = false
-fakeKind Clear = false
-fakeKind Fake = true
-
-abbrev pub isFake : EstTime → Bool
-isFake n = fakeKind (n .«link_event» .«est_type»)
+use Rattle.net_node.specs.Table.{isFake}
 
 -- one of two, not both and not neither
 abbrev pub differ : Bool → Bool → Bool

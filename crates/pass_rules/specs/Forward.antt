@@ -4,11 +4,10 @@ use mathlib.Core.List.{List, [], _∷_}
 use Prim.Native.Nat.{ℕ, zero, suc, _-_}
 use lib.Dec.{eqb}
 use lib.Ieee.{Float, binary64, add, ofBits, isNan}
+use Rattle.net_node.specs.Table.{Table, at, isFake}
 use Rattle.pass_queue.specs.declared.Entry.{Entry}
 use Rattle.pass_queue.specs.Queue.{best, others}
 use Rattle.net_node.specs.declared.EstTime.{EstTime}
-use Rattle.net_insertion.specs.Insertion.{Table, at}
-use Rattle.pass_rules.specs.Checks.{isFake}
 use Rattle.pass_rules.specs.Net.{Answer, fails, given, andThen, asserting, Pass, alsoDone, setTime, setNext, setPrev}
 
 -- `time_sched_next`: the time at which the next is reached

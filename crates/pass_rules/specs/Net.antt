@@ -5,8 +5,8 @@ use Prim.Native.Nat.{ℕ, _+_, _*_}
 use lib.Dec.{eqb}
 use lib.ListN.{set}
 use lib.Ieee.{Float}
+use Rattle.net_node.specs.Table.{Table}
 use Rattle.pass_queue.specs.declared.Entry.{Entry}
-use Rattle.net_insertion.specs.Insertion.{Table}
 
 -- an answer that may be refusal 15
 pub data Answer (A : Type 0) : Type 0 where

@@ -2,8 +2,8 @@
 use mathlib.Core.Bool.{Bool, true, false, not}
 use Prim.Native.Nat.{ℕ}
 use lib.Ieee.{Float, binary64, eq, ofBits}
-use Rattle.fields.specs.Below.{someBelow}
-use Rattle.net_insertion.specs.Insertion.{Table, at}
+use Rattle.net_node.specs.Table.{Table, at}
+use Rattle.laws.specs.Below.{someBelow}
 use Rattle.pass_rules.specs.Checks.{row14}
 use Rattle.pass_rules.specs.Net.{Answer, fails, given, Pass}
 use Rattle.pass_rules.specs.Forward.{forward}

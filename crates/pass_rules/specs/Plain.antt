@@ -2,8 +2,8 @@
 use mathlib.Core.Bool.{Bool, not, _&&_}
 use Prim.Native.Nat.{ℕ, _-_}
 use lib.Dec.{eqb, ltb}
+use Rattle.net_node.specs.Table.{isFake}
 use Rattle.net_node.specs.declared.EstTime.{EstTime}
-use Rattle.pass_rules.specs.Checks.{isFake}
 
 -- of the node numbered i among n, the one before it and the one after it
 unfoldable pub plain : EstTime → EstTime → EstTime → ℕ → ℕ → Bool

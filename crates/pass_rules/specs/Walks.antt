@@ -5,8 +5,8 @@ use mathlib.Core.List.{List, []}
 use Prim.Native.Nat.{ℕ, _+_, _-_, _<_}
 use lib.Dec.{ltb}
 use lib.ListN.{getD}
+use Rattle.net_node.specs.Table.{Table}
 use Rattle.net_node.specs.declared.EstTime.{EstTime}
-use Rattle.net_insertion.specs.Insertion.{Table}
 use Rattle.pass_rules.specs.Net.{Answer, fails, given, Pass}
 use Rattle.pass_rules.specs.Forward as Forward
 use Rattle.pass_rules.specs.Backward as Backward

@@ -5,8 +5,7 @@ use mathlib.Core.List.{List}
 use Prim.Native.Nat.{ℕ, _<_}
 use lib.Ieee.{Float}
 use Rattle.net_node.specs.declared.EstTime.{EstTime}
-use Rattle.net_node.specs.Table.{nodeAt}
-use Rattle.net_insertion.specs.Insertion.{Table, at}
+use Rattle.net_node.specs.Table.{nodeAt, Table, at}
 use Rattle.net_insertion.proofs.Puts.{RoomIn}
 use Rattle.pass_rules.specs.Net.{setTime, setNext, setPrev, setArc}
 use Rattle.pass_rules.specs.Walks.{Inside}

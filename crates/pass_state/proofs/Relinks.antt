@@ -9,8 +9,7 @@ use borrow.Author.Tests.{eq-eqb, ne-eqb}
 use lib.Dec.{eqb}
 use lib.Ieee.{Float}
 use Rattle.net_node.specs.declared.EstTime.{EstTime}
-use Rattle.net_node.specs.Table.{nodeAt}
-use Rattle.net_insertion.specs.Insertion.{Table, at}
+use Rattle.net_node.specs.Table.{nodeAt, Table, at}
 use Rattle.pass_rules.specs.declared.Walked.{Walked}
 use Rattle.pass_rules.specs.declared.Walked.the-variants.{Found, Endless}
 use Rattle.pass_rules.specs.Net.{Answer, fails, given, andThen, asserting, Pass}

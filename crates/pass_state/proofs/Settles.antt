@@ -10,10 +10,8 @@ use lib.Dec.{eqb}
 use lib.ListN.{length}
 use lib.Ieee.{Float, isNan}
 use Rattle.net_node.specs.declared.EstTime.{EstTime}
-use Rattle.net_node.specs.Table.{nodeAt}
-use Rattle.net_insertion.specs.Insertion.{at}
+use Rattle.net_node.specs.Table.{nodeAt, at, fakeKind, isFake}
 use Rattle.pass_queue.specs.declared.Entry.{Entry}
-use Rattle.pass_rules.specs.Checks.{fakeKind, isFake}
 use Rattle.pass_rules.specs.Net.{Answer, given, asserting, Pass}
 use Rattle.pass_rules.specs.Backward.{queued}
 use Rattle.pass_rules.specs.Walks.{doneIn}

@@ -8,8 +8,7 @@ use lib.ListN.{length, set}
 use lib.Ieee.{Float, isNan}
 use mathlib.Core.Bool.{_||_}
 use Rattle.net_node.specs.declared.EstTime.{EstTime}
-use Rattle.net_node.specs.Table.{nodeAt}
-use Rattle.net_insertion.specs.Insertion.{Table, at}
+use Rattle.net_node.specs.Table.{nodeAt, Table, at}
 use Rattle.pass_queue.specs.declared.Entry.{Entry}
 use Rattle.pass_rules.specs.Net.{Answer, fails, given, andThen, asserting, Pass, setTime}
 use Rattle.pass_rules.specs.Backward.{queued}

@@ -9,9 +9,7 @@ use lib.Dec.{eqb}
 use lib.ListN.{length}
 use lib.Ieee.{Float}
 use Rattle.net_node.specs.declared.EstTime.{EstTime}
-use Rattle.net_node.specs.Table.{nodeAt}
-use Rattle.net_insertion.specs.Insertion.{at}
-use Rattle.pass_rules.specs.Checks.{fakeKind, isFake}
+use Rattle.net_node.specs.Table.{nodeAt, at, fakeKind, isFake}
 use Rattle.pass_rules.specs.Net.{Answer, fails, given, andThen, Pass}
 use Rattle.pass_rules.specs.Walks.{doneIn}
 use Rattle.pass_state.specs.declared.Stands.{Stands}

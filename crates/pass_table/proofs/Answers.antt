@@ -7,8 +7,8 @@ use native.Mathlib.Nat.{sub-zero}
 use native.Mathlib.Omega.{arith}
 use lib.ListN.{length, take}
 use lib.Ieee.{Float}
+use Rattle.net_node.specs.Table.{Table}
 use Rattle.space.specs.Space.{unitsOf, bytesOf, zeros, zeroFloats}
-use Rattle.net_insertion.specs.Insertion.{Table}
 use Rattle.pass_rules.specs.Passes.{Timed, refused, timedAs, passes}
 use Rattle.pass_all.specs.Answers.{timedNumber, TimedInto}
 use Rattle.pass_all.proofs.Proper.{Proper, passes-proper}

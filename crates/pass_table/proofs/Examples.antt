@@ -3,11 +3,10 @@ use mathlib.Core.Path.{_≡_, refl}
 use mathlib.Core.List.{List, [], _∷_}
 use Prim.Native.Nat.{ℕ}
 use lib.Ieee.{Float, nan, binary64, ofBits, ofInt, le, lt, eq, round}
-use Rattle.fields.specs.Below.{someBelow}
+use Rattle.laws.specs.Below.{someBelow}
 use Rattle.floats.specs.Floats.{billion, tableFloat}
 use Rattle.book_format.specs.Rows.{lowest}
-use Rattle.net_node.specs.Table.{nodeAt}
-use Rattle.net_insertion.specs.Insertion.{Table, at}
+use Rattle.net_node.specs.Table.{nodeAt, Table, at}
 use Rattle.pass_rules.specs.Checks.{prevHolds, nextHolds, fakeHolds, prevLeads, nextLeads, notBothAlternates, nodeHolds, row14}
 use Rattle.pass_rules.specs.Passes.{passes}
 use Rattle.pass_all.specs.Answers.{timedNumber}

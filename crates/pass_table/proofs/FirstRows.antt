@@ -9,14 +9,13 @@ use lib.Dec.{ltb, leb}
 use lib.ListN.{length, getD, take}
 use lib.Seq.{length-take-le}
 use lib.Ieee.{Float}
-use Rattle.fields.specs.Below.{someBelow}
-use Rattle.fields.proofs.Below.{or-left, none-left, none-right, some-more, none-more, some-at, none-at}
+use Rattle.laws.specs.Below.{someBelow}
+use Rattle.laws.proofs.Below.{or-left, none-left, none-right, some-more, none-more, some-at, none-at}
 use Rattle.floats.specs.Floats.{tableFloat}
 use Rattle.space.specs.Space.{unitsOf, bytesOf}
 use Rattle.book_format.specs.Rows.{lowest}
 use Rattle.net_node.specs.declared.EstTime.{EstTime}
-use Rattle.net_node.specs.Table.{nodeAt, Room}
-use Rattle.net_insertion.specs.Insertion.{Table, at}
+use Rattle.net_node.specs.Table.{nodeAt, Room, Table, at}
 use Rattle.pass_rules.specs.Walks.{Inside}
 use Rattle.pass_table.specs.declared.TimedTable.{TimedTable}
 use Rattle.pass_table.specs.declared.TimedTable.the-variants.{Whole, Refused}

@@ -3,9 +3,9 @@ use mathlib.Core.Bool.{Bool, true, false}
 use mathlib.Core.List.{[], _∷_}
 use Prim.Native.Nat.{ℕ, zero, suc}
 use lib.Ieee.{Float}
-use Rattle.fields.specs.Below.{someBelow}
+use Rattle.net_node.specs.Table.{Table}
+use Rattle.laws.specs.Below.{someBelow}
 use Rattle.book_format.specs.Rows.{lowest}
-use Rattle.net_insertion.specs.Insertion.{Table}
 use Rattle.pass_table.specs.declared.TimedTable.{TimedTable}
 use Rattle.pass_table.specs.declared.TimedTable.the-variants.{Whole, Refused}
 use Rattle.pass_table.specs.TableEntry.{tableRow3, tableRow4, tableRow5, badNode}

@@ -6,12 +6,12 @@ use Prim.Native.Nat.{ℕ, zero, suc, _+_, _-_, _*_, _/_, min}
 use lib.Dec.{ltb, leb}
 use lib.ListN.{length, getD, take}
 use lib.Ieee.{Float}
-use Rattle.fields.specs.Below.{someBelow}
+use Rattle.net_node.specs.Table.{Table, at}
+use Rattle.laws.specs.Below.{someBelow}
 use Rattle.floats.specs.Floats.{tableFloat}
 use Rattle.space.specs.Space.{zeros, zeroFloats}
 use Rattle.book_format.specs.Rows.{lowest}
 use Rattle.net_node.specs.declared.EstTime.{EstTime}
-use Rattle.net_insertion.specs.Insertion.{Table, at}
 use Rattle.pass_rules.specs.Passes.{Timed, refused, timedAs, passes}
 use Rattle.pass_table.specs.declared.TimedTable.{TimedTable}
 use Rattle.pass_table.specs.declared.TimedTable.the-variants.{Whole, Refused}

@@ -8,7 +8,7 @@ use lib.ListN.{length}
 use lib.Ieee.{Float}
 use Rattle.space.specs.Space.{bytesOf}
 use Rattle.net_node.specs.Table.{nodeAt}
-use Rattle.grow_book.specs.declared.Report.{Report}
+use Rattle.report.specs.declared.Report.{Report}
 use Rattle.est_times.specs.declared.Sheet.{Sheet}
 use Rattle.est_times.specs.declared.Sheet.the-variants.{Made, Refused}
 use Rattle.est_times.specs.Sheet.{Job, stopped, finished, job, reportOf, answered, floatsAs, numbersAs}

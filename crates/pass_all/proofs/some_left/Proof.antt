@@ -5,7 +5,7 @@ use mathlib.Core.List.{List}
 use Prim.Native.Nat.{ℕ, _-_, _≤_}
 use native.Mathlib.Omega.{arith}
 use borrow.Author.Needs.{needs}
-use Rattle.fields.specs.Below.{someBelow}
+use Rattle.laws.specs.Below.{someBelow}
 use Rattle.pass_all.proofs.Sweeps.{notDone, left-start, left-on, left-end}
 use Rattle.pass_all.proofs.some_left.Statement.{statement}
 use Rattle.pass_all.proofs.some_left.Tie as tie
