@@ -73,7 +73,7 @@ module _ (node other : ℕ → EstTime) (n : ℕ) (ag : Agree n node other) (w :
   unfolding closestOf closer
   closest-same speed c [] l = refl
   closest-same speed c (x ∷ es) l =
-      ap (λ (y : EstTime). closestOf other speed (closerAs (eqb (x .«link_idx_match») 0 && lt (gap (y .speed) speed) (c .gap)) c (gap (y .speed) speed) (x .«est_idx_next»)) es) (ag (x .«est_idx_next») (l .0))
+      ap (λ (y : EstTime). closestOf other speed (closerAs (eqb (x .«link_idx_match») 0 && lt (gap (y .speed) speed) (c .«speed_diff_join»)) c (gap (y .speed) speed) (x .«est_idx_next»)) es) (ag (x .«est_idx_next») (l .0))
       ∙ closest-same speed (closer node speed c x) es (l .1)
 
   -- ---- the list rebuilt

@@ -119,10 +119,10 @@ module _ {L : Labels} {places : ℕ} {net : Net} (others : ℕ) (g : Grows L pla
   pub insert-alike : Both (AlikeAfter others) (insertEvent places limit net run e) (insertEvent others limit (withTable net u) run e)
   unfolding insertEvent inserted insertedTable soughtIn
   insert-alike =
-      subst (λ s. Both (AlikeAfter others) (insertedRun net run e (tableAs (seek n (at t) limit e p) t n (run .place) e) (Insertion.insertedRun (seek n (at t) limit e p) n places ends e))
-      (insertedRun (withTable net u) run e (tableAs s u n (run .place) e) (Insertion.insertedRun s n others ends e))) (sym (seek-same (at t) (at u) n ag (g .body .indexed) n limit e p (s .within)))
+      subst (λ s. Both (AlikeAfter others) (insertedRun net run e (tableAs (seek n (at t) limit e p) t n (run .place) e) (Insertion.insertedAs (seek n (at t) limit e p) n places ends e))
+      (insertedRun (withTable net u) run e (tableAs s u n (run .place) e) (Insertion.insertedAs s n others ends e))) (sym (seek-same (at t) (at u) n ag (g .body .indexed) n limit e p (s .within)))
       (search-reaches (λ (k i : ℕ). seek k (at t) limit e i) found
-      (λ s. Both (AlikeAfter others) (insertedRun net run e (tableAs s t n (run .place) e) (Insertion.insertedRun s n places ends e)) (insertedRun (withTable net u) run e (tableAs s u n (run .place) e) (Insertion.insertedRun s n others ends e)))
+      (λ s. Both (AlikeAfter others) (insertedRun net run e (tableAs s t n (run .place) e) (Insertion.insertedAs s n places ends e)) (insertedRun (withTable net u) run e (tableAs s u n (run .place) e) (Insertion.insertedAs s n others ends e)))
       (g .body .graph .laid) limit e p
       (λ k i. seek-turn k (at t) limit e i)
       (λ i b c later r q. behind i (r .within) (ltb n places) (ltb n others) (ends i) refl refl)

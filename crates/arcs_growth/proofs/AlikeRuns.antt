@@ -70,7 +70,7 @@ module _ {L : Labels} {places : ℕ} {net : Net} (others : ℕ) (g : Grows L pla
 
   relisted : (es : List EstJoinPath) → Listed n es → Stands L net (withJoins run es)
   unfolding withJoins
-  relisted es l = record { within = s .within; self = s .self; holds = s .holds; withJoins = l }
+  relisted es l = record { within = s .within; self = s .self; holds = s .holds; listed = l }
 
   -- by what is chosen, which is the same for both but for the room
   chosen-alike : (a r q : Bool) (target : ℕ) (list : Option (List EstJoinPath)) → ltb n others ≡ q → Stepped (at t) n places (e .«link_event») (chosenAs a r target list)
@@ -86,21 +86,21 @@ module _ {L : Labels} {places : ℕ} {net : Net} (others : ℕ) (g : Grows L pla
   unfolding joinStep closest
   step-alike =
       subst (λ (x : Option (List EstJoinPath)). Both (AlikeOutcome others) (joinedAs places limit net run e (chosen (at t) n places limit e (rebuilt (at t) n (e .«link_event») (run .joins)))) (joinedAs others limit (withTable net u) run e (chosen (at u) n others limit e x)))
-      (sym (rebuilt-same (at t) (at u) n ag (g .body .indexed) (e .«link_event») (run .joins) (s .withJoins)))
-      (go (rebuilt (at t) n (e .«link_event») (run .joins)) (rebuilt-good (at t) n (e .«link_event») (g .body .indexed) (run .joins) (s .withJoins)) (step-right (at t) n places limit e (run .joins) (g .body .indexed) (s .withJoins)))
+      (sym (rebuilt-same (at t) (at u) n ag (g .body .indexed) (e .«link_event») (run .joins) (s .listed)))
+      (go (rebuilt (at t) n (e .«link_event») (run .joins)) (rebuilt-good (at t) n (e .«link_event») (g .body .indexed) (run .joins) (s .listed)) (step-right (at t) n places limit e (run .joins) (g .body .indexed) (s .listed)))
     where
       go : (x : Option (List EstJoinPath)) → Given (GoodAll (at t) n (e .«link_event»)) x → Stepped (at t) n places (e .«link_event») (chosen (at t) n places limit e x)
           → Both (AlikeOutcome others) (joinedAs places limit net run e (chosen (at t) n places limit e x)) (joinedAs others limit (withTable net u) run e (chosen (at u) n others limit e x))
       go none h k = tt
       go (some es) h k =
-          let c : SpeedJoin = record { gap = limit; node = 0 } in
+          let c : SpeedJoin = record { «speed_diff_join» = limit; «est_idx_join» = 0 } in
           let l : Listed n es = all-so (Good (at t) n (e .«link_event»)) (λ (x : EstJoinPath). x .«est_idx_next» < n) (λ x o. o .0) es h in
-          subst (λ (z : SpeedJoin). Both (AlikeOutcome others) (joinedAs places limit net run e (chosen (at t) n places limit e (some es))) (joinedAs others limit (withTable net u) run e (chosenAs (lt (z .gap) limit) (ltb n others) (z .node) (appended (at u) n (e .«link_event») es))))
+          subst (λ (z : SpeedJoin). Both (AlikeOutcome others) (joinedAs places limit net run e (chosen (at t) n places limit e (some es))) (joinedAs others limit (withTable net u) run e (chosenAs (lt (z .«speed_diff_join») limit) (ltb n others) (z .«est_idx_join») (appended (at u) n (e .«link_event») es))))
           (sym (closest-same (at t) (at u) n ag (g .body .indexed) (e .speed) c es l))
           (subst (λ (z : Option (List EstJoinPath)). Both (AlikeOutcome others) (joinedAs places limit net run e (chosen (at t) n places limit e (some es)))
-          (joinedAs others limit (withTable net u) run e (chosenAs (lt (closestOf (at t) (e .speed) c es .gap) limit) (ltb n others) (closestOf (at t) (e .speed) c es .node) z)))
+          (joinedAs others limit (withTable net u) run e (chosenAs (lt (closestOf (at t) (e .speed) c es .«speed_diff_join») limit) (ltb n others) (closestOf (at t) (e .speed) c es .«est_idx_join») z)))
           (sym (appended-same (at t) (at u) n ag (g .body .indexed) (e .«link_event») es))
-          (chosen-alike (lt (closestOf (at t) (e .speed) c es .gap) limit) (ltb n places) (ltb n others) (closestOf (at t) (e .speed) c es .node) (appended (at t) n (e .«link_event») es) refl k))
+          (chosen-alike (lt (closestOf (at t) (e .speed) c es .«speed_diff_join») limit) (ltb n places) (ltb n others) (closestOf (at t) (e .speed) c es .«est_idx_join») (appended (at t) n (e .«link_event») es) refl k))
 
   event-alike : Both (AlikeOutcome others) (runEvent places limit net run e) (runEvent others limit (withTable net u) run e)
   unfolding runEvent

@@ -154,13 +154,13 @@ module _ (node : ℕ → EstTime) (n : ℕ) (e : LinkEvent) where
 
   -- the best so far is the one that the source begins with, or has the event
   abbrev Best : Float → SpeedJoin → Type 0
-  Best limit c = (c .gap ≡ limit) ⊎ ((c .node < n) × (sameEvent (node (c .node) .«link_event») e ≡ true))
+  Best limit c = (c .«speed_diff_join» ≡ limit) ⊎ ((c .«est_idx_join» < n) × (sameEvent (node (c .«est_idx_join») .«link_event») e ≡ true))
 
   closest-of : (limit speed : Float) (c : SpeedJoin) (es : List EstJoinPath) → Best limit c → GoodAll es → Best limit (closestOf node speed c es)
   unfolding closestOf closer
   closest-of limit speed c [] b g = b
   closest-of limit speed c (x ∷ es) b g =
-      closest-of limit speed (closer node speed c x) es (go (eqb (x .«link_idx_match») 0) (lt (gap (node (x .«est_idx_next») .speed) speed) (c .gap)) refl) (g .1)
+      closest-of limit speed (closer node speed c x) es (go (eqb (x .«link_idx_match») 0) (lt (gap (node (x .«est_idx_next») .speed) speed) (c .«speed_diff_join»)) refl) (g .1)
     where
       go : (p q : Bool) → eqb (x .«link_idx_match») 0 ≡ p → Best limit (closerAs (p && q) c (gap (node (x .«est_idx_next») .speed) speed) (x .«est_idx_next»))
       go true true r = inr (g .0 .0, g .0 .1 (eqb-true (x .«link_idx_match») 0 r))
@@ -218,8 +218,8 @@ step-right node n places limit e old w l = go (rebuilt node n (e .«link_event»
     list none h = tt
     list (some es) h = h
 
-    choose : (es : List EstJoinPath) → GoodAll node n (e .«link_event») es → (c : SpeedJoin) → Best node n (e .«link_event») limit c → (a b : Bool) → lt (c .gap) limit ≡ a → ltb n places ≡ b
-        → Stepped node n places (e .«link_event») (chosenAs a b (c .node) (appended node n (e .«link_event») es))
+    choose : (es : List EstJoinPath) → GoodAll node n (e .«link_event») es → (c : SpeedJoin) → Best node n (e .«link_event») limit c → (a b : Bool) → lt (c .«speed_diff_join») limit ≡ a → ltb n places ≡ b
+        → Stepped node n places (e .«link_event») (chosenAs a b (c .«est_idx_join») (appended node n (e .«link_event») es))
     choose es g c (inl q) true b r s =
         let z : lt limit limit ≡ true = ap (λ (x : Float). lt x limit) (sym q) ∙ r in
         clash z (lt-asym limit limit z)
@@ -230,5 +230,5 @@ step-right node n places limit e old w l = go (rebuilt node n (e .«link_event»
     go : (x : Option (List EstJoinPath)) → Given (GoodAll node n (e .«link_event»)) x → Stepped node n places (e .«link_event») (chosen node n places limit e x)
     go none h = tt
     go (some es) h =
-        choose es h (closestOf node (e .speed) (record { gap = limit; node = 0 }) es) (closest-of node n (e .«link_event») limit (e .speed) (record { gap = limit; node = 0 }) es (inl refl) h)
-        (lt (closestOf node (e .speed) (record { gap = limit; node = 0 }) es .gap) limit) (ltb n places) refl refl
+        choose es h (closestOf node (e .speed) (record { «speed_diff_join» = limit; «est_idx_join» = 0 }) es) (closest-of node n (e .«link_event») limit (e .speed) (record { «speed_diff_join» = limit; «est_idx_join» = 0 }) es (inl refl) h)
+        (lt (closestOf node (e .speed) (record { «speed_diff_join» = limit; «est_idx_join» = 0 }) es .«speed_diff_join») limit) (ltb n places) refl refl

@@ -49,7 +49,7 @@ pub record Tip (net : Net) (run : Run) : Type 0 where
 
 abbrev pub Last : Net → List Run → Type 0
 Last net [] = Unit
-Last net (r ∷ rs) = (r .added ≡ true → Tip net r) × All (λ (s : Run). s .«has_split» ≡ false) rs
+Last net (r ∷ rs) = (r .«has_split» ≡ true → Tip net r) × All (λ (s : Run). s .«has_split» ≡ false) rs
 
 -- the runs
 pub record Waits (L : Labels) (net : Net) (runs : List Run) : Type 0 where

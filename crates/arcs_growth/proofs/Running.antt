@@ -112,7 +112,7 @@ relisted {net = net} {run = run} d list l = record {
   grows = d .grows;
   waits = record {
     owned = d .waits .owned;
-    stand = (record { within = s .within; self = s .self; holds = s .holds; withJoins = l }, d .waits .stand .1);
+    stand = (record { within = s .within; self = s .self; holds = s .holds; listed = l }, d .waits .stand .1);
     last = ((λ w. let t = d .waits .last .0 w in record { last = t .last; empty = t .empty; no-end = t .no-end }), d .waits .last .1);
   };
   at-event = record {
@@ -143,7 +143,7 @@ event-runs {b} {places} {net} {run} {saved} {e} {es} d real limit = go (run .«h
     steps tip (GoesOn list) h = inserting (relisted d list h) real limit
 
     go : (a : Bool) → run .«has_split» ≡ a → Holds (Came b places (run .leg) saved es) (eventAs a places limit net run e)
-    go true q = steps (d .waits .last .0 q) (joinStep (at (net .table)) (net .nodes) places limit e (run .joins)) (step-right (at (net .table)) (net .nodes) places limit e (run .joins) (d .grows .body .indexed) (d .waits .stand .0 .withJoins))
+    go true q = steps (d .waits .last .0 q) (joinStep (at (net .table)) (net .nodes) places limit e (run .joins)) (step-right (at (net .table)) (net .nodes) places limit e (run .joins) (d .grows .body .indexed) (d .waits .stand .0 .listed))
     go false q = inserting d real limit
 
 pub events-run : {b : List ℕ} {places : ℕ} {saved : List Run} (es : List TimedEvent) (a : After) → Running b places (a .net) (a .run) saved es → All Real es → (limit : Float)

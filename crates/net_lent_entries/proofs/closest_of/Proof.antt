@@ -42,7 +42,7 @@ use denote.Ref.{RefT}
 use denote.Slice.{ShrSlice, sliceTy, sliceVal, slice-vals, shr-slice-tells, shr-slice-lawful, shr-slice-copy}
 use denote.Index.{place-is, elem-out, elem-back, looks-slice, shuts-slice}
 use denote.Signature.{typesAt, plain, shrSlice}
-use denote.Steps.{owned, peeks, of-runs, nothing}
+use denote.Steps.{owned, peeks, heard, nothing}
 use denote.Struct.Laws as LL
 use denote.Triple.Statement.{Contract, Triple}
 use denote.Triple.Call.{calls-at}
@@ -61,7 +61,7 @@ use Rattle.net_strands.proofs.EstJoinPath as X
 use Rattle.net_strands.proofs.EstJoinPath.Laws as X′
 use Rattle.net_joins.specs.declared.SpeedJoin.{SpeedJoin}
 use Rattle.net_joins.specs.Joins.{closer, closestOf, closest}
-use Rattle.net_joins.proofs.Closest
+use Rattle.net_joins.proofs.SpeedJoin
 use Rattle.net_joins.proofs.SpeedJoin.Laws as B′
 use Rattle.net_lent_entries.proofs.closer_at as closer-at
 use Rattle.net_lent_entries.proofs.closer_at.Symbol as closer-at-def
@@ -101,7 +101,7 @@ record Upto (node : ℕ → EstTime) (join speed : Float) (xs : List EstJoinPath
   pub k : ℕ
   pub best : SpeedJoin
   pub at : Val
-  pub is : Is Closest.the-row best (at ∷ [])
+  pub is : Is SpeedJoin.the-row best (at ∷ [])
   pub within : k ≤ length xs
   pub left : closestOf node speed best (after k xs) ≡ closest node join speed xs
 
@@ -115,8 +115,8 @@ module _ (node : ℕ → EstTime) (join speed : Float) (xs : List EstJoinPath) w
   start is = record {
     k = 0;
     best = record { «speed_diff_join» = join; «est_idx_join» = 0 };
-    at = LL.val Closest.the-type B′.the-laws (record { «speed_diff_join» = join; «est_idx_join» = 0 });
-    is = LL.owes Closest.the-type B′.the-laws (record { «speed_diff_join» = join; «est_idx_join» = 0 }) (is, ((refl, lit< tt), tt));
+    at = LL.val SpeedJoin.the-type B′.the-laws (record { «speed_diff_join» = join; «est_idx_join» = 0 });
+    is = LL.owes SpeedJoin.the-type B′.the-laws (record { «speed_diff_join» = join; «est_idx_join» = 0 }) (is, ((refl, lit< tt), tt));
     within = zero-le;
     left = none-behind;
   }
@@ -129,7 +129,7 @@ module _ {node : ℕ → EstTime} {join speed : Float} {xs : List EstJoinPath} w
   Nearer-wf = InvImage·wf (λ (s : Upto node join speed xs). length xs - s .k) (Nat·lt-wfRel .wf)
 
   -- after a turn
-  abbrev next : (s : Upto node join speed xs) → s .k < length xs → (r : SpeedJoin) (v : Val) → Is Closest.the-row r (v ∷ []) → r ≡ closer node speed (s .best) (getD xs (s .k) other) → Upto node join speed xs
+  abbrev next : (s : Upto node join speed xs) → s .k < length xs → (r : SpeedJoin) (v : Val) → Is SpeedJoin.the-row r (v ∷ []) → r ≡ closer node speed (s .best) (getD xs (s .k) other) → Upto node join speed xs
   next s less r v is e = record {
     k = s .k + 1;
     best = r;
@@ -222,7 +222,7 @@ module _ {M : Type 1} (𝓤 : URA M) (H : Heap 𝓤) (A : Atoms 𝓤) (W : Given
       qed W (Toks ∷ ‵ (flft κ₂ q₂) ∷ []) ∵
       suffices ! _ (ends-at 𝓤 H A closest-of.ended stayed (closest-of.clauses 𝓤 H A mem run) W ((κs, qs, tt, a, vss), tt) (s .at) (s .best) (tt, (tt, (tt, (tt, (tt, (tt, tt)))))) (tt, (tt, (tt, (tt, (tt, (tt, tt))))))) $
       says ! (whole-list s over) $ split3 ! $ move ! (0 ∷ 1 ∷ 3 ∷ 2 ∷ []) $ group ! 4 $ frame ! $
-      owned ! Closest.the-row (Is Closest.the-row) (LL.makes Closest.the-type B′.the-plain 𝓤 H A) (s .best) _ (s .is) $
+      owned ! SpeedJoin.the-row (Is SpeedJoin.the-row) (LL.makes SpeedJoin.the-type B′.the-plain 𝓤 H A) (s .best) _ (s .is) $
       nothing ! $ nothing ! $ fjoin ! $ nothing ! $ fjoin ! $ nothing ! $ fjoin ! $ nothing ! $ fjoin ! $ nothing ! $ fjoin ! $ nothing ! $ fjoin ! $ done !
 
   -- a local's slot, with nothing in it and with a value
@@ -252,7 +252,7 @@ module _ {M : Type 1} (𝓤 : URA M) (H : Heap 𝓤) (A : Atoms 𝓤) (W : Given
           move ! (3 ∷ []) $ use1 W (Numbers ⊛ Numbers) (shr-slice-copy 𝓤 H A W (named 1) κ₁ u32 .twice us (slice-vals us)) $ split ! $
           -- [numbers twice; floats twice; the tokens]
           nothing ! $ owned ! f64 (Is f64) (float-makes 𝓤 H A W binary64) speed _ (are .1 .1 .1 .1 .1 .0) $ fjoin ! $ owned ! X.the-row (Is X.the-row) (LL.makes X.the-type X′.the-plain 𝓤 H A) x _ isx $ fjoin ! $
-          owned ! Closest.the-row (Is Closest.the-row) (LL.makes Closest.the-type B′.the-plain 𝓤 H A) (s .best) _ (s .is) $ fjoin ! $ move ! (1 ∷ 0 ∷ []) $ fjoin ! $ move ! (2 ∷ 0 ∷ []) $ fjoin ! $
+          owned ! SpeedJoin.the-row (Is SpeedJoin.the-row) (LL.makes SpeedJoin.the-type B′.the-plain 𝓤 H A) (s .best) _ (s .is) $ fjoin ! $ move ! (1 ∷ 0 ∷ []) $ fjoin ! $ move ! (2 ∷ 0 ∷ []) $ fjoin ! $
           move ! (3 ∷ 0 ∷ []) $ use2 W (raw (Closer 𝓤 H A mem run .pre to)) (both-said 𝓤 H A W (onEntry 𝓤 H A closer-at.signature (to .0 .0) (to .0 .1) (to .0 .3) (to .0 .4)) _ _ f u) $
           move ! (0 ∷ 2 ∷ 1 ∷ []) $ done !
 
@@ -290,7 +290,7 @@ module _ {M : Type 1} (𝓤 : URA M) (H : Heap 𝓤) (A : Atoms 𝓤) (W : Given
           assigns ! (of-opd ! (load ! (from ! (fld ! refl (stop !))) (look-in ! 23 (sub ! 1 refl (whole !))))) (from ! (stop !)) (init ! 11 refl (tt, record { fits = len-fits })) $
           assigns ! (bin ! (load ! (from ! (stop !)) (look ! 15 refl)) (load ! (from ! (stop !)) (look ! 11 refl)) tt) (from ! (stop !)) (init ! 9 refl (tt, tt)) $
           rewrite ! 9 (λ (t : Bool). ‵ (fat fullShare tyBool l₁₁ 0 (vbool t))) e refl $ leaves-loop ! (load ! (from ! (stop !)) (look ! 9 refl)) $ exec ! (𝓣 .C) (𝓣 .Λ) En text.t-4 (atRet En Post) $
-          assigns ! (of-opd ! (load ! (from ! (stop !)) (look ! 17 refl))) (from ! (stop !)) (init ! 31 refl (LL.lawful Closest.the-type B′.the-laws 𝓤 H A W .typed (s .best) _ (s .is) .0)) $
+          assigns ! (of-opd ! (load ! (from ! (stop !)) (look ! 17 refl))) (from ! (stop !)) (init ! 31 refl (LL.lawful SpeedJoin.the-type B′.the-laws 𝓤 H A W .typed (s .best) _ (s .is) .0)) $
           returns ! (look ! 31 refl) $ forget ! 9 refl $ forget ! 11 refl $ forget ! 15 refl $ forget ! 17 refl $ forget ! 19 refl $ forget ! 21 refl $ forget ! 23 refl $ forget ! 25 refl $ forget ! 27 refl $
           forget ! 29 refl $ forget ! 31 refl $ move ! (31 ∷ 32 ∷ []) $ free1 ! $ move ! (29 ∷ 30 ∷ []) $ free1 ! $ move ! (27 ∷ 28 ∷ []) $ free1 ! $ move ! (25 ∷ 26 ∷ []) $ free1 ! $ move ! (23 ∷ 24 ∷ []) $ free1 ! $
           move ! (21 ∷ 22 ∷ []) $ free1 ! $ move ! (19 ∷ 20 ∷ []) $ free1 ! $ move ! (17 ∷ 18 ∷ []) $ free1 ! $ move ! (15 ∷ 16 ∷ []) $ free1 ! $ move ! (13 ∷ 14 ∷ []) $ free1 ! $ move ! (11 ∷ 12 ∷ []) $ free1 ! $
@@ -317,10 +317,10 @@ module _ {M : Type 1} (𝓤 : URA M) (H : Heap 𝓤) (A : Atoms 𝓤) (W : Given
           move ! (2 ∷ 3 ∷ 4 ∷ []) $ use3 W (raw (Closer 𝓤 H A mem run .pre (to s)) ⊛ Floats ⊛ Numbers) (asks s less isx) $ split3 ! $
           calls-at ! (fmOf 𝓤 H (W .laws) 𝓣) (Closer 𝓤 H A mem run) known (to s) (and-then ! (load ! (from ! (stop !)) (look ! 29 refl)) (and-then ! (load ! (from ! (stop !)) (look ! 27 refl))
           (and-then ! (load ! (from ! (stop !)) (look ! 17 refl)) (and-then ! (load ! (from ! (stop !)) (look ! 13 refl)) (and-then ! (load ! (from ! (stop !)) (look ! 19 refl)) (no-more !)))))) (λ v.
-          use1 W (later (some (λ (r : SpeedJoin). (Toks ⊛ ‵ (Closest.the-row .own r (v ∷ []))) ⊛ raw (ensured 𝓤 H A closer-at.ended (closer-at.clauses 𝓤 H A mem run) (κ₀, (κ₁, tt)) (to s .0 .3) tt r)))) (id⊢ 𝓤 _) $ await ! tt $ pick ! (λ r.
-          split ! $ move ! (1 ∷ []) $ use1 W (raw (fact 𝓤 (r ≡ closer node speed (s .best) (x s)))) (said s r) $ of-runs ! (r ≡ closer node speed (s .best) (x s)) (λ c. split ! $ move ! (1 ∷ []) $
+          use1 W (later (some (λ (r : SpeedJoin). (Toks ⊛ ‵ (SpeedJoin.the-row .own r (v ∷ []))) ⊛ raw (ensured 𝓤 H A closer-at.ended (closer-at.clauses 𝓤 H A mem run) (κ₀, (κ₁, tt)) (to s .0 .3) tt r)))) (id⊢ 𝓤 _) $ await ! tt $ pick ! (λ r.
+          split ! $ move ! (1 ∷ []) $ use1 W (raw (fact 𝓤 (r ≡ closer node speed (s .best) (x s)))) (said s r) $ heard ! (r ≡ closer node speed (s .best) (x s)) (λ c. split ! $ move ! (1 ∷ []) $
           -- [the result; the tokens; floats; numbers; the entries' token; their borrow; _13; …]
-          peeks ! Closest.the-row (Is Closest.the-row) (shows 𝓤 H A Closest.the-row) r (v ∷ []) (λ is. land ! (from ! (stop !)) (store ! 18 refl (LL.lawful Closest.the-type B′.the-laws 𝓤 H A W .typed r _ is .0)) $
+          peeks ! SpeedJoin.the-row (Is SpeedJoin.the-row) (shows 𝓤 H A SpeedJoin.the-row) r (v ∷ []) (λ is. land ! (from ! (stop !)) (store ! 18 refl (LL.lawful SpeedJoin.the-type B′.the-laws 𝓤 H A W .typed r _ is .0)) $
           assigns-last ! (bin ! (load ! (from ! (stop !)) (look ! 16 refl)) (lit ! tt) (record { fits = further })) (from ! (stop !)) (store ! 16 refl (tt, record { fits = further })) $
           forget ! 6 refl $ forget ! 8 refl $ forget ! 10 refl $ forget ! 12 refl $ forget ! 14 refl $ drop ! $ again ! Nearer At s (next s less r v is c) (omega (arith, less))))))))
         where
@@ -351,7 +351,7 @@ module _ {M : Type 1} (𝓤 : URA M) (H : Heap 𝓤) (A : Atoms 𝓤) (W : Given
         pass1 ! (init ! 24 refl (shr-slice-lawful 𝓤 H A W (named 0) κ₀ f64 .typed fs _ (are .0) .0)) $ pass1 ! (init ! 22 refl (shr-slice-lawful 𝓤 H A W (named 1) κ₁ u32 .typed us _ (are .1 .0) .0)) $
         pass1 ! (init ! 20 refl (uint-lawful 𝓤 H A W w64 .typed n _ (are .1 .1 .0) .0)) $ pass1 ! (init ! 18 refl (shr-slice-lawful 𝓤 H A W (named 2) κ₂ X.the-row .typed es _ (are .1 .1 .1 .0) .0)) $
         pass1 ! (init ! 16 refl (float-lawful 𝓤 H A W binary64 .typed join _ (are .1 .1 .1 .1 .0) .0)) $ pass1 ! (init ! 14 refl (float-lawful 𝓤 H A W binary64 .typed speed _ (are .1 .1 .1 .1 .1 .0) .0)) $ pass0 ! $
-        assigns ! (agg ! (and-then ! (load ! (from ! (stop !)) (look ! 16 refl)) (and-then ! (lit ! tt) (no-more !)))) (from ! (stop !)) (init ! 12 refl (LL.lawful Closest.the-type B′.the-laws 𝓤 H A W .typed (begin .best) _ (begin .is) .0)) $
+        assigns ! (agg ! (and-then ! (load ! (from ! (stop !)) (look ! 16 refl)) (and-then ! (lit ! tt) (no-more !)))) (from ! (stop !)) (init ! 12 refl (LL.lawful SpeedJoin.the-type B′.the-laws 𝓤 H A W .typed (begin .best) _ (begin .is) .0)) $
         assigns ! (of-opd ! (lit ! tt)) (from ! (stop !)) (init ! 10 refl (tt, record { fits = lit< tt })) $
         move ! (28 ∷ []) $ use1 W (Toks ⊛ Floats ⊛ Numbers ⊛ ‵ (flft κ₂ q₂) ⊛ Entries) begins $ split3 ! $ move ! (2 ∷ []) $ split3 ! $ move ! (3 ∷ 4 ∷ []) $
         first ! $ blocks ! $ looped l₀ l₁ l₂ l₃ l₄ l₅ l₆ l₇ l₈ l₉ l₁₀ l₁₁ l₁₂ l₁₃ begin))))))))))))))
@@ -385,4 +385,4 @@ closest-of-spec 𝓤 H 𝓜 𝓖 𝓡 =
     entered 𝓤 H (tripleOf 𝓤 H (𝓖 .A) closest-of.signature (closest-of.spec 𝓤 H (𝓖 .A) (𝓜 .mem) (𝓡 .run)))
     (tables 𝓤 H 𝓜 𝓡 code.env .C) (tables 𝓤 H 𝓜 𝓡 code.env .Λ) #closest-of code.function (code.unfolded 𝓤 H 𝓜 𝓡)
     (closest-of-meets 𝓤 H (𝓖 .A) (givenOf 𝓤 H 𝓜 𝓖) (𝓜 .mem) (𝓡 .run) (tablesOf 𝓤 H 𝓜 (tables 𝓤 H 𝓜 𝓡 code.env))
-    (cited 𝓤 H (Closer 𝓤 H (𝓖 .A) (𝓜 .mem) (𝓡 .run)) 𝓜 𝓡 code.env #closer-at closer-at-def.routine code.calls-lent-entries·closer-at (closer-at-thm.met 𝓤 H 𝓜 𝓖 𝓡)))
+    (cited 𝓤 H (Closer 𝓤 H (𝓖 .A) (𝓜 .mem) (𝓡 .run)) 𝓜 𝓡 code.env #closer-at closer-at-def.routine code.calls-net-lent-entries·closer-at (closer-at-thm.met 𝓤 H 𝓜 𝓖 𝓡)))

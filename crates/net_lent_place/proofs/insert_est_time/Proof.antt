@@ -32,7 +32,7 @@ use denote.Builtin.{u32, usize, f64}
 use denote.Ref.{RefT, ptr-vals, mut-tells}
 use denote.Slice.{slice-vals, mut-slice-tells, mut-slice-lawful, shr-slice-tells, shr-slice-lawful}
 use denote.Signature.{typesAt, plain, shrSlice}
-use denote.Steps.{opens, closes, owned, peeks, facts, of-runs, nothing}
+use denote.Steps.{opens, closes, owned, peeks, facts, heard, nothing}
 use denote.Struct.Steps.{spelt}
 use denote.Struct.Laws as LL
 use denote.Enum.Laws as EL
@@ -205,7 +205,7 @@ module _ {M : Type 1} (𝓤 : URA M) (H : Heap 𝓤) (A : Atoms 𝓤) (W : Given
         land ! (from ! (stop !)) (init ! 15 refl (EL.lawful I.the-type I′.the-laws 𝓤 H A W tt .typed r _ is .0)) $ use0 W (raw (After 𝓤 H A mem run .pre (to-after r v))) (asks-after r v is was) $
         calls-at ! (fmOf 𝓤 H (W .laws) 𝓣) (After 𝓤 H A mem run) known-after (to-after r v) (and-then ! (load ! (from ! (stop !)) (look ! 16 refl)) (and-then ! (load ! (from ! (stop !)) (look ! 18 refl)) (no-more !))) (λ w.
         use1 W (later (some (λ (p : Place). (‵ ftrue ⊛ ‵ (P.the-row .own p (w ∷ []))) ⊛ some (λ (ys : Lasts place-after.ended tt (r, (old, tt))). ‵ (lasts place-after.ended tt (r, (old, tt)) ys) ⊛ raw (fact 𝓤 (p ≡ placeAfter r old)))))) (id⊢ 𝓤 _) $ await ! tt $ pick ! (λ p.
-        split ! $ move ! (1 ∷ []) $ pick ! (λ ys. split ! $ drop ! $ of-runs ! (p ≡ placeAfter r old) (λ same. split ! $ drop ! $ peeks ! P.the-row (Is P.the-row) (shows 𝓤 H A P.the-row) p (w ∷ []) (λ new.
+        split ! $ move ! (1 ∷ []) $ pick ! (λ ys. split ! $ drop ! $ heard ! (p ≡ placeAfter r old) (λ same. split ! $ drop ! $ peeks ! P.the-row (Is P.the-row) (shows 𝓤 H A P.the-row) p (w ∷ []) (λ new.
         -- [what the new place owns; the tokens and what insertion says; the place; its open borrow; …; …; _16; …]
         land ! (from ! (stop !)) (init ! 6 refl (LL.lawful P.the-type P′.the-laws 𝓤 H A W .typed p _ new .0)) $
         assigns ! (of-opd ! (load ! (from ! (stop !)) (look ! 6 refl))) (from ! (hop ! (look ! 22 refl) (stop !))) (store-raw ! 2 refl (LL.lawful P.the-type P′.the-laws 𝓤 H A W .typed p _ new .0)) $
@@ -255,5 +255,5 @@ insert-est-time-spec 𝓤 H 𝓜 𝓖 𝓡 =
     entered 𝓤 H (tripleOf 𝓤 H (𝓖 .A) lent.signature (lent.spec 𝓤 H (𝓖 .A) (𝓜 .mem) (𝓡 .run)))
     (tables 𝓤 H 𝓜 𝓡 code.env .C) (tables 𝓤 H 𝓜 𝓡 code.env .Λ) #lent code.function (code.unfolded 𝓤 H 𝓜 𝓡)
     (lent-meets 𝓤 H (𝓖 .A) (givenOf 𝓤 H 𝓜 𝓖) (𝓜 .mem) (𝓡 .run) (tablesOf 𝓤 H 𝓜 (tables 𝓤 H 𝓜 𝓡 code.env))
-    (cited 𝓤 H (Insert 𝓤 H (𝓖 .A) (𝓜 .mem) (𝓡 .run)) 𝓜 𝓡 code.env #insert insert-def.routine code.calls-insertion·insert-est-time (insert-thm.met 𝓤 H 𝓜 𝓖 𝓡))
-    (cited 𝓤 H (After 𝓤 H (𝓖 .A) (𝓜 .mem) (𝓡 .run)) 𝓜 𝓡 code.env #place-after place-after-def.routine code.calls-lent-place·place-after (place-after-thm.met 𝓤 H 𝓜 𝓖 𝓡)))
+    (cited 𝓤 H (Insert 𝓤 H (𝓖 .A) (𝓜 .mem) (𝓡 .run)) 𝓜 𝓡 code.env #insert insert-def.routine code.calls-net-insertion·insert-est-time (insert-thm.met 𝓤 H 𝓜 𝓖 𝓡))
+    (cited 𝓤 H (After 𝓤 H (𝓖 .A) (𝓜 .mem) (𝓡 .run)) 𝓜 𝓡 code.env #place-after place-after-def.routine code.calls-net-lent-place·place-after (place-after-thm.met 𝓤 H 𝓜 𝓖 𝓡)))
