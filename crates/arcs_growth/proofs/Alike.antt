@@ -8,17 +8,18 @@ use native.Mathlib.Omega.{arith}
 use borrow.Author.Tests.{ltb-true}
 use lib.Dec.{ltb}
 use lib.Ieee.{Float}
-use Rattle.net_node.specs.Table.{Table, put, at}
+use Rattle.net_node.proofs.Tables.{RoomIn, put-room}
+use Rattle.net_node.specs.Table.{Table, put, at, withNextAlt, withPrevAlt}
 use Rattle.laws.proofs.Answers.{Both, both-refused}
 use Rattle.net_node.specs.declared.EstTime.{EstTime}
 use Rattle.net_node.specs.declared.TimedEvent.{TimedEvent}
 use Rattle.net_insertion.specs.declared.Place.{Place}
 use Rattle.net_insertion.specs.declared.Inserted.the-variants.{Added}
 use Rattle.net_insertion.specs.Insertion as Insertion
-use Rattle.net_insertion.specs.Insertion.{linkedTo, eventNode, splitFake, alternating, addBehind, splitAt, placeAt, addedAs, tableAs, seek, found, soughtIn, inserted, insertedTable}
+use Rattle.net_insertion.specs.Insertion.{linkedTo, eventNode, splitFake, addBehind, splitAt, placeAt, addedAs, tableAs, seek, found, soughtIn, inserted, insertedTable}
 use Rattle.net_insertion.proofs.Seeking.{seek-turn}
-use Rattle.net_insertion.proofs.Puts.{RoomIn, put-room, add-room, split-room}
-use Rattle.net_joins.specs.Joins.{joinedBy, joinFake, joinAt}
+use Rattle.net_insertion.proofs.Puts.{add-room, split-room}
+use Rattle.net_joins.specs.Joins.{joinFake, joinAt}
 use Rattle.grow_rules.specs.Run.{Net, Run, After, addedTo, movedTo, memberOf, insertedRun, insertEvent}
 use Rattle.arcs_growth.proofs.Labels.{Labels}
 use Rattle.arcs_growth.proofs.Seeks.{search-reaches}
@@ -52,19 +53,19 @@ module _ (t u : Table) (places others n : ℕ) (r : RoomIn t places) (q : RoomIn
   split-agree : (i : ℕ) (p : Place) → i < n → Agree (suc n) (at (splitAt t i n p)) (at (splitAt u i n p))
   unfolding splitAt
   split-agree i p l =
-      put-more (put t i (alternating (at t i) n)) (put u i (alternating (at u i) n)) places others (put-room t i (alternating (at t i) n) places r) (put-room u i (alternating (at u i) n) others q) n (splitFake p i) (splitFake p i)
-      (put-agree t u places others r q n i (alternating (at t i) n) (alternating (at u i) n) ag (omega arith) (omega arith) (ap (λ (x : EstTime). alternating x n) (ag i l))) g h refl
+      put-more (put t i (withNextAlt (at t i) n)) (put u i (withNextAlt (at u i) n)) places others (put-room t i (withNextAlt (at t i) n) places r) (put-room u i (withNextAlt (at u i) n) others q) n (splitFake p i) (splitFake p i)
+      (put-agree t u places others r q n i (withNextAlt (at t i) n) (withNextAlt (at u i) n) ag (omega arith) (omega arith) (ap (λ (x : EstTime). withNextAlt x n) (ag i l))) g h refl
 
   pub join-agree : (c : ℕ) (e : TimedEvent) → c < n → RoomIn (joinAt u n c e) others × Agree (suc n) (at (joinAt t n c e)) (at (joinAt u n c e))
   unfolding joinAt
   join-agree c e l =
-      let x : EstTime = joinedBy (at t c) n in
-      let y : EstTime = joinedBy (at u c) n in
+      let x : EstTime = withPrevAlt (at t c) n in
+      let y : EstTime = withPrevAlt (at u c) n in
       let t1 : Table = put t c x in
       let u1 : Table = put u c y in
       let r1 : RoomIn t1 places = put-room t c x places r in
       let q1 : RoomIn u1 others = put-room u c y others q in
-      let a1 : Agree n (at t1) (at u1) = put-agree t u places others r q n c x y ag (omega arith) (omega arith) (ap (λ (z : EstTime). joinedBy z n) (ag c l)) in
+      let a1 : Agree n (at t1) (at u1) = put-agree t u places others r q n c x y ag (omega arith) (omega arith) (ap (λ (z : EstTime). withPrevAlt z n) (ag c l)) in
       let f : EstTime = joinFake c (n - 1) in
       let t2 : Table = put t1 n f in
       let u2 : Table = put u1 n f in

@@ -5,6 +5,7 @@ use mathlib.Core.List.{List, [], _∷_}
 use Prim.Native.Nat.{ℕ, zero, suc, _-_, _<_}
 use native.Mathlib.Omega.{arith}
 use lib.Dec.{eqb, ltb}
+use Rattle.net_node.proofs.Tables.{RoomIn}
 use Rattle.net_node.specs.Table.{Table, at}
 use Rattle.laws.proofs.Answers.{Both, both-then, both-with}
 use Rattle.laws.specs.Answer.{given, andThen}
@@ -13,7 +14,6 @@ use Rattle.book_format.specs.Chains.{legBelow}
 use Rattle.book_options.specs.Options.{inSet, keptOrigins}
 use Rattle.event_walk.specs.Walk.{row11}
 use Rattle.net_node.specs.declared.EstTime.{EstTime}
-use Rattle.net_insertion.proofs.Puts.{RoomIn}
 use Rattle.grow_path.specs.Path.{linkOf, legCourse, legEvents}
 use Rattle.grow_rules.specs.Run.{Net, Run, After, memberOf, insertEvent, Outcome, Ended, On, runEvents}
 use Rattle.grow_rules.specs.Growth.{Growth, joinGap, originRun, takes, seekLeg, saves, growOrigin, growOrigins, badFinish, finishedAt, finishAs, waiting, onOver, fitsIn, saveOver, onAs, goOn, finishes, legEndAs, legDone, legAs, takeLeg, drive}

@@ -7,12 +7,13 @@ use Prim.Native.Nat.{ℕ, suc, _+_, _<_, _≤_}
 use native.Mathlib.Numerals.{add-one}
 use native.Mathlib.Omega.{arith}
 use lib.Ieee.{binary64, sub}
+use Rattle.net_node.proofs.Tables.{RoomIn}
 use Rattle.net_node.specs.declared.EstTime.{EstTime}
 use Rattle.net_node.specs.declared.TimedEvent.{TimedEvent}
-use Rattle.net_node.specs.Table.{Indexed, blank, noLinkEvent, Table, at, isFake, fakeKind}
+use Rattle.net_node.specs.Table.{Indexed, blank, noLinkEvent, Table, at, isFake, fakeKind, withNextAlt}
 use Rattle.net_insertion.specs.declared.Place.{Place}
-use Rattle.net_insertion.specs.Insertion.{linkedTo, eventNode, splitFake, alternating, addBehind, splitAt}
-use Rattle.net_insertion.proofs.Puts.{RoomIn, add-found, add-new, add-indexed, add-other, add-room, split-found, split-new, split-indexed, split-other, split-room}
+use Rattle.net_insertion.specs.Insertion.{linkedTo, eventNode, splitFake, addBehind, splitAt}
+use Rattle.net_insertion.proofs.Puts.{add-found, add-new, add-indexed, add-other, add-room, split-found, split-new, split-indexed, split-other, split-room}
 use Rattle.grow_rules.specs.Run.{Arc, memberOf}
 use Rattle.arcs_growth.proofs.Answers.{clash, below, either}
 use Rattle.arcs_growth.proofs.Labels.{Role, nought, start, event, split, join, stop, baseRole, lands, itself, Labels, Extends, labelled, labelled-old, new-role, new-goal}
@@ -166,7 +167,7 @@ module _ {L : Labels} {places : ℕ} {t : Table} {n : ℕ} {ends : List ℕ} {ar
   abbrev half : ℕ → EstTime
   half = at (splitAt t i n p)
 
-  divided : half i ≡ alternating (at t i) n
+  divided : half i ≡ withNextAlt (at t i) n
   divided = split-found t i n places (v .room) (v .indexed) h g p
 
   fake : half n ≡ splitFake p i
@@ -175,7 +176,7 @@ module _ {L : Labels} {places : ℕ} {t : Table} {n : ℕ} {ends : List ℕ} {ar
   beside : (j : ℕ) → j < n → (j ≡ i → ⊥) → half j ≡ at t j
   beside j l d = split-other t i n p j d (λ (q : j ≡ n). omega arith)
 
-  pub split-column : {A : Type 0} (f : EstTime → A) → f (alternating (at t i) n) ≡ f (at t i) → (j : ℕ) → j < n → f (at (splitAt t i n p) j) ≡ f (at t j)
+  pub split-column : {A : Type 0} (f : EstTime → A) → f (withNextAlt (at t i) n) ≡ f (at t i) → (j : ℕ) → j < n → f (at (splitAt t i n p) j) ≡ f (at t j)
   split-column f s j l = go (either j i)
     where
       go : (j ≡ i) ⊎ (j ≡ i → ⊥) → f (half j) ≡ f (at t j)
@@ -191,7 +192,7 @@ module _ {L : Labels} {places : ℕ} {t : Table} {n : ℕ} {ends : List ℕ} {ar
   split-held = (ap (λ (x : EstTime). x .«time_to_next») fake, ap (λ (x : EstTime). x .«dist_to_next») fake)
 
   pub split-body : baseRole (L .role i) ≡ true → at t i .«idx_next_alt» ≡ 0 → Body (labelled L n split (L .owner i) 0 0) places (splitAt t i n p) (suc n) ends arcs (k + 1)
-  unfolding alternating splitFake blank noLinkEvent
+  unfolding splitFake blank noLinkEvent
   split-body base empty = record {
     room = split-room t i n p places (v .room);
     indexed = subst (Indexed half) (add-one n) (split-indexed t i n places (v .room) (v .indexed) h g p);

@@ -8,11 +8,11 @@ use native.Mathlib.Omega.{arith}
 use borrow.Author.Tests.{eq-eqb, ne-eqb, ltb-true}
 use lib.Dec.{eqb, ltb}
 use lib.Ieee.{binary64, ofBits}
+use Rattle.net_node.proofs.Tables.{RoomIn, put-room}
 use Rattle.laws.proofs.Answers.{Holds, holds-then}
 use Rattle.laws.proofs.Below.{or-right}
 use Rattle.net_node.specs.declared.EstTime.{EstTime}
 use Rattle.net_node.specs.Table.{blank, noLinkEvent, Table, put, at, isFake}
-use Rattle.net_insertion.proofs.Puts.{RoomIn, put-room}
 use Rattle.grow_rules.specs.Run.{Arc, memberOf}
 use Rattle.grow_rules.specs.Growth.{fakeNode, leadsToEnd, Tail, roomFor, endFakes}
 use Rattle.arcs_growth.proofs.Answers.{All, either, clash, below}

@@ -6,9 +6,9 @@ use mathlib.Core.List.{List, [], _∷_}
 use Prim.Native.Nat.{ℕ, zero, suc, _<_}
 use native.Mathlib.Omega.{arith}
 use lib.Ieee.{binary64, ofBits}
+use Rattle.net_node.proofs.Tables.{RoomIn, put-room}
 use Rattle.net_node.specs.declared.EstTime.{EstTime}
 use Rattle.net_node.specs.Table.{Indexed, blank, noLinkEvent, Table, put, at, isFake}
-use Rattle.net_insertion.proofs.Puts.{RoomIn, put-room}
 use Rattle.laws.specs.Below.{sumBelow}
 use Rattle.grow_rules.specs.Run.{Arc}
 use Rattle.grow_rules.specs.Growth.{departure, fakeNode, firstNodes, originRun}

@@ -14,12 +14,12 @@ use Rattle.floats.specs.Floats.{gap}
 use Rattle.net_node.specs.declared.LinkEvent.{LinkEvent}
 use Rattle.net_node.specs.declared.EstTime.{EstTime}
 use Rattle.net_node.specs.declared.TimedEvent.{TimedEvent}
-use Rattle.net_node.specs.Table.{sameEvent, sameKind, kindNumber, kindOf, Table, at, fakeKind}
+use Rattle.net_node.specs.Table.{sameEvent, sameKind, kindNumber, kindOf, Table, at, fakeKind, withNextAlt}
 use Rattle.net_node.proofs.Nodes.{kind-back}
 use Rattle.net_insertion.specs.declared.Place.{Place}
 use Rattle.net_insertion.specs.declared.Inserted.{Inserted}
 use Rattle.net_insertion.specs.declared.Inserted.the-variants.{Added, Moved, Refused}
-use Rattle.net_insertion.specs.Insertion.{matches, placeAt, addBehind, splitAt, alternating, inserted, insertedTable}
+use Rattle.net_insertion.specs.Insertion.{matches, placeAt, addBehind, splitAt, inserted, insertedTable}
 use Rattle.grow_rules.specs.Run.{Net, Run, After, arcTo, addedTo, movedTo, memberOf, insertedRun, insertEvent}
 use Rattle.arcs_growth.proofs.Answers.{some-all, clash, below, either}
 use Rattle.arcs_growth.proofs.Labels.{Role, nought, start, event, split, join, stop, fakeRole, baseRole, itself, Labels, Extends, labelled, labelled-old, new-role, new-owner, new-depth}
@@ -242,7 +242,7 @@ module _ {L : Labels} {places : ℕ} {net : Net} {run : Run} {saved : List Run} 
 
   divided : (i : ℕ) → Reached L (at t) n p i → 0 < at t p .«idx_next» → at t i .«idx_next_alt» ≡ 0 → n + 1 < places
       → Inserts L places net run saved e (record { net = addedTo net (addBehind (splitAt t i n (run .place)) n (n + 1) e) (placeAt (n + 1) e) true (arcTo (run .place) (n + 1) e); run = movedTo run (placeAt (n + 1) e) true })
-  unfolding addedTo movedTo placeAt arcTo alternating
+  unfolding addedTo movedTo placeAt arcTo
   divided i r first no-alt room = subst (λ (k : ℕ). Inserts L places net run saved e (record { net = addedTo net (addBehind (splitAt t i n (run .place)) n k e) (placeAt k e) true (arcTo (run .place) k e); run = movedTo run (placeAt k e) true })) (sym (add-one n)) (record {
     labels = M;
     later = later;
@@ -335,7 +335,7 @@ module _ {L : Labels} {places : ℕ} {net : Net} {run : Run} {saved : List Run} 
       next : Run
       next = movedTo run (placeAt (suc n) e) true
 
-      same-link : alternating (at t i) n .«link_event» ≡ at t i .«link_event»
+      same-link : withNextAlt (at t i) n .«link_event» ≡ at t i .«link_event»
       same-link = refl
 
       next-same : (j : ℕ) → j < n → at half j .«idx_next» ≡ at t j .«idx_next»

@@ -6,13 +6,13 @@ use mathlib.Core.List.{List, [], _∷_}
 use Prim.Native.Nat.{ℕ, zero, suc, _+_, _-_, _<_, _≤_}
 use native.Mathlib.Omega.{arith}
 use lib.Ieee.{binary64, sub}
+use Rattle.net_node.proofs.Tables.{RoomIn, put-room}
 use Rattle.net_node.specs.declared.LinkEvent.{LinkEvent}
 use Rattle.net_node.specs.declared.EstTime.{EstTime}
 use Rattle.net_node.specs.declared.TimedEvent.{TimedEvent}
-use Rattle.net_node.specs.Table.{Indexed, blank, noLinkEvent, Table, put, at, isFake, fakeKind}
+use Rattle.net_node.specs.Table.{Indexed, blank, noLinkEvent, Table, put, at, isFake, fakeKind, withPrevAlt}
 use Rattle.net_insertion.specs.Insertion.{linkedTo}
-use Rattle.net_insertion.proofs.Puts.{RoomIn, put-room}
-use Rattle.net_joins.specs.Joins.{chainEndAs, chainEnd, joinedBy, joinFake, joinAt, joinedTable}
+use Rattle.net_joins.specs.Joins.{chainEndAs, chainEnd, joinFake, joinAt, joinedTable}
 use Rattle.grow_rules.specs.Run.{Net, Run, arcTo, memberOf, joinedTo}
 use Rattle.arcs_growth.proofs.Answers.{All, all-so, clash, below, either}
 use Rattle.arcs_growth.proofs.Labels.{event, join, stop, baseRole, lands, itself, Labels, Extends, labelled, labelled-old, new-role, new-goal}
@@ -54,7 +54,7 @@ module _ (t : Table) (n places c : ℕ) (e : TimedEvent) (room : RoomIn t places
   last = n - 1
 
   abbrev one : Table
-  one = put t c (joinedBy (at t c) n)
+  one = put t c (withPrevAlt (at t c) n)
 
   abbrev two : Table
   two = put one n (joinFake c last)
@@ -63,7 +63,7 @@ module _ (t : Table) (n places c : ℕ) (e : TimedEvent) (room : RoomIn t places
   three = put two last (linkedTo (at two last) n e)
 
   one-room : RoomIn one places
-  one-room = put-room t c (joinedBy (at t c) n) places room
+  one-room = put-room t c (withPrevAlt (at t c) n) places room
 
   two-room : RoomIn two places
   two-room = put-room one n (joinFake c last) places one-room
@@ -83,20 +83,20 @@ module _ (t : Table) (n places c : ℕ) (e : TimedEvent) (room : RoomIn t places
   three-other j l d = put-other two last (linkedTo (at two last) n e) j d ∙ put-other one n (joinFake c last) j (λ (q : j ≡ n). omega arith)
 
   -- a column that both leave alone
-  three-column : {A : Type 0} (f : EstTime → A) → f (linkedTo (at one last) n e) ≡ f (at one last) → f (joinedBy (at t c) n) ≡ f (at t c) → (j : ℕ) → j < n → f (at three j) ≡ f (at t j)
-  three-column f p q j l = go (either j last) ∙ put-column f t c (joinedBy (at t c) n) places room (omega arith) q j
+  three-column : {A : Type 0} (f : EstTime → A) → f (linkedTo (at one last) n e) ≡ f (at one last) → f (withPrevAlt (at t c) n) ≡ f (at t c) → (j : ℕ) → j < n → f (at three j) ≡ f (at t j)
+  three-column f p q j l = go (either j last) ∙ put-column f t c (withPrevAlt (at t c) n) places room (omega arith) q j
     where
       go : (j ≡ last) ⊎ (j ≡ last → ⊥) → f (at three j) ≡ f (at one j)
       go (inl r) = ap (λ (k : ℕ). f (at three k)) r ∙ ap f three-last ∙ p ∙ ap (λ (k : ℕ). f (at one k)) (sym r)
       go (inr d) = ap f (three-other j l d)
 
   -- a column that only the link to a next changes
-  next-column : {A : Type 0} (f : EstTime → A) → f (joinedBy (at t c) n) ≡ f (at t c) → (j : ℕ) → j < n → (j ≡ last → ⊥) → f (at three j) ≡ f (at t j)
-  next-column f q j l d = ap f (three-other j l d) ∙ put-column f t c (joinedBy (at t c) n) places room (omega arith) q j
+  next-column : {A : Type 0} (f : EstTime → A) → f (withPrevAlt (at t c) n) ≡ f (at t c) → (j : ℕ) → j < n → (j ≡ last → ⊥) → f (at three j) ≡ f (at t j)
+  next-column f q j l d = ap f (three-other j l d) ∙ put-column f t c (withPrevAlt (at t c) n) places room (omega arith) q j
 
   prev-alt-here : at three c .«idx_prev_alt» ≡ n
-  unfolding linkedTo joinedBy
-  prev-alt-here = go (either c last) ∙ ap (λ (x : EstTime). x .«idx_prev_alt») (put-same t c (joinedBy (at t c) n) places room (omega arith))
+  unfolding linkedTo
+  prev-alt-here = go (either c last) ∙ ap (λ (x : EstTime). x .«idx_prev_alt») (put-same t c (withPrevAlt (at t c) n) places room (omega arith))
     where
       go : (c ≡ last) ⊎ (c ≡ last → ⊥) → at three c .«idx_prev_alt» ≡ at one c .«idx_prev_alt»
       go (inl r) = ap (λ (k : ℕ). at three k .«idx_prev_alt») r ∙ ap (λ (x : EstTime). x .«idx_prev_alt») three-last ∙ ap (λ (k : ℕ). at one k .«idx_prev_alt») (sym r)
@@ -104,14 +104,14 @@ module _ (t : Table) (n places c : ℕ) (e : TimedEvent) (room : RoomIn t places
 
   prev-alt-other : (j : ℕ) → j < n → (j ≡ c → ⊥) → at three j .«idx_prev_alt» ≡ at t j .«idx_prev_alt»
   unfolding linkedTo
-  prev-alt-other j l d = go (either j last) ∙ ap (λ (x : EstTime). x .«idx_prev_alt») (put-other t c (joinedBy (at t c) n) j d)
+  prev-alt-other j l d = go (either j last) ∙ ap (λ (x : EstTime). x .«idx_prev_alt») (put-other t c (withPrevAlt (at t c) n) j d)
     where
       go : (j ≡ last) ⊎ (j ≡ last → ⊥) → at three j .«idx_prev_alt» ≡ at one j .«idx_prev_alt»
       go (inl r) = ap (λ (k : ℕ). at three k .«idx_prev_alt») r ∙ ap (λ (x : EstTime). x .«idx_prev_alt») three-last ∙ ap (λ (k : ℕ). at one k .«idx_prev_alt») (sym r)
       go (inr o) = ap (λ (x : EstTime). x .«idx_prev_alt») (three-other j l o)
 
   join-attached : Attached (at t) (at three) n last
-  unfolding linkedTo joinedBy joinFake
+  unfolding linkedTo joinFake
   join-attached = record {
     within = omega arith;
     here = ap (λ (x : EstTime). x .«idx_next») three-last;
@@ -129,14 +129,13 @@ module _ (t : Table) (n places c : ℕ) (e : TimedEvent) (room : RoomIn t places
       chained j l (inr d) = inl (prev-alt-other j l d)
 
   join-timed : Timed (at t) (at three) n last
-  unfolding joinedBy
   join-timed = record { time = next-column (λ (x : EstTime). x .«time_to_next») refl; distance = next-column (λ (x : EstTime). x .«dist_to_next») refl }
 
   join-last : (at three last .«time_to_next» ≡ sub binary64 (e .time) (at t last .«time_to_next»)) × (at three last .«dist_to_next» ≡ sub binary64 (e .offset) (at t last .«dist_to_next»))
-  unfolding linkedTo joinedBy
+  unfolding linkedTo
   join-last = (
-    ap (λ (x : EstTime). x .«time_to_next») three-last ∙ ap (sub binary64 (e .time)) (put-column (λ (x : EstTime). x .«time_to_next») t c (joinedBy (at t c) n) places room (omega arith) refl last),
-    ap (λ (x : EstTime). x .«dist_to_next») three-last ∙ ap (sub binary64 (e .offset)) (put-column (λ (x : EstTime). x .«dist_to_next») t c (joinedBy (at t c) n) places room (omega arith) refl last),
+    ap (λ (x : EstTime). x .«time_to_next») three-last ∙ ap (sub binary64 (e .time)) (put-column (λ (x : EstTime). x .«time_to_next») t c (withPrevAlt (at t c) n) places room (omega arith) refl last),
+    ap (λ (x : EstTime). x .«dist_to_next») three-last ∙ ap (sub binary64 (e .offset)) (put-column (λ (x : EstTime). x .«dist_to_next») t c (withPrevAlt (at t c) n) places room (omega arith) refl last),
   )
 
   join-new : (isFake (at three n) ≡ true) × ((at three n .«idx_next» ≡ c) × (at three n .«idx_prev_alt» ≡ 0))

@@ -7,13 +7,13 @@ use native.Mathlib.Omega.{arith}
 use borrow.Author.Tests.{ltb-true}
 use lib.Dec.{ltb}
 use lib.Ieee.{binary64, ofBits}
+use Rattle.net_node.proofs.Tables.{RoomIn, put-room}
 use Rattle.laws.proofs.Answers.{Both, both-then, both-with, both-refused, both-given}
 use Rattle.laws.specs.Answer.{Answer, given, andThen}
 use Rattle.book_format.specs.Format.{legs}
 use Rattle.book_options.specs.Options.{keptOrigins}
 use Rattle.net_node.specs.declared.EstTime.{EstTime}
 use Rattle.net_node.specs.Table.{Room, Table, put, at}
-use Rattle.net_insertion.proofs.Puts.{RoomIn, put-room}
 use Rattle.grow_rules.specs.Run.{Net, memberOf}
 use Rattle.grow_rules.specs.Growth.{Growth, departure, fakeNode, firstNodes, growOrigins, drive, leadsToEnd, Tail, roomFor, endFakes, lastNode, Grown, startAs, grownWith, grow}
 use Rattle.arcs_growth.specs.Read.{Read}

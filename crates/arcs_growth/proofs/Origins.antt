@@ -8,6 +8,7 @@ use native.Mathlib.Omega.{arith}
 use borrow.Author.Tests.{eqb-true, eq-eqb}
 use lib.Dec.{eqb}
 use lib.Ieee.{Float, binary64, add, sub, ofBits}
+use Rattle.net_node.proofs.Tables.{RoomIn}
 use Rattle.net_node.specs.Table.{Table, at}
 use Rattle.laws.proofs.Answers.{Holds, holds-then, holds-so}
 use Rattle.laws.specs.Answer.{given, andThen}
@@ -23,7 +24,6 @@ use Rattle.arcs_growth.specs.Arcs.{one}
 use Rattle.arcs_growth.specs.Runs.{runEventsTo, NextTo, Follows}
 use Rattle.arcs_growth.specs.Read.{SomeKept, Read}
 use Rattle.laws.proofs.Below.{or-right}
-use Rattle.net_insertion.proofs.Puts.{RoomIn}
 use Rattle.arcs_growth.proofs.Answers.{All, Some, all-so, either, clash}
 use Rattle.arcs_growth.proofs.Labels.{event, fakeRole, baseRole, Labels}
 use Rattle.arcs_growth.proofs.NewNodes.{apart}

@@ -8,6 +8,7 @@ use native.Mathlib.Omega.{arith}
 use borrow.Author.Tests.{ltb-true}
 use lib.ListN.{length}
 use lib.Dec.{ltb}
+use Rattle.net_node.proofs.Tables.{RoomIn}
 use Rattle.laws.proofs.Answers.{Holds, holds-then, holds-given}
 use Rattle.laws.specs.Answer.{given, andThen}
 use Rattle.book_format.specs.Format.{legs}
@@ -26,7 +27,6 @@ use Rattle.arcs_growth.proofs.AtEvents.{Notes, Driven}
 use Rattle.arcs_growth.proofs.Driving.{drives}
 use Rattle.arcs_growth.proofs.Origins.{Ready, origins-ready}
 use Rattle.arcs_growth.proofs.Ends.{Linked, Ending, Ended, ends-keep}
-use Rattle.net_insertion.proofs.Puts.{RoomIn}
 use Rattle.arcs_growth.proofs.Wholes.{Finished, last-keeps}
 use Rattle.arcs_growth.proofs.Sheets.{whole-shape}
 use Rattle.arcs_growth.proofs.Readings.{read-same, length-bases}

@@ -8,13 +8,13 @@ use native.Mathlib.Omega.{arith}
 use borrow.Author.Tests.{ltb-true}
 use lib.Dec.{ltb}
 use lib.Ieee.{binary64, ofBits}
+use Rattle.net_node.proofs.Tables.{RoomIn, put-room}
 use Rattle.laws.proofs.Answers.{Holds}
 use Rattle.laws.specs.Below.{sumBelow}
 use Rattle.net_node.specs.declared.EstTime.{EstTime}
 use Rattle.net_node.specs.Table.{blank, noLinkEvent, Table, put, at, isFake}
 use Rattle.grow_rules.specs.Run.{Arc}
 use Rattle.grow_rules.specs.Growth.{fakeNode, Tail, roomFor, lastNode}
-use Rattle.net_insertion.proofs.Puts.{RoomIn, put-room}
 use Rattle.arcs_growth.proofs.Answers.{All, either, clash, below}
 use Rattle.arcs_growth.proofs.Sums.{sum-same, total}
 use Rattle.arcs_growth.proofs.Labels.{baseRole, Labels, Extends}

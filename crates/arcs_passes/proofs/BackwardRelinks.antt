@@ -8,10 +8,10 @@ use native.Mathlib.Omega.{arith}
 use borrow.Author.Tests.{eqb-false, not-true}
 use lib.Dec.{eqb}
 use lib.Ieee.{Float}
-use Rattle.net_node.specs.Table.{Table, at, isFake}
+use Rattle.net_node.proofs.Tables.{RoomIn}
+use Rattle.net_node.specs.Table.{Table, at, isFake, setTime}
 use Rattle.net_node.specs.declared.EstTime.{EstTime}
-use Rattle.net_insertion.proofs.Puts.{RoomIn}
-use Rattle.pass_rules.specs.Net.{Answer, fails, given, Pass, setTime}
+use Rattle.pass_rules.specs.Net.{Answer, fails, given, Pass}
 use Rattle.pass_rules.specs.Backward.{isPassable, walkedOn, relinkWalk, swapSplit, swappedIf}
 use Rattle.arcs_growth.specs.Arcs.{isBase, sourceOf, arcsRead, SameArcs, timesIn}
 use Rattle.arcs_growth.specs.Shape.{isReceiver, Shape}

@@ -7,10 +7,10 @@ use native.Mathlib.Omega.{arith}
 use borrow.Author.Tests.{eqb-false, not-true}
 use lib.Dec.{eqb}
 use lib.Ieee.{Float}
-use Rattle.net_node.specs.Table.{Table, at, isFake}
+use Rattle.net_node.proofs.Tables.{RoomIn}
+use Rattle.net_node.specs.Table.{Table, at, isFake, setTime}
 use Rattle.net_node.specs.declared.EstTime.{EstTime}
-use Rattle.net_insertion.proofs.Puts.{RoomIn}
-use Rattle.pass_rules.specs.Net.{Answer, fails, given, Pass, setTime}
+use Rattle.pass_rules.specs.Net.{Answer, fails, given, Pass}
 use Rattle.pass_rules.specs.Forward.{isPassable, walkedOn, relinkWalk, swapJoin, swappedIf}
 use Rattle.arcs_growth.specs.Arcs.{isBase, goalOf}
 use Rattle.arcs_growth.specs.Shape.{isReceiver, Shape}

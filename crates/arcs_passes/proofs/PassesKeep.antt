@@ -7,10 +7,10 @@ use native.Mathlib.Omega.{arith}
 use borrow.Author.Tests.{eqb-true, not-false}
 use lib.Dec.{eqb}
 use lib.Ieee.{Float}
+use Rattle.net_node.proofs.Tables.{RoomIn}
 use Rattle.net_node.specs.Table.{Table, at}
 use Rattle.laws.proofs.Below.{none-at}
 use Rattle.net_node.specs.declared.EstTime.{EstTime}
-use Rattle.net_insertion.proofs.Puts.{RoomIn}
 use Rattle.pass_rules.specs.Checks.{prevHolds, nextHolds, fakeHolds, prevLeads, nextLeads, notBothAlternates, nodeHolds, row14}
 use Rattle.pass_rules.specs.Net.{Answer, fails, given, Pass}
 use Rattle.pass_rules.specs.Forward.{forward}

@@ -5,6 +5,7 @@ use mathlib.Core.List.{List, [], _∷_}
 use Prim.Native.Nat.{ℕ, _+_, _≤_, _<_}
 use lib.ListN.{length}
 use lib.Ieee.{Float}
+use Rattle.net_node.proofs.Tables.{RoomIn}
 use Rattle.net_node.specs.Table.{Table, at}
 use Rattle.laws.specs.Answer.{Answer, given}
 use Rattle.laws.specs.Below.{someBelow}
@@ -12,7 +13,6 @@ use Rattle.book_format.specs.Format.{legs}
 use Rattle.book_format.specs.Rows.{row5, badLeg}
 use Rattle.book_options.specs.Options.{row8}
 use Rattle.net_node.specs.declared.EstTime.{EstTime}
-use Rattle.net_insertion.proofs.Puts.{RoomIn}
 use Rattle.grow_rules.specs.Run.{Arc}
 use Rattle.grow_rules.specs.Growth.{Grown, grow}
 use Rattle.pass_rules.specs.Passes.{Timed, timedAs, passes}

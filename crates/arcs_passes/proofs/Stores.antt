@@ -6,11 +6,10 @@ use Prim.Native.Nat.{ℕ, _<_}
 use native.Mathlib.Omega.{arith}
 use lib.Dec.{eqb}
 use lib.Ieee.{Float}
-use Rattle.net_node.specs.Table.{Table, at}
+use Rattle.net_node.proofs.Sets.{Changed, time-set as set-time, next-set as set-next, prev-set as set-prev, arc-set as set-arc}
+use Rattle.net_node.proofs.Tables.{RoomIn}
+use Rattle.net_node.specs.Table.{Table, at, setTime, setNext, setPrev, setArc, withTime, withNext, withPrev, withArc}
 use Rattle.net_node.specs.declared.EstTime.{EstTime}
-use Rattle.net_insertion.proofs.Puts.{RoomIn}
-use Rattle.pass_rules.specs.Net.{setTime, setNext, setPrev, setArc}
-use Rattle.pass_rules.proofs.Fields.{Changed, withTime, withNext, withPrev, withArc, time-set as set-time, next-set as set-next, prev-set as set-prev, arc-set as set-arc}
 use Rattle.arcs_growth.specs.Arcs.{isBase}
 use Rattle.arcs_growth.specs.Shape.{Shape}
 use Rattle.arcs_passes.proofs.Sets.{sets, sets-at, sets-other}
@@ -54,7 +53,6 @@ module _ {node : ℕ → EstTime} {t : Table} {places : ℕ} {next prev : ℕ �
   sets-like y f g e x = ap (cond (eqb x i) y) (e x)
 
   pub time-set : (x : Float) → View node (setTime t i x) places next prev held
-  unfolding withTime
   time-set x =
       let c = set-time t places (v .room) i h x in
       record {
@@ -66,7 +64,6 @@ module _ {node : ℕ → EstTime} {t : Table} {places : ℕ} {next prev : ℕ �
       }
 
   pub next-set : (k : ℕ) → View node (setNext t i k) places (sets i k next) prev held
-  unfolding withNext
   next-set k =
       let c = set-next t places (v .room) i h k in
       record {
@@ -78,7 +75,6 @@ module _ {node : ℕ → EstTime} {t : Table} {places : ℕ} {next prev : ℕ �
       }
 
   pub prev-set : (k : ℕ) → View node (setPrev t i k) places next (sets i k prev) held
-  unfolding withPrev
   prev-set k =
       let c = set-prev t places (v .room) i h k in
       record {
@@ -90,7 +86,6 @@ module _ {node : ℕ → EstTime} {t : Table} {places : ℕ} {next prev : ℕ �
       }
 
   pub held-set : (a : Held) (x y : Float) → record { time = x; distance = y } ≡ a → View node (setArc t i x y) places next prev (sets i a held)
-  unfolding withArc
   held-set a x y e =
       let c = set-arc t places (v .room) i h x y in
       record {

@@ -10,12 +10,12 @@ use lib.Dec.{eqb, ltb}
 use lib.ListN.{length, getD, set}
 use lib.Seq.{getD-set-same, getD-set-other}
 use lib.Ieee.{Float, binary64, ofBits}
+use Rattle.net_node.proofs.Tables.{RoomIn, put-room, put-same, put-other, Fits, fits-indexed}
 use Rattle.laws.specs.Answer.{Answer, refused, given, andThen}
 use Rattle.net_node.specs.declared.EstTime.{EstTime}
 use Rattle.net_node.specs.declared.EstType.the-variants.{Fake}
 use Rattle.net_node.specs.Table.{Indexed, blank, noLinkEvent, Table, put, at}
 use Rattle.net_insertion.specs.Insertion.{flagged}
-use Rattle.net_insertion.proofs.Puts.{RoomIn, put-room, put-same, put-other, Fits, fits-indexed}
 use Rattle.net_insertion.proofs.Answers.{flagged-set, flagged-clear}
 use Rattle.net_event_map.specs.EventMap.{headOf}
 use Rattle.net_event_map.proofs.Lists.{known, not-both}

@@ -20,19 +20,12 @@ pub enum TailAnswer {
 fn fake_node(next: u32, prev: u32, prev_alt: u32, time: f64) -> EstTime
     ensures { λ r. ⌜ r ≡ fakeNode next prev «prev_alt» time ⌝ }
 {
-    let blank = net_node::blank_node();
-    let link_event = blank.link_event;
-    EstTime {
-        time_sched: blank.time_sched,
-        time_to_next: time,
-        dist_to_next: blank.dist_to_next,
-        speed: blank.speed,
-        idx_next: next,
-        idx_next_alt: 0,
-        idx_prev: prev,
-        idx_prev_alt: prev_alt,
-        link_event,
-    }
+    let mut fake = net_node::blank_node();
+    fake.time_to_next = time;
+    fake.idx_next = next;
+    fake.idx_prev = prev;
+    fake.idx_prev_alt = prev_alt;
+    fake
 }
 
 // Node 0 leads to node 1, the start, which holds the departure.
@@ -85,18 +78,11 @@ pub fn finish(
 fn lead_to_end(node: EstTime, next: u32) -> EstTime
     ensures { λ r. ⌜ r ≡ leadsToEnd node next ⌝ }
 {
-    let link_event = node.link_event;
-    EstTime {
-        time_sched: node.time_sched,
-        time_to_next: 0.0,
-        dist_to_next: 0.0,
-        speed: node.speed,
-        idx_next: next,
-        idx_next_alt: node.idx_next_alt,
-        idx_prev: node.idx_prev,
-        idx_prev_alt: node.idx_prev_alt,
-        link_event,
-    }
+    let mut led = node;
+    led.time_to_next = 0.0;
+    led.dist_to_next = 0.0;
+    led.idx_next = next;
+    led
 }
 
 // "End Fakes are pushed for the ends in reverse": the latest is `last_end`, or 0.

@@ -8,16 +8,16 @@ use native.Mathlib.Omega.{arith}
 use lib.Dec.{ltb}
 use lib.Ieee.{Float}
 use lib.ListN.{length, getD}
+use Rattle.net_node.proofs.Tables.{RoomIn, either}
 use Rattle.laws.specs.Answer.{refused}
 use Rattle.net_node.specs.declared.EstType.the-variants.{Fake}
 use Rattle.net_node.specs.declared.EstTime.{EstTime}
 use Rattle.net_node.specs.declared.TimedEvent.{TimedEvent}
-use Rattle.net_node.specs.Table.{nodeAt, Indexed, Table, at}
+use Rattle.net_node.specs.Table.{nodeAt, Indexed, Table, at, withNextAlt}
 use Rattle.net_insertion.specs.declared.Place.{Place}
 use Rattle.net_insertion.specs.declared.Inserted.{Inserted}
 use Rattle.net_insertion.specs.declared.Inserted.the-variants.{Added, Moved, Refused}
-use Rattle.net_insertion.specs.Insertion.{linkedTo, eventNode, splitFake, alternating, inserted, insertedTable, InsertedInto, flagged}
-use Rattle.net_insertion.proofs.Puts.{RoomIn, either}
+use Rattle.net_insertion.specs.Insertion.{linkedTo, eventNode, splitFake, inserted, insertedTable, InsertedInto, flagged}
 use Rattle.net_insertion.proofs.Kept.{inserted-same, more, Kept, inserted-room, call-kept}
 use Rattle.net_event_map.specs.declared.Layout.{Layout}
 use Rattle.net_event_map.specs.EventMap.{Mapped, MapOnly}
@@ -118,7 +118,7 @@ module _ {w : Layout} {start : List ℕ} {fs : List Float} {us cells : List ℕ}
         }
 
     ready-split : (after : Table) (q : Place) → KeptAs after (Added q true) → Ready after (q .«idx_prev») true
-    unfolding linkedTo alternating splitFake
+    unfolding linkedTo splitFake
     ready-split after q k =
         let i : c .nodes + 1 ≡ q .«idx_prev» = omega (arith, k .grown .last) in
         let fake : at after (c .nodes) .«link_event» .«est_type» ≡ Fake = ap (λ (x : EstTime). x .«link_event» .«est_type») (k .fake) in

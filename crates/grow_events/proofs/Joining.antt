@@ -6,10 +6,10 @@ use Prim.Native.Nat.{ℕ, _+_, _<_}
 use native.Mathlib.Omega.{arith}
 use borrow.Author.Tests.{not-true, not-false}
 use lib.Ieee.{Float}
+use Rattle.net_node.proofs.Tables.{RoomIn}
 use Rattle.laws.specs.Answer.{refused}
 use Rattle.net_node.specs.declared.TimedEvent.{TimedEvent}
 use Rattle.net_node.specs.Table.{nodeAt, Indexed, Table, at}
-use Rattle.net_insertion.proofs.Puts.{RoomIn}
 use Rattle.net_event_map.specs.declared.Layout.{Layout}
 use Rattle.net_event_map.specs.EventMap.{Mapped}
 use Rattle.net_strands.specs.declared.EstJoinPath.{EstJoinPath}

@@ -9,17 +9,18 @@ use native.Mathlib.Omega.{arith}
 use borrow.Author.Tests.{ltb-true}
 use lib.Dec.{ltb}
 use lib.Ieee.{Float, binary64, add, ofBits}
+use Rattle.net_node.proofs.Tables.{RoomIn}
 use Rattle.laws.specs.Answer.{Answer, refused, given, andThen}
 use Rattle.book_format.specs.Format.{originLink, lengthBits, floatOf}
 use Rattle.net_node.specs.declared.EstType.the-variants.{Arrive, Clear}
 use Rattle.net_node.specs.declared.EstTime.{EstTime}
 use Rattle.net_node.specs.declared.TimedEvent.{TimedEvent}
-use Rattle.net_node.specs.Table.{Indexed, Table, at}
+use Rattle.net_node.specs.Table.{Indexed, Table, at, withNextAlt}
 use Rattle.net_insertion.specs.declared.Place.{Place}
 use Rattle.net_insertion.specs.declared.Inserted.{Inserted}
 use Rattle.net_insertion.specs.declared.Inserted.the-variants.{Added}
-use Rattle.net_insertion.specs.Insertion.{seek, linkedTo, eventNode, splitFake, alternating, addBehind, splitAt, placeAt, addedAs, inserted, insertedTable}
-use Rattle.net_insertion.proofs.Puts.{RoomIn, add-found, add-new, add-indexed, add-other, add-room, split-found, split-new, split-indexed, split-other, split-room}
+use Rattle.net_insertion.specs.Insertion.{seek, linkedTo, eventNode, splitFake, addBehind, splitAt, placeAt, addedAs, inserted, insertedTable}
+use Rattle.net_insertion.proofs.Puts.{add-found, add-new, add-indexed, add-other, add-room, split-found, split-new, split-indexed, split-other, split-room}
 use Rattle.grow_rules.specs.Run.{Net, Run, After, addedTo, movedTo, memberOf, insertedRun, insertEvent}
 use Rattle.grow_rules.specs.Growth.{Growth, joinGap, originEvent, originRun, seekLeg, growOrigin}
 use Rattle.grow_origins.specs.Origins.{OtherLinks}
@@ -62,7 +63,7 @@ record Behind (t : Table) (n places i : ℕ) (e : TimedEvent) (u : Table) : Type
 
 -- an event behind a Fake, which is node i's alternative
 record BehindFake (t : Table) (n places i : ℕ) (p : Place) (e : TimedEvent) (u : Table) : Type 0 where
-  found : at u i ≡ alternating (at t i) n
+  found : at u i ≡ withNextAlt (at t i) n
   fake : at u n ≡ linkedTo (splitFake p i) (n + 1) e
   new : at u (n + 1) ≡ eventNode e n
   others : (j : ℕ) → j ≢ i → j ≢ n → j ≢ n + 1 → at u j ≡ at t j

@@ -8,6 +8,7 @@ use native.Mathlib.Omega.{arith}
 use lib.ListN.{length, getD, drop}
 use lib.Seq.{drop-cons, drop-length}
 use lib.Ieee.{Float}
+use Rattle.net_node.proofs.Tables.{RoomIn}
 use Rattle.laws.specs.Answer.{Answer, refused, given, andThen}
 use Rattle.book_format.specs.Format.{links, origins, destinations, legLink, originLink}
 use Rattle.book_format.proofs.Given.{limits}
@@ -29,7 +30,6 @@ use Rattle.grow_state.specs.declared.GrowthAnswer.{GrowthAnswer}
 use Rattle.grow_state.specs.declared.GrowthAnswer.the-variants.{On, Refused}
 use Rattle.grow_state.specs.Held.{PlanIn}
 use Rattle.net_node.specs.Table.{Indexed, nodeAt, Table, at}
-use Rattle.net_insertion.proofs.Puts.{RoomIn}
 use Rattle.grow_origins.specs.Origins.{originAnswer, LeadsFrom, OnlyStart, OtherLinks, AllFirst, NotOver, OriginsIn, SomeOrigin, SomeOrigins, OriginsGiven, OriginsAs, savedOrigin, OriginInserted, SomeOriginInserted}
 use Rattle.grow_origins.proofs.OriginEvents.{fewer-as, origin-joins, origin-not-left, origin-given, origin-refused}
 use Rattle.grow_origins.proofs.Starting.{AtLast, at-start, comes-first, leads-from}

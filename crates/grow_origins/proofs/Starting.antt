@@ -8,16 +8,16 @@ use native.Mathlib.Omega.{arith}
 use borrow.Author.Tests.{eq-eqb, ne-eqb}
 use lib.Dec.{eqb, ltb}
 use lib.Ieee.{Float}
+use Rattle.net_node.proofs.Tables.{either}
 use Rattle.book_format.specs.Format.{originLink}
 use Rattle.net_node.specs.declared.EstTime.{EstTime}
 use Rattle.net_node.specs.declared.TimedEvent.{TimedEvent}
 use Rattle.net_node.specs.declared.LinkEvent.{LinkEvent}
-use Rattle.net_node.specs.Table.{Indexed, sameEvent, Table, at}
+use Rattle.net_node.specs.Table.{Indexed, sameEvent, Table, at, withNextAlt}
 use Rattle.net_insertion.specs.declared.Place.{Place}
 use Rattle.net_insertion.specs.declared.Inserted.the-variants.{Added}
-use Rattle.net_insertion.specs.Insertion.{matches, found, seek, linkedTo, splitFake, alternating, addBehind, splitAt, placeAt, addedAs, insertedAs, tableAs, soughtIn, inserted, insertedTable}
+use Rattle.net_insertion.specs.Insertion.{matches, found, seek, linkedTo, splitFake, addBehind, splitAt, placeAt, addedAs, insertedAs, tableAs, soughtIn, inserted, insertedTable}
 use Rattle.net_insertion.proofs.Seeking.{seek-turn}
-use Rattle.net_insertion.proofs.Puts.{either}
 use Rattle.grow_origins.specs.Origins.{OtherLinks, placeOn, LeadsFrom, OnlyStart}
 
 -- ---- a turn of the search
@@ -209,7 +209,7 @@ module _ (b : List ℕ) (idx : ℕ) (idxs : List ℕ) (t : Table) (n last : ℕ)
     }
 
   -- it is behind a Fake, the alternative that follows
-  module _ (m : ℕ) (grows : n + 1 < m) (p : Place) (leading : Leading b (idx ∷ idxs) t n last) (indexed : Indexed (at t) n) (led : at u last ≡ alternating (at t last) n) (fake : at u n ≡ linkedTo (splitFake p last) (n + 1) e) (event : at u (n + 1) .«link_event» ≡ e .«link_event») where
+  module _ (m : ℕ) (grows : n + 1 < m) (p : Place) (leading : Leading b (idx ∷ idxs) t n last) (indexed : Indexed (at t) n) (led : at u last ≡ withNextAlt (at t last) n) (fake : at u n ≡ linkedTo (splitFake p last) (n + 1) e) (event : at u (n + 1) .«link_event» ≡ e .«link_event») where
     fake-next : at u n .«idx_next» ≡ n + 1
     unfolding linkedTo
     fake-next = ap (λ (x : EstTime). x .«idx_next») fake
@@ -219,20 +219,17 @@ module _ (b : List ℕ) (idx : ℕ) (idxs : List ℕ) (t : Table) (n last : ℕ)
     fake-alt = ap (λ (x : EstTime). x .«idx_next_alt») fake
 
     split-event : at u last .«link_event» ≡ at t last .«link_event»
-    unfolding alternating
     split-event = ap (λ (x : EstTime). x .«link_event») led
 
     -- one alternative more is passed
     module _ (node : ℕ → EstTime) (like : Like u m n node) (join : Float) (f : TimedEvent) (c : Comes b idxs (f .«link_event» .«link_idx»)) where
-      there : node last ≡ alternating (at t last) n
+      there : node last ≡ withNextAlt (at t last) n
       there = like .others last (omega (arith, v .within)) (λ (o : last ≡ n). omega (arith, v .within)) ∙ led
 
       there-next : node last .«idx_next» ≡ at t last .«idx_next»
-      unfolding alternating
       there-next = ap (λ (x : EstTime). x .«idx_next») there
 
       there-alt : node last .«idx_next_alt» ≡ n
-      unfolding alternating
       there-alt = ap (λ (x : EstTime). x .«idx_next_alt») there
 
       before : Like t n last node

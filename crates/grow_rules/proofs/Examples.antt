@@ -5,7 +5,7 @@ use mathlib.Core.List.{List, [], _∷_}
 use Prim.Native.Nat.{ℕ, zero, suc, _*_}
 use Rattle.laws.specs.Answer.{Answer, refused, given}
 use Rattle.net_node.specs.declared.EstTime.{EstTime}
-use Rattle.net_node.specs.Table.{kindNumber, Table, put, at}
+use Rattle.net_node.specs.Table.{kindNumber, Table, put, at, withNextAlt, withPrevAlt}
 use lib.ListN.{replicate}
 use lib.Ieee.{Float, binary64, ofBits, toBits, add, sub, mul, div, lt, le, eq, round, sum, isNan, neg, below, level}
 use Rattle.grow_rules.specs.Run.{Arc}
@@ -21,11 +21,11 @@ use Rattle.event_formula.specs.Event.{eventOffset, clears, twiceAhead, speedAt,
 use Rattle.net_node.specs.Table.{sameKind, sameEvent, nodeAt, putFloats, putNumbers, noLinkEvent, blank}
 use Rattle.event_walk.specs.Course.{courseOf}
 use Rattle.event_walk.specs.Walk.{firstBeyond, startBack, startFront, start, offsetNext, inRange, clearsNext, emits, turned, turn, passedAs, passedNext, walk, turnsLeft, passedFrom, pointsPassed, reachesLast, badPoint, someBad, row11}
-use Rattle.net_insertion.specs.Insertion.{matches, seek, linkedTo, eventNode, splitFake, alternating, addBehind, splitAt, placeAt, soughtIn, inserted, insertedTable, flagged}
+use Rattle.net_insertion.specs.Insertion.{matches, seek, linkedTo, eventNode, splitFake, addBehind, splitAt, placeAt, soughtIn, inserted, insertedTable, flagged}
 use Rattle.net_strands.specs.Entries.{entry, entryAt, entriesIn, push}
 use Rattle.net_strands.specs.Space.{alternatives, strandFrom, strands, extended, extendedAll}
 use Rattle.net_event_map.specs.EventMap.{seenIn, nodesFrom, eventNodes, lastOf, arriveAt, clearAt}
-use Rattle.net_joins.specs.Joins.{closer, closestOf, closest, chainEnd, joinedBy, joinFake, joinAt, joinedTable, names, appendedAll, appended, rebuilt, joinStep}
+use Rattle.net_joins.specs.Joins.{closer, closestOf, closest, chainEnd, joinFake, joinAt, joinedTable, names, appendedAll, appended, rebuilt, joinStep}
 use Rattle.grow_path.specs.Path.{legsTo, pathOf, linkOf, pointLink, pointOffset, legCourse, eventAt, eventsAt, legEvents}
 use Rattle.grow_rules.specs.Growth.{fakeNode, firstNodes, originEvent, originRun, seekLeg, growOrigins, badFinish, finishedAt, waiting, onOver, saveOver, goOn, isDestination, finishes, takeLeg, drive, leadsToEnd, endFakes, lastNode, grownWith, grow}
 use Rattle.grow_rules.specs.Run.{arcTo, arcToEnd, addedTo, movedTo, insertEvent, joinedTo, withJoins, runEvent, runEvents}
@@ -59,7 +59,7 @@ worked =
 
 worked-grown : summary (grow worked 8 (lent 8)) ≡ 8 ∷ 4 ∷ 0 ∷ 0 ∷ 1 ∷ 2 ∷ 0 ∷ 1 ∷ 0 ∷ 0 ∷ 0 ∷ 0 ∷ 0 ∷ 0 ∷ 2 ∷ 0 ∷ 2 ∷ 0 ∷ 0 ∷ 0 ∷ 0 ∷ 0 ∷ 0 ∷ 0 ∷ 1 ∷ 3 ∷ 0 ∷ 1 ∷ 0 ∷ 0 ∷ 4621819117588971520 ∷ 0 ∷ 1 ∷ 1 ∷ 4 ∷ 0 ∷ 2 ∷ 0 ∷ 4611686018427387904 ∷ 4611686018427387904 ∷ 0 ∷ 0 ∷ 2 ∷ 5 ∷ 0 ∷ 3 ∷ 0 ∷ 4613937818241073152 ∷ 4621819117588971520 ∷ 4611686018427387904 ∷ 1 ∷ 2 ∷ 6 ∷ 0 ∷ 4 ∷ 0 ∷ 0 ∷ 0 ∷ 4616189618054758400 ∷ 2 ∷
     0 ∷ 7 ∷ 0 ∷ 5 ∷ 0 ∷ 0 ∷ 0 ∷ 0 ∷ 2 ∷ 0 ∷ 0 ∷ 0 ∷ 6 ∷ 0 ∷ 0 ∷ 0 ∷ 0 ∷ []
-unfolding someBelow sumBelow u32At u64At billion tableFloat abs gap smaller rootDigits wholeRoot rootOf sqrt legBelow joinBits departureBits lengthBits links originsAt origins destinationsAt destinations legsAt legs samplesAt samples endOf sectionsOf linkLength linkNext linkNextAlt linkPrev linkPrevAlt originLink originOffset originFront destinationLink legLink legParent legSamples sampleTime sampleOffset sampleSpeed firstSample linkAt originAt legAt sampleFrom sampleAt samplePatterns headPatterns member originBelow stacked pushed enter search optionsOf inSet keptOrigins eventOffset clears twiceAhead speedAt timeAt passingAt badPassing sameKind sameEvent nodeAt putFloats putNumbers noLinkEvent blank courseOf firstBeyond startBack startFront start offsetNext inRange clearsNext emits turned turn passedAs passedNext walk turnsLeft passedFrom pointsPassed reachesLast badPoint someBad row11 matches seek linkedTo eventNode splitFake alternating put at addBehind splitAt placeAt soughtIn inserted insertedTable flagged entry entryAt entriesIn push alternatives strandFrom strands extended extendedAll seenIn nodesFrom eventNodes lastOf arriveAt clearAt closer closestOf closest chainEnd joinedBy joinFake joinAt joinedTable names appendedAll appended rebuilt joinStep legsTo pathOf linkOf pointLink pointOffset legCourse eventAt eventsAt legEvents fakeNode firstNodes originEvent originRun seekLeg growOrigins badFinish finishedAt waiting onOver saveOver goOn isDestination finishes takeLeg drive leadsToEnd endFakes lastNode grownWith grow arcTo arcToEnd addedTo movedTo insertEvent joinedTo withJoins runEvent runEvents add sub mul div lt le eq ofBits round sum toBits isNan neg
+unfolding someBelow sumBelow u32At u64At billion tableFloat abs gap smaller rootDigits wholeRoot rootOf sqrt legBelow joinBits departureBits lengthBits links originsAt origins destinationsAt destinations legsAt legs samplesAt samples endOf sectionsOf linkLength linkNext linkNextAlt linkPrev linkPrevAlt originLink originOffset originFront destinationLink legLink legParent legSamples sampleTime sampleOffset sampleSpeed firstSample linkAt originAt legAt sampleFrom sampleAt samplePatterns headPatterns member originBelow stacked pushed enter search optionsOf inSet keptOrigins eventOffset clears twiceAhead speedAt timeAt passingAt badPassing sameKind sameEvent nodeAt putFloats putNumbers noLinkEvent blank courseOf firstBeyond startBack startFront start offsetNext inRange clearsNext emits turned turn passedAs passedNext walk turnsLeft passedFrom pointsPassed reachesLast badPoint someBad row11 matches seek linkedTo eventNode splitFake put at addBehind splitAt placeAt soughtIn inserted insertedTable flagged entry entryAt entriesIn push alternatives strandFrom strands extended extendedAll seenIn nodesFrom eventNodes lastOf arriveAt clearAt closer closestOf closest chainEnd joinFake joinAt joinedTable names appendedAll appended rebuilt joinStep legsTo pathOf linkOf pointLink pointOffset legCourse eventAt eventsAt legEvents fakeNode firstNodes originEvent originRun seekLeg growOrigins badFinish finishedAt waiting onOver saveOver goOn isDestination finishes takeLeg drive leadsToEnd endFakes lastNode grownWith grow arcTo arcToEnd addedTo movedTo insertEvent joinedTo withJoins runEvent runEvents add sub mul div lt le eq ofBits round sum toBits isNan neg
 worked-grown = refl
 
 -- its noted arcs, the latest first: from, to (0: the end), and the patterns of time and distance, which stand at the nodes of the listing
@@ -72,7 +72,7 @@ notedBy (refused n) = n ∷ []
 notedBy (given g) = arcs (g .noted)
 
 worked-noted : notedBy (grow worked 8 (lent 8)) ≡ 5 ∷ 0 ∷ 0 ∷ 0 ∷ 4 ∷ 5 ∷ 4613937818241073152 ∷ 4621819117588971520 ∷ 3 ∷ 4 ∷ 4611686018427387904 ∷ 4611686018427387904 ∷ 2 ∷ 3 ∷ 0 ∷ 4621819117588971520 ∷ 1 ∷ 2 ∷ 0 ∷ 0 ∷ []
-unfolding someBelow sumBelow u32At u64At billion tableFloat abs gap smaller rootDigits wholeRoot rootOf sqrt legBelow joinBits departureBits lengthBits links originsAt origins destinationsAt destinations legsAt legs samplesAt samples endOf sectionsOf linkLength linkNext linkNextAlt linkPrev linkPrevAlt originLink originOffset originFront destinationLink legLink legParent legSamples sampleTime sampleOffset sampleSpeed firstSample linkAt originAt legAt sampleFrom sampleAt samplePatterns headPatterns member originBelow stacked pushed enter search optionsOf inSet keptOrigins eventOffset clears twiceAhead speedAt timeAt passingAt badPassing sameKind sameEvent nodeAt putFloats putNumbers noLinkEvent blank courseOf firstBeyond startBack startFront start offsetNext inRange clearsNext emits turned turn passedAs passedNext walk turnsLeft passedFrom pointsPassed reachesLast badPoint someBad row11 matches seek linkedTo eventNode splitFake alternating put at addBehind splitAt placeAt soughtIn inserted insertedTable flagged entry entryAt entriesIn push alternatives strandFrom strands extended extendedAll seenIn nodesFrom eventNodes lastOf arriveAt clearAt closer closestOf closest chainEnd joinedBy joinFake joinAt joinedTable names appendedAll appended rebuilt joinStep legsTo pathOf linkOf pointLink pointOffset legCourse eventAt eventsAt legEvents fakeNode firstNodes originEvent originRun seekLeg growOrigins badFinish finishedAt waiting onOver saveOver goOn isDestination finishes takeLeg drive leadsToEnd endFakes lastNode grownWith grow arcTo arcToEnd addedTo movedTo insertEvent joinedTo withJoins runEvent runEvents add sub mul div lt le eq ofBits round sum toBits isNan neg
+unfolding someBelow sumBelow u32At u64At billion tableFloat abs gap smaller rootDigits wholeRoot rootOf sqrt legBelow joinBits departureBits lengthBits links originsAt origins destinationsAt destinations legsAt legs samplesAt samples endOf sectionsOf linkLength linkNext linkNextAlt linkPrev linkPrevAlt originLink originOffset originFront destinationLink legLink legParent legSamples sampleTime sampleOffset sampleSpeed firstSample linkAt originAt legAt sampleFrom sampleAt samplePatterns headPatterns member originBelow stacked pushed enter search optionsOf inSet keptOrigins eventOffset clears twiceAhead speedAt timeAt passingAt badPassing sameKind sameEvent nodeAt putFloats putNumbers noLinkEvent blank courseOf firstBeyond startBack startFront start offsetNext inRange clearsNext emits turned turn passedAs passedNext walk turnsLeft passedFrom pointsPassed reachesLast badPoint someBad row11 matches seek linkedTo eventNode splitFake put at addBehind splitAt placeAt soughtIn inserted insertedTable flagged entry entryAt entriesIn push alternatives strandFrom strands extended extendedAll seenIn nodesFrom eventNodes lastOf arriveAt clearAt closer closestOf closest chainEnd joinFake joinAt joinedTable names appendedAll appended rebuilt joinStep legsTo pathOf linkOf pointLink pointOffset legCourse eventAt eventsAt legEvents fakeNode firstNodes originEvent originRun seekLeg growOrigins badFinish finishedAt waiting onOver saveOver goOn isDestination finishes takeLeg drive leadsToEnd endFakes lastNode grownWith grow arcTo arcToEnd addedTo movedTo insertEvent joinedTo withJoins runEvent runEvents add sub mul div lt le eq ofBits round sum toBits isNan neg
 worked-noted = refl
 
 -- row 9's example, a lone link as origin and destination: a run never finishes in its first leg
@@ -83,7 +83,7 @@ lone =
     1 ∷ 0 ∷ 0 ∷ 0 ∷ 0 ∷ 0 ∷ 0 ∷ 0 ∷ 0 ∷ 0 ∷ 0 ∷ 0 ∷ 0 ∷ 0 ∷ 0 ∷ 0 ∷ 0 ∷ 0 ∷ 36 ∷ 64 ∷ 0 ∷ 0 ∷ 0 ∷ 0 ∷ 0 ∷ 0 ∷ 0 ∷ 0 ∷ []
 
 lone-grown : summary (grow lone 8 (lent 8)) ≡ 9 ∷ []
-unfolding someBelow sumBelow u32At u64At billion tableFloat abs gap smaller rootDigits wholeRoot rootOf sqrt legBelow joinBits departureBits lengthBits links originsAt origins destinationsAt destinations legsAt legs samplesAt samples endOf sectionsOf linkLength linkNext linkNextAlt linkPrev linkPrevAlt originLink originOffset originFront destinationLink legLink legParent legSamples sampleTime sampleOffset sampleSpeed firstSample linkAt originAt legAt sampleFrom sampleAt samplePatterns headPatterns member originBelow stacked pushed enter search optionsOf inSet keptOrigins eventOffset clears twiceAhead speedAt timeAt passingAt badPassing sameKind sameEvent nodeAt putFloats putNumbers noLinkEvent blank courseOf firstBeyond startBack startFront start offsetNext inRange clearsNext emits turned turn passedAs passedNext walk turnsLeft passedFrom pointsPassed reachesLast badPoint someBad row11 matches seek linkedTo eventNode splitFake alternating put at addBehind splitAt placeAt soughtIn inserted insertedTable flagged entry entryAt entriesIn push alternatives strandFrom strands extended extendedAll seenIn nodesFrom eventNodes lastOf arriveAt clearAt closer closestOf closest chainEnd joinedBy joinFake joinAt joinedTable names appendedAll appended rebuilt joinStep legsTo pathOf linkOf pointLink pointOffset legCourse eventAt eventsAt legEvents fakeNode firstNodes originEvent originRun seekLeg growOrigins badFinish finishedAt waiting onOver saveOver goOn isDestination finishes takeLeg drive leadsToEnd endFakes lastNode grownWith grow arcTo arcToEnd addedTo movedTo insertEvent joinedTo withJoins runEvent runEvents add sub mul div lt le eq ofBits round sum toBits isNan neg
+unfolding someBelow sumBelow u32At u64At billion tableFloat abs gap smaller rootDigits wholeRoot rootOf sqrt legBelow joinBits departureBits lengthBits links originsAt origins destinationsAt destinations legsAt legs samplesAt samples endOf sectionsOf linkLength linkNext linkNextAlt linkPrev linkPrevAlt originLink originOffset originFront destinationLink legLink legParent legSamples sampleTime sampleOffset sampleSpeed firstSample linkAt originAt legAt sampleFrom sampleAt samplePatterns headPatterns member originBelow stacked pushed enter search optionsOf inSet keptOrigins eventOffset clears twiceAhead speedAt timeAt passingAt badPassing sameKind sameEvent nodeAt putFloats putNumbers noLinkEvent blank courseOf firstBeyond startBack startFront start offsetNext inRange clearsNext emits turned turn passedAs passedNext walk turnsLeft passedFrom pointsPassed reachesLast badPoint someBad row11 matches seek linkedTo eventNode splitFake put at addBehind splitAt placeAt soughtIn inserted insertedTable flagged entry entryAt entriesIn push alternatives strandFrom strands extended extendedAll seenIn nodesFrom eventNodes lastOf arriveAt clearAt closer closestOf closest chainEnd joinFake joinAt joinedTable names appendedAll appended rebuilt joinStep legsTo pathOf linkOf pointLink pointOffset legCourse eventAt eventsAt legEvents fakeNode firstNodes originEvent originRun seekLeg growOrigins badFinish finishedAt waiting onOver saveOver goOn isDestination finishes takeLeg drive leadsToEnd endFakes lastNode grownWith grow arcTo arcToEnd addedTo movedTo insertEvent joinedTo withJoins runEvent runEvents add sub mul div lt le eq ofBits round sum toBits isNan neg
 lone-grown = refl
 
 -- refused with 9
@@ -98,7 +98,7 @@ book2 =
     0 ∷ 0 ∷ 0 ∷ 64 ∷ 74 ∷ 30 ∷ 31 ∷ 18 ∷ 2 ∷ 70 ∷ 19 ∷ 64 ∷ 198 ∷ 88 ∷ 252 ∷ 50 ∷ 139 ∷ 64 ∷ 128 ∷ 64 ∷ 0 ∷ 0 ∷ 0 ∷ 0 ∷ 0 ∷ 0 ∷ 0 ∷ 64 ∷ 245 ∷ 15 ∷ 67 ∷ 30 ∷ 39 ∷ 2 ∷ 91 ∷ 64 ∷ 74 ∷ 160 ∷ 68 ∷ 242 ∷ 252 ∷ 179 ∷ 134 ∷ 64 ∷ 0 ∷ 0 ∷ 0 ∷ 0 ∷ 0 ∷ 0 ∷ 0 ∷ 64 ∷ []
 
 book2-grown : summary (grow book2 5 (lent 5)) ≡ 9 ∷ []
-unfolding someBelow sumBelow u32At u64At billion tableFloat abs gap smaller rootDigits wholeRoot rootOf sqrt legBelow joinBits departureBits lengthBits links originsAt origins destinationsAt destinations legsAt legs samplesAt samples endOf sectionsOf linkLength linkNext linkNextAlt linkPrev linkPrevAlt originLink originOffset originFront destinationLink legLink legParent legSamples sampleTime sampleOffset sampleSpeed firstSample linkAt originAt legAt sampleFrom sampleAt samplePatterns headPatterns member originBelow stacked pushed enter search optionsOf inSet keptOrigins eventOffset clears twiceAhead speedAt timeAt passingAt badPassing sameKind sameEvent nodeAt putFloats putNumbers noLinkEvent blank courseOf firstBeyond startBack startFront start offsetNext inRange clearsNext emits turned turn passedAs passedNext walk turnsLeft passedFrom pointsPassed reachesLast badPoint someBad row11 matches seek linkedTo eventNode splitFake alternating put at addBehind splitAt placeAt soughtIn inserted insertedTable flagged entry entryAt entriesIn push alternatives strandFrom strands extended extendedAll seenIn nodesFrom eventNodes lastOf arriveAt clearAt closer closestOf closest chainEnd joinedBy joinFake joinAt joinedTable names appendedAll appended rebuilt joinStep legsTo pathOf linkOf pointLink pointOffset legCourse eventAt eventsAt legEvents fakeNode firstNodes originEvent originRun seekLeg growOrigins badFinish finishedAt waiting onOver saveOver goOn isDestination finishes takeLeg drive leadsToEnd endFakes lastNode grownWith grow arcTo arcToEnd addedTo movedTo insertEvent joinedTo withJoins runEvent runEvents add sub mul div lt le eq ofBits round sum toBits isNan neg
+unfolding someBelow sumBelow u32At u64At billion tableFloat abs gap smaller rootDigits wholeRoot rootOf sqrt legBelow joinBits departureBits lengthBits links originsAt origins destinationsAt destinations legsAt legs samplesAt samples endOf sectionsOf linkLength linkNext linkNextAlt linkPrev linkPrevAlt originLink originOffset originFront destinationLink legLink legParent legSamples sampleTime sampleOffset sampleSpeed firstSample linkAt originAt legAt sampleFrom sampleAt samplePatterns headPatterns member originBelow stacked pushed enter search optionsOf inSet keptOrigins eventOffset clears twiceAhead speedAt timeAt passingAt badPassing sameKind sameEvent nodeAt putFloats putNumbers noLinkEvent blank courseOf firstBeyond startBack startFront start offsetNext inRange clearsNext emits turned turn passedAs passedNext walk turnsLeft passedFrom pointsPassed reachesLast badPoint someBad row11 matches seek linkedTo eventNode splitFake put at addBehind splitAt placeAt soughtIn inserted insertedTable flagged entry entryAt entriesIn push alternatives strandFrom strands extended extendedAll seenIn nodesFrom eventNodes lastOf arriveAt clearAt closer closestOf closest chainEnd joinFake joinAt joinedTable names appendedAll appended rebuilt joinStep legsTo pathOf linkOf pointLink pointOffset legCourse eventAt eventsAt legEvents fakeNode firstNodes originEvent originRun seekLeg growOrigins badFinish finishedAt waiting onOver saveOver goOn isDestination finishes takeLeg drive leadsToEnd endFakes lastNode grownWith grow arcTo arcToEnd addedTo movedTo insertEvent joinedTo withJoins runEvent runEvents add sub mul div lt le eq ofBits round sum toBits isNan neg
 book2-grown = refl
 
 -- 0 splits, 0 joined, 1 finished
@@ -117,7 +117,7 @@ book6 =
 book6-grown : summary (grow book6 18 (lent 18)) ≡ 14 ∷ 10 ∷ 0 ∷ 0 ∷ 1 ∷ 2 ∷ 0 ∷ 1 ∷ 0 ∷ 0 ∷ 0 ∷ 0 ∷ 0 ∷ 0 ∷ 2 ∷ 0 ∷ 2 ∷ 0 ∷ 0 ∷ 0 ∷ 0 ∷ 0 ∷ 0 ∷ 0 ∷ 1 ∷ 3 ∷ 0 ∷ 1 ∷ 0 ∷ 0 ∷ 0 ∷ 0 ∷ 1 ∷ 1 ∷ 4 ∷ 0 ∷ 2 ∷ 0 ∷ 4610785298501913806 ∷ 4619848792751996928 ∷ 0 ∷ 0 ∷ 3 ∷ 5 ∷ 0 ∷ 3 ∷ 0 ∷ 0 ∷ 0 ∷ 4617315517961601024 ∷ 1 ∷ 3 ∷ 6 ∷ 0 ∷ 4 ∷ 0 ∷ 4615401488119968563 ∷ 4625830136007098368 ∷ 4617315517961601024 ∷ 0 ∷
     4 ∷ 7 ∷ 0 ∷ 5 ∷ 0 ∷ 0 ∷ 0 ∷ 4617315517961601024 ∷ 1 ∷ 4 ∷ 8 ∷ 0 ∷ 6 ∷ 0 ∷ 4614725948175862986 ∷ 4625407923542032384 ∷ 4617315517961601024 ∷ 0 ∷ 5 ∷ 9 ∷ 0 ∷ 7 ∷ 0 ∷ 0 ∷ 0 ∷ 4617315517961601024 ∷ 1 ∷ 5 ∷ 10 ∷ 0 ∷ 8 ∷ 0 ∷ 4614613358185178728 ∷ 4625337554797854720 ∷ 4617315517961601024 ∷ 0 ∷ 6 ∷ 11 ∷ 0 ∷ 9 ∷ 0 ∷ 0 ∷ 0 ∷ 4617315517961601024 ∷ 1 ∷ 6 ∷ 12 ∷ 0 ∷ 10 ∷ 0 ∷ 0 ∷ 0 ∷ 4617315517961601024 ∷ 2 ∷ 0 ∷ 13 ∷ 0 ∷ 11 ∷ 0 ∷ 0 ∷
     0 ∷ 0 ∷ 2 ∷ 0 ∷ 0 ∷ 0 ∷ 12 ∷ 0 ∷ 0 ∷ 0 ∷ 0 ∷ []
-unfolding someBelow sumBelow u32At u64At billion tableFloat abs gap smaller rootDigits wholeRoot rootOf sqrt legBelow joinBits departureBits lengthBits links originsAt origins destinationsAt destinations legsAt legs samplesAt samples endOf sectionsOf linkLength linkNext linkNextAlt linkPrev linkPrevAlt originLink originOffset originFront destinationLink legLink legParent legSamples sampleTime sampleOffset sampleSpeed firstSample linkAt originAt legAt sampleFrom sampleAt samplePatterns headPatterns member originBelow stacked pushed enter search optionsOf inSet keptOrigins eventOffset clears twiceAhead speedAt timeAt passingAt badPassing sameKind sameEvent nodeAt putFloats putNumbers noLinkEvent blank courseOf firstBeyond startBack startFront start offsetNext inRange clearsNext emits turned turn passedAs passedNext walk turnsLeft passedFrom pointsPassed reachesLast badPoint someBad row11 matches seek linkedTo eventNode splitFake alternating put at addBehind splitAt placeAt soughtIn inserted insertedTable flagged entry entryAt entriesIn push alternatives strandFrom strands extended extendedAll seenIn nodesFrom eventNodes lastOf arriveAt clearAt closer closestOf closest chainEnd joinedBy joinFake joinAt joinedTable names appendedAll appended rebuilt joinStep legsTo pathOf linkOf pointLink pointOffset legCourse eventAt eventsAt legEvents fakeNode firstNodes originEvent originRun seekLeg growOrigins badFinish finishedAt waiting onOver saveOver goOn isDestination finishes takeLeg drive leadsToEnd endFakes lastNode grownWith grow arcTo arcToEnd addedTo movedTo insertEvent joinedTo withJoins runEvent runEvents add sub mul div lt le eq ofBits round sum toBits isNan neg
+unfolding someBelow sumBelow u32At u64At billion tableFloat abs gap smaller rootDigits wholeRoot rootOf sqrt legBelow joinBits departureBits lengthBits links originsAt origins destinationsAt destinations legsAt legs samplesAt samples endOf sectionsOf linkLength linkNext linkNextAlt linkPrev linkPrevAlt originLink originOffset originFront destinationLink legLink legParent legSamples sampleTime sampleOffset sampleSpeed firstSample linkAt originAt legAt sampleFrom sampleAt samplePatterns headPatterns member originBelow stacked pushed enter search optionsOf inSet keptOrigins eventOffset clears twiceAhead speedAt timeAt passingAt badPassing sameKind sameEvent nodeAt putFloats putNumbers noLinkEvent blank courseOf firstBeyond startBack startFront start offsetNext inRange clearsNext emits turned turn passedAs passedNext walk turnsLeft passedFrom pointsPassed reachesLast badPoint someBad row11 matches seek linkedTo eventNode splitFake put at addBehind splitAt placeAt soughtIn inserted insertedTable flagged entry entryAt entriesIn push alternatives strandFrom strands extended extendedAll seenIn nodesFrom eventNodes lastOf arriveAt clearAt closer closestOf closest chainEnd joinFake joinAt joinedTable names appendedAll appended rebuilt joinStep legsTo pathOf linkOf pointLink pointOffset legCourse eventAt eventsAt legEvents fakeNode firstNodes originEvent originRun seekLeg growOrigins badFinish finishedAt waiting onOver saveOver goOn isDestination finishes takeLeg drive leadsToEnd endFakes lastNode grownWith grow arcTo arcToEnd addedTo movedTo insertEvent joinedTo withJoins runEvent runEvents add sub mul div lt le eq ofBits round sum toBits isNan neg
 book6-grown = refl
 
 -- refused with 12
@@ -131,7 +131,7 @@ book11 =
     144 ∷ 244 ∷ 39 ∷ 64 ∷ []
 
 book11-grown : summary (grow book11 6 (lent 6)) ≡ 12 ∷ []
-unfolding someBelow sumBelow u32At u64At billion tableFloat abs gap smaller rootDigits wholeRoot rootOf sqrt legBelow joinBits departureBits lengthBits links originsAt origins destinationsAt destinations legsAt legs samplesAt samples endOf sectionsOf linkLength linkNext linkNextAlt linkPrev linkPrevAlt originLink originOffset originFront destinationLink legLink legParent legSamples sampleTime sampleOffset sampleSpeed firstSample linkAt originAt legAt sampleFrom sampleAt samplePatterns headPatterns member originBelow stacked pushed enter search optionsOf inSet keptOrigins eventOffset clears twiceAhead speedAt timeAt passingAt badPassing sameKind sameEvent nodeAt putFloats putNumbers noLinkEvent blank courseOf firstBeyond startBack startFront start offsetNext inRange clearsNext emits turned turn passedAs passedNext walk turnsLeft passedFrom pointsPassed reachesLast badPoint someBad row11 matches seek linkedTo eventNode splitFake alternating put at addBehind splitAt placeAt soughtIn inserted insertedTable flagged entry entryAt entriesIn push alternatives strandFrom strands extended extendedAll seenIn nodesFrom eventNodes lastOf arriveAt clearAt closer closestOf closest chainEnd joinedBy joinFake joinAt joinedTable names appendedAll appended rebuilt joinStep legsTo pathOf linkOf pointLink pointOffset legCourse eventAt eventsAt legEvents fakeNode firstNodes originEvent originRun seekLeg growOrigins badFinish finishedAt waiting onOver saveOver goOn isDestination finishes takeLeg drive leadsToEnd endFakes lastNode grownWith grow arcTo arcToEnd addedTo movedTo insertEvent joinedTo withJoins runEvent runEvents add sub mul div lt le eq ofBits round sum toBits isNan neg
+unfolding someBelow sumBelow u32At u64At billion tableFloat abs gap smaller rootDigits wholeRoot rootOf sqrt legBelow joinBits departureBits lengthBits links originsAt origins destinationsAt destinations legsAt legs samplesAt samples endOf sectionsOf linkLength linkNext linkNextAlt linkPrev linkPrevAlt originLink originOffset originFront destinationLink legLink legParent legSamples sampleTime sampleOffset sampleSpeed firstSample linkAt originAt legAt sampleFrom sampleAt samplePatterns headPatterns member originBelow stacked pushed enter search optionsOf inSet keptOrigins eventOffset clears twiceAhead speedAt timeAt passingAt badPassing sameKind sameEvent nodeAt putFloats putNumbers noLinkEvent blank courseOf firstBeyond startBack startFront start offsetNext inRange clearsNext emits turned turn passedAs passedNext walk turnsLeft passedFrom pointsPassed reachesLast badPoint someBad row11 matches seek linkedTo eventNode splitFake put at addBehind splitAt placeAt soughtIn inserted insertedTable flagged entry entryAt entriesIn push alternatives strandFrom strands extended extendedAll seenIn nodesFrom eventNodes lastOf arriveAt clearAt closer closestOf closest chainEnd joinFake joinAt joinedTable names appendedAll appended rebuilt joinStep legsTo pathOf linkOf pointLink pointOffset legCourse eventAt eventsAt legEvents fakeNode firstNodes originEvent originRun seekLeg growOrigins badFinish finishedAt waiting onOver saveOver goOn isDestination finishes takeLeg drive leadsToEnd endFakes lastNode grownWith grow arcTo arcToEnd addedTo movedTo insertEvent joinedTo withJoins runEvent runEvents add sub mul div lt le eq ofBits round sum toBits isNan neg
 book11-grown = refl
 
 -- refused with 11
@@ -146,7 +146,7 @@ book26 =
     242 ∷ 223 ∷ 58 ∷ 64 ∷ []
 
 book26-grown : summary (grow book26 40 (lent 40)) ≡ 11 ∷ []
-unfolding someBelow sumBelow u32At u64At billion tableFloat abs gap smaller rootDigits wholeRoot rootOf sqrt legBelow joinBits departureBits lengthBits links originsAt origins destinationsAt destinations legsAt legs samplesAt samples endOf sectionsOf linkLength linkNext linkNextAlt linkPrev linkPrevAlt originLink originOffset originFront destinationLink legLink legParent legSamples sampleTime sampleOffset sampleSpeed firstSample linkAt originAt legAt sampleFrom sampleAt samplePatterns headPatterns member originBelow stacked pushed enter search optionsOf inSet keptOrigins eventOffset clears twiceAhead speedAt timeAt passingAt badPassing sameKind sameEvent nodeAt putFloats putNumbers noLinkEvent blank courseOf firstBeyond startBack startFront start offsetNext inRange clearsNext emits turned turn passedAs passedNext walk turnsLeft passedFrom pointsPassed reachesLast badPoint someBad row11 matches seek linkedTo eventNode splitFake alternating put at addBehind splitAt placeAt soughtIn inserted insertedTable flagged entry entryAt entriesIn push alternatives strandFrom strands extended extendedAll seenIn nodesFrom eventNodes lastOf arriveAt clearAt closer closestOf closest chainEnd joinedBy joinFake joinAt joinedTable names appendedAll appended rebuilt joinStep legsTo pathOf linkOf pointLink pointOffset legCourse eventAt eventsAt legEvents fakeNode firstNodes originEvent originRun seekLeg growOrigins badFinish finishedAt waiting onOver saveOver goOn isDestination finishes takeLeg drive leadsToEnd endFakes lastNode grownWith grow arcTo arcToEnd addedTo movedTo insertEvent joinedTo withJoins runEvent runEvents add sub mul div lt le eq ofBits round sum toBits isNan neg
+unfolding someBelow sumBelow u32At u64At billion tableFloat abs gap smaller rootDigits wholeRoot rootOf sqrt legBelow joinBits departureBits lengthBits links originsAt origins destinationsAt destinations legsAt legs samplesAt samples endOf sectionsOf linkLength linkNext linkNextAlt linkPrev linkPrevAlt originLink originOffset originFront destinationLink legLink legParent legSamples sampleTime sampleOffset sampleSpeed firstSample linkAt originAt legAt sampleFrom sampleAt samplePatterns headPatterns member originBelow stacked pushed enter search optionsOf inSet keptOrigins eventOffset clears twiceAhead speedAt timeAt passingAt badPassing sameKind sameEvent nodeAt putFloats putNumbers noLinkEvent blank courseOf firstBeyond startBack startFront start offsetNext inRange clearsNext emits turned turn passedAs passedNext walk turnsLeft passedFrom pointsPassed reachesLast badPoint someBad row11 matches seek linkedTo eventNode splitFake put at addBehind splitAt placeAt soughtIn inserted insertedTable flagged entry entryAt entriesIn push alternatives strandFrom strands extended extendedAll seenIn nodesFrom eventNodes lastOf arriveAt clearAt closer closestOf closest chainEnd joinFake joinAt joinedTable names appendedAll appended rebuilt joinStep legsTo pathOf linkOf pointLink pointOffset legCourse eventAt eventsAt legEvents fakeNode firstNodes originEvent originRun seekLeg growOrigins badFinish finishedAt waiting onOver saveOver goOn isDestination finishes takeLeg drive leadsToEnd endFakes lastNode grownWith grow arcTo arcToEnd addedTo movedTo insertEvent joinedTo withJoins runEvent runEvents add sub mul div lt le eq ofBits round sum toBits isNan neg
 book26-grown = refl
 
 -- 1 splits, 0 joined, 2 finished
@@ -164,12 +164,12 @@ book58 =
 book58-grown : summary (grow book58 40 (lent 40)) ≡ 14 ∷ 8 ∷ 1 ∷ 0 ∷ 2 ∷ 2 ∷ 0 ∷ 1 ∷ 0 ∷ 0 ∷ 0 ∷ 0 ∷ 0 ∷ 0 ∷ 2 ∷ 0 ∷ 2 ∷ 0 ∷ 0 ∷ 0 ∷ 0 ∷ 0 ∷ 0 ∷ 0 ∷ 3 ∷ 3 ∷ 0 ∷ 1 ∷ 0 ∷ 0 ∷ 4621256167635550208 ∷ 0 ∷ 1 ∷ 3 ∷ 4 ∷ 8 ∷ 2 ∷ 0 ∷ 4620333544367569792 ∷ 4637089135075524608 ∷ 0 ∷ 0 ∷ 1 ∷ 5 ∷ 0 ∷ 3 ∷ 0 ∷ 4602023272325003264 ∷ 4621256167635550208 ∷ 4626033829866620040 ∷ 1 ∷ 1 ∷ 6 ∷ 0 ∷ 4 ∷ 0 ∷ 4620316501498803328 ∷ 4637089135075524608 ∷ 4626281082733935416 ∷ 0 ∷
     2 ∷ 7 ∷ 0 ∷ 5 ∷ 0 ∷ 4601083365803927552 ∷ 4621256167635550208 ∷ 4626896279773072163 ∷ 1 ∷ 2 ∷ 12 ∷ 0 ∷ 6 ∷ 0 ∷ 0 ∷ 0 ∷ 4626804506976134382 ∷ 2 ∷ 0 ∷ 9 ∷ 0 ∷ 3 ∷ 0 ∷ 4620868613749828224 ∷ 4637089135075524608 ∷ 0 ∷ 0 ∷ 2 ∷ 10 ∷ 0 ∷ 8 ∷ 0 ∷ 4603721981377989632 ∷ 4621256167635550208 ∷ 4624318901956975221 ∷ 1 ∷ 2 ∷ 11 ∷ 0 ∷ 9 ∷ 0 ∷ 0 ∷ 0 ∷ 4624515131738792889 ∷ 2 ∷ 0 ∷ 12 ∷ 0 ∷ 10 ∷ 0 ∷ 0 ∷ 0 ∷ 0 ∷ 2 ∷ 0 ∷ 13 ∷ 0 ∷ 7 ∷ 11 ∷ 0 ∷
     0 ∷ 0 ∷ 2 ∷ 0 ∷ 0 ∷ 0 ∷ 12 ∷ 0 ∷ 0 ∷ 0 ∷ 0 ∷ []
-unfolding someBelow sumBelow u32At u64At billion tableFloat abs gap smaller rootDigits wholeRoot rootOf sqrt legBelow joinBits departureBits lengthBits links originsAt origins destinationsAt destinations legsAt legs samplesAt samples endOf sectionsOf linkLength linkNext linkNextAlt linkPrev linkPrevAlt originLink originOffset originFront destinationLink legLink legParent legSamples sampleTime sampleOffset sampleSpeed firstSample linkAt originAt legAt sampleFrom sampleAt samplePatterns headPatterns member originBelow stacked pushed enter search optionsOf inSet keptOrigins eventOffset clears twiceAhead speedAt timeAt passingAt badPassing sameKind sameEvent nodeAt putFloats putNumbers noLinkEvent blank courseOf firstBeyond startBack startFront start offsetNext inRange clearsNext emits turned turn passedAs passedNext walk turnsLeft passedFrom pointsPassed reachesLast badPoint someBad row11 matches seek linkedTo eventNode splitFake alternating put at addBehind splitAt placeAt soughtIn inserted insertedTable flagged entry entryAt entriesIn push alternatives strandFrom strands extended extendedAll seenIn nodesFrom eventNodes lastOf arriveAt clearAt closer closestOf closest chainEnd joinedBy joinFake joinAt joinedTable names appendedAll appended rebuilt joinStep legsTo pathOf linkOf pointLink pointOffset legCourse eventAt eventsAt legEvents fakeNode firstNodes originEvent originRun seekLeg growOrigins badFinish finishedAt waiting onOver saveOver goOn isDestination finishes takeLeg drive leadsToEnd endFakes lastNode grownWith grow arcTo arcToEnd addedTo movedTo insertEvent joinedTo withJoins runEvent runEvents add sub mul div lt le eq ofBits round sum toBits isNan neg
+unfolding someBelow sumBelow u32At u64At billion tableFloat abs gap smaller rootDigits wholeRoot rootOf sqrt legBelow joinBits departureBits lengthBits links originsAt origins destinationsAt destinations legsAt legs samplesAt samples endOf sectionsOf linkLength linkNext linkNextAlt linkPrev linkPrevAlt originLink originOffset originFront destinationLink legLink legParent legSamples sampleTime sampleOffset sampleSpeed firstSample linkAt originAt legAt sampleFrom sampleAt samplePatterns headPatterns member originBelow stacked pushed enter search optionsOf inSet keptOrigins eventOffset clears twiceAhead speedAt timeAt passingAt badPassing sameKind sameEvent nodeAt putFloats putNumbers noLinkEvent blank courseOf firstBeyond startBack startFront start offsetNext inRange clearsNext emits turned turn passedAs passedNext walk turnsLeft passedFrom pointsPassed reachesLast badPoint someBad row11 matches seek linkedTo eventNode splitFake put at addBehind splitAt placeAt soughtIn inserted insertedTable flagged entry entryAt entriesIn push alternatives strandFrom strands extended extendedAll seenIn nodesFrom eventNodes lastOf arriveAt clearAt closer closestOf closest chainEnd joinFake joinAt joinedTable names appendedAll appended rebuilt joinStep legsTo pathOf linkOf pointLink pointOffset legCourse eventAt eventsAt legEvents fakeNode firstNodes originEvent originRun seekLeg growOrigins badFinish finishedAt waiting onOver saveOver goOn isDestination finishes takeLeg drive leadsToEnd endFakes lastNode grownWith grow arcTo arcToEnd addedTo movedTo insertEvent joinedTo withJoins runEvent runEvents add sub mul div lt le eq ofBits round sum toBits isNan neg
 book58-grown = refl
 
 -- its noted arcs: the split's leads from the event that it splits at (3), with the run's own differences; they stand at the nodes of the reference's network, in the order of the work
 book58-noted : notedBy (grow book58 40 (lent 40)) ≡ 10 ∷ 0 ∷ 0 ∷ 0 ∷ 9 ∷ 10 ∷ 4603721981377989632 ∷ 4621256167635550208 ∷ 3 ∷ 9 ∷ 4620868613749828224 ∷ 4637089135075524608 ∷ 7 ∷ 0 ∷ 0 ∷ 0 ∷ 6 ∷ 7 ∷ 4601083365803927552 ∷ 4621256167635550208 ∷ 5 ∷ 6 ∷ 4620316501498803328 ∷ 4637089135075524608 ∷ 4 ∷ 5 ∷ 4602023272325003264 ∷ 4621256167635550208 ∷ 3 ∷ 4 ∷ 4620333544367569792 ∷ 4637089135075524608 ∷ 2 ∷ 3 ∷ 0 ∷ 4621256167635550208 ∷ 1 ∷ 2 ∷ 0 ∷ 0 ∷ []
-unfolding someBelow sumBelow u32At u64At billion tableFloat abs gap smaller rootDigits wholeRoot rootOf sqrt legBelow joinBits departureBits lengthBits links originsAt origins destinationsAt destinations legsAt legs samplesAt samples endOf sectionsOf linkLength linkNext linkNextAlt linkPrev linkPrevAlt originLink originOffset originFront destinationLink legLink legParent legSamples sampleTime sampleOffset sampleSpeed firstSample linkAt originAt legAt sampleFrom sampleAt samplePatterns headPatterns member originBelow stacked pushed enter search optionsOf inSet keptOrigins eventOffset clears twiceAhead speedAt timeAt passingAt badPassing sameKind sameEvent nodeAt putFloats putNumbers noLinkEvent blank courseOf firstBeyond startBack startFront start offsetNext inRange clearsNext emits turned turn passedAs passedNext walk turnsLeft passedFrom pointsPassed reachesLast badPoint someBad row11 matches seek linkedTo eventNode splitFake alternating put at addBehind splitAt placeAt soughtIn inserted insertedTable flagged entry entryAt entriesIn push alternatives strandFrom strands extended extendedAll seenIn nodesFrom eventNodes lastOf arriveAt clearAt closer closestOf closest chainEnd joinedBy joinFake joinAt joinedTable names appendedAll appended rebuilt joinStep legsTo pathOf linkOf pointLink pointOffset legCourse eventAt eventsAt legEvents fakeNode firstNodes originEvent originRun seekLeg growOrigins badFinish finishedAt waiting onOver saveOver goOn isDestination finishes takeLeg drive leadsToEnd endFakes lastNode grownWith grow arcTo arcToEnd addedTo movedTo insertEvent joinedTo withJoins runEvent runEvents add sub mul div lt le eq ofBits round sum toBits isNan neg
+unfolding someBelow sumBelow u32At u64At billion tableFloat abs gap smaller rootDigits wholeRoot rootOf sqrt legBelow joinBits departureBits lengthBits links originsAt origins destinationsAt destinations legsAt legs samplesAt samples endOf sectionsOf linkLength linkNext linkNextAlt linkPrev linkPrevAlt originLink originOffset originFront destinationLink legLink legParent legSamples sampleTime sampleOffset sampleSpeed firstSample linkAt originAt legAt sampleFrom sampleAt samplePatterns headPatterns member originBelow stacked pushed enter search optionsOf inSet keptOrigins eventOffset clears twiceAhead speedAt timeAt passingAt badPassing sameKind sameEvent nodeAt putFloats putNumbers noLinkEvent blank courseOf firstBeyond startBack startFront start offsetNext inRange clearsNext emits turned turn passedAs passedNext walk turnsLeft passedFrom pointsPassed reachesLast badPoint someBad row11 matches seek linkedTo eventNode splitFake put at addBehind splitAt placeAt soughtIn inserted insertedTable flagged entry entryAt entriesIn push alternatives strandFrom strands extended extendedAll seenIn nodesFrom eventNodes lastOf arriveAt clearAt closer closestOf closest chainEnd joinFake joinAt joinedTable names appendedAll appended rebuilt joinStep legsTo pathOf linkOf pointLink pointOffset legCourse eventAt eventsAt legEvents fakeNode firstNodes originEvent originRun seekLeg growOrigins badFinish finishedAt waiting onOver saveOver goOn isDestination finishes takeLeg drive leadsToEnd endFakes lastNode grownWith grow arcTo arcToEnd addedTo movedTo insertEvent joinedTo withJoins runEvent runEvents add sub mul div lt le eq ofBits round sum toBits isNan neg
 book58-noted = refl
 
 -- 1 splits, 1 joined, 1 finished
@@ -186,7 +186,7 @@ book149 =
 book149-grown : summary (grow book149 40 (lent 40)) ≡ 13 ∷ 7 ∷ 1 ∷ 1 ∷ 1 ∷ 2 ∷ 0 ∷ 1 ∷ 0 ∷ 0 ∷ 0 ∷ 0 ∷ 0 ∷ 0 ∷ 2 ∷ 0 ∷ 2 ∷ 0 ∷ 0 ∷ 0 ∷ 0 ∷ 0 ∷ 0 ∷ 0 ∷ 1 ∷ 3 ∷ 0 ∷ 1 ∷ 0 ∷ 0 ∷ 4601273178768796796 ∷ 0 ∷ 1 ∷ 1 ∷ 4 ∷ 0 ∷ 2 ∷ 0 ∷ 4596712556908259214 ∷ 4614255421879133460 ∷ 0 ∷ 0 ∷ 2 ∷ 5 ∷ 0 ∷ 3 ∷ 0 ∷ 4583765550849374208 ∷ 4601273178768796800 ∷ 4624633867356078080 ∷ 1 ∷ 2 ∷ 6 ∷ 8 ∷ 4 ∷ 7 ∷ 4597226660399719842 ∷ 4614737393902377802 ∷ 4624633867356078080 ∷ 0 ∷
     2 ∷ 7 ∷ 0 ∷ 5 ∷ 0 ∷ 4583765550849374224 ∷ 4601273178768796800 ∷ 4624633867356078080 ∷ 2 ∷ 0 ∷ 5 ∷ 0 ∷ 6 ∷ 0 ∷ 0 ∷ 0 ∷ 0 ∷ 2 ∷ 0 ∷ 9 ∷ 0 ∷ 5 ∷ 0 ∷ 4597226660399719846 ∷ 4614737393902377802 ∷ 0 ∷ 0 ∷ 3 ∷ 10 ∷ 0 ∷ 8 ∷ 0 ∷ 4583765550849374208 ∷ 4601273178768796800 ∷ 4624633867356078080 ∷ 1 ∷ 3 ∷ 11 ∷ 0 ∷ 9 ∷ 0 ∷ 0 ∷ 0 ∷ 4624633867356078080 ∷ 2 ∷ 0 ∷ 12 ∷ 0 ∷ 10 ∷ 0 ∷ 0 ∷ 0 ∷ 0 ∷ 2 ∷ 0 ∷ 0 ∷ 0 ∷ 11 ∷ 0 ∷ 0 ∷
     0 ∷ 0 ∷ []
-unfolding someBelow sumBelow u32At u64At billion tableFloat abs gap smaller rootDigits wholeRoot rootOf sqrt legBelow joinBits departureBits lengthBits links originsAt origins destinationsAt destinations legsAt legs samplesAt samples endOf sectionsOf linkLength linkNext linkNextAlt linkPrev linkPrevAlt originLink originOffset originFront destinationLink legLink legParent legSamples sampleTime sampleOffset sampleSpeed firstSample linkAt originAt legAt sampleFrom sampleAt samplePatterns headPatterns member originBelow stacked pushed enter search optionsOf inSet keptOrigins eventOffset clears twiceAhead speedAt timeAt passingAt badPassing sameKind sameEvent nodeAt putFloats putNumbers noLinkEvent blank courseOf firstBeyond startBack startFront start offsetNext inRange clearsNext emits turned turn passedAs passedNext walk turnsLeft passedFrom pointsPassed reachesLast badPoint someBad row11 matches seek linkedTo eventNode splitFake alternating put at addBehind splitAt placeAt soughtIn inserted insertedTable flagged entry entryAt entriesIn push alternatives strandFrom strands extended extendedAll seenIn nodesFrom eventNodes lastOf arriveAt clearAt closer closestOf closest chainEnd joinedBy joinFake joinAt joinedTable names appendedAll appended rebuilt joinStep legsTo pathOf linkOf pointLink pointOffset legCourse eventAt eventsAt legEvents fakeNode firstNodes originEvent originRun seekLeg growOrigins badFinish finishedAt waiting onOver saveOver goOn isDestination finishes takeLeg drive leadsToEnd endFakes lastNode grownWith grow arcTo arcToEnd addedTo movedTo insertEvent joinedTo withJoins runEvent runEvents add sub mul div lt le eq ofBits round sum toBits isNan neg
+unfolding someBelow sumBelow u32At u64At billion tableFloat abs gap smaller rootDigits wholeRoot rootOf sqrt legBelow joinBits departureBits lengthBits links originsAt origins destinationsAt destinations legsAt legs samplesAt samples endOf sectionsOf linkLength linkNext linkNextAlt linkPrev linkPrevAlt originLink originOffset originFront destinationLink legLink legParent legSamples sampleTime sampleOffset sampleSpeed firstSample linkAt originAt legAt sampleFrom sampleAt samplePatterns headPatterns member originBelow stacked pushed enter search optionsOf inSet keptOrigins eventOffset clears twiceAhead speedAt timeAt passingAt badPassing sameKind sameEvent nodeAt putFloats putNumbers noLinkEvent blank courseOf firstBeyond startBack startFront start offsetNext inRange clearsNext emits turned turn passedAs passedNext walk turnsLeft passedFrom pointsPassed reachesLast badPoint someBad row11 matches seek linkedTo eventNode splitFake put at addBehind splitAt placeAt soughtIn inserted insertedTable flagged entry entryAt entriesIn push alternatives strandFrom strands extended extendedAll seenIn nodesFrom eventNodes lastOf arriveAt clearAt closer closestOf closest chainEnd joinFake joinAt joinedTable names appendedAll appended rebuilt joinStep legsTo pathOf linkOf pointLink pointOffset legCourse eventAt eventsAt legEvents fakeNode firstNodes originEvent originRun seekLeg growOrigins badFinish finishedAt waiting onOver saveOver goOn isDestination finishes takeLeg drive leadsToEnd endFakes lastNode grownWith grow arcTo arcToEnd addedTo movedTo insertEvent joinedTo withJoins runEvent runEvents add sub mul div lt le eq ofBits round sum toBits isNan neg
 book149-grown = refl
 
 -- 0 splits, 1 joined, 0 finished
@@ -202,7 +202,7 @@ book204 =
 
 book204-grown : summary (grow book204 10 (lent 10)) ≡ 9 ∷ 5 ∷ 0 ∷ 1 ∷ 0 ∷ 2 ∷ 0 ∷ 1 ∷ 0 ∷ 0 ∷ 0 ∷ 0 ∷ 0 ∷ 0 ∷ 2 ∷ 0 ∷ 2 ∷ 0 ∷ 0 ∷ 0 ∷ 0 ∷ 0 ∷ 0 ∷ 0 ∷ 1 ∷ 3 ∷ 0 ∷ 1 ∷ 0 ∷ 0 ∷ 0 ∷ 0 ∷ 1 ∷ 1 ∷ 4 ∷ 0 ∷ 2 ∷ 0 ∷ 4625712854766802261 ∷ 4624633867356078080 ∷ 0 ∷ 0 ∷ 3 ∷ 5 ∷ 0 ∷ 3 ∷ 0 ∷ 0 ∷ 0 ∷ 4625759767262920704 ∷ 1 ∷ 3 ∷ 6 ∷ 0 ∷ 4 ∷ 7 ∷ 4605681218924227264 ∷ 4624633867356078080 ∷ 4625759767262920704 ∷ 0 ∷
     3 ∷ 7 ∷ 0 ∷ 5 ∷ 0 ∷ 0 ∷ 0 ∷ 4625759767262920704 ∷ 2 ∷ 0 ∷ 5 ∷ 0 ∷ 6 ∷ 0 ∷ 0 ∷ 0 ∷ 0 ∷ 2 ∷ 0 ∷ 0 ∷ 0 ∷ 7 ∷ 0 ∷ 0 ∷ 0 ∷ 0 ∷ []
-unfolding someBelow sumBelow u32At u64At billion tableFloat abs gap smaller rootDigits wholeRoot rootOf sqrt legBelow joinBits departureBits lengthBits links originsAt origins destinationsAt destinations legsAt legs samplesAt samples endOf sectionsOf linkLength linkNext linkNextAlt linkPrev linkPrevAlt originLink originOffset originFront destinationLink legLink legParent legSamples sampleTime sampleOffset sampleSpeed firstSample linkAt originAt legAt sampleFrom sampleAt samplePatterns headPatterns member originBelow stacked pushed enter search optionsOf inSet keptOrigins eventOffset clears twiceAhead speedAt timeAt passingAt badPassing sameKind sameEvent nodeAt putFloats putNumbers noLinkEvent blank courseOf firstBeyond startBack startFront start offsetNext inRange clearsNext emits turned turn passedAs passedNext walk turnsLeft passedFrom pointsPassed reachesLast badPoint someBad row11 matches seek linkedTo eventNode splitFake alternating put at addBehind splitAt placeAt soughtIn inserted insertedTable flagged entry entryAt entriesIn push alternatives strandFrom strands extended extendedAll seenIn nodesFrom eventNodes lastOf arriveAt clearAt closer closestOf closest chainEnd joinedBy joinFake joinAt joinedTable names appendedAll appended rebuilt joinStep legsTo pathOf linkOf pointLink pointOffset legCourse eventAt eventsAt legEvents fakeNode firstNodes originEvent originRun seekLeg growOrigins badFinish finishedAt waiting onOver saveOver goOn isDestination finishes takeLeg drive leadsToEnd endFakes lastNode grownWith grow arcTo arcToEnd addedTo movedTo insertEvent joinedTo withJoins runEvent runEvents add sub mul div lt le eq ofBits round sum toBits isNan neg
+unfolding someBelow sumBelow u32At u64At billion tableFloat abs gap smaller rootDigits wholeRoot rootOf sqrt legBelow joinBits departureBits lengthBits links originsAt origins destinationsAt destinations legsAt legs samplesAt samples endOf sectionsOf linkLength linkNext linkNextAlt linkPrev linkPrevAlt originLink originOffset originFront destinationLink legLink legParent legSamples sampleTime sampleOffset sampleSpeed firstSample linkAt originAt legAt sampleFrom sampleAt samplePatterns headPatterns member originBelow stacked pushed enter search optionsOf inSet keptOrigins eventOffset clears twiceAhead speedAt timeAt passingAt badPassing sameKind sameEvent nodeAt putFloats putNumbers noLinkEvent blank courseOf firstBeyond startBack startFront start offsetNext inRange clearsNext emits turned turn passedAs passedNext walk turnsLeft passedFrom pointsPassed reachesLast badPoint someBad row11 matches seek linkedTo eventNode splitFake put at addBehind splitAt placeAt soughtIn inserted insertedTable flagged entry entryAt entriesIn push alternatives strandFrom strands extended extendedAll seenIn nodesFrom eventNodes lastOf arriveAt clearAt closer closestOf closest chainEnd joinFake joinAt joinedTable names appendedAll appended rebuilt joinStep legsTo pathOf linkOf pointLink pointOffset legCourse eventAt eventsAt legEvents fakeNode firstNodes originEvent originRun seekLeg growOrigins badFinish finishedAt waiting onOver saveOver goOn isDestination finishes takeLeg drive leadsToEnd endFakes lastNode grownWith grow arcTo arcToEnd addedTo movedTo insertEvent joinedTo withJoins runEvent runEvents add sub mul div lt le eq ofBits round sum toBits isNan neg
 book204-grown = refl
 
 -- refused with 10
@@ -219,7 +219,7 @@ book235 =
     0 ∷ 0 ∷ 0 ∷ 0 ∷ 0 ∷ 216 ∷ 132 ∷ 64 ∷ 0 ∷ 0 ∷ 0 ∷ 0 ∷ 0 ∷ 0 ∷ 32 ∷ 64 ∷ []
 
 book235-grown : summary (grow book235 6 (lent 6)) ≡ 10 ∷ []
-unfolding someBelow sumBelow u32At u64At billion tableFloat abs gap smaller rootDigits wholeRoot rootOf sqrt legBelow joinBits departureBits lengthBits links originsAt origins destinationsAt destinations legsAt legs samplesAt samples endOf sectionsOf linkLength linkNext linkNextAlt linkPrev linkPrevAlt originLink originOffset originFront destinationLink legLink legParent legSamples sampleTime sampleOffset sampleSpeed firstSample linkAt originAt legAt sampleFrom sampleAt samplePatterns headPatterns member originBelow stacked pushed enter search optionsOf inSet keptOrigins eventOffset clears twiceAhead speedAt timeAt passingAt badPassing sameKind sameEvent nodeAt putFloats putNumbers noLinkEvent blank courseOf firstBeyond startBack startFront start offsetNext inRange clearsNext emits turned turn passedAs passedNext walk turnsLeft passedFrom pointsPassed reachesLast badPoint someBad row11 matches seek linkedTo eventNode splitFake alternating put at addBehind splitAt placeAt soughtIn inserted insertedTable flagged entry entryAt entriesIn push alternatives strandFrom strands extended extendedAll seenIn nodesFrom eventNodes lastOf arriveAt clearAt closer closestOf closest chainEnd joinedBy joinFake joinAt joinedTable names appendedAll appended rebuilt joinStep legsTo pathOf linkOf pointLink pointOffset legCourse eventAt eventsAt legEvents fakeNode firstNodes originEvent originRun seekLeg growOrigins badFinish finishedAt waiting onOver saveOver goOn isDestination finishes takeLeg drive leadsToEnd endFakes lastNode grownWith grow arcTo arcToEnd addedTo movedTo insertEvent joinedTo withJoins runEvent runEvents add sub mul div lt le eq ofBits round sum toBits isNan neg
+unfolding someBelow sumBelow u32At u64At billion tableFloat abs gap smaller rootDigits wholeRoot rootOf sqrt legBelow joinBits departureBits lengthBits links originsAt origins destinationsAt destinations legsAt legs samplesAt samples endOf sectionsOf linkLength linkNext linkNextAlt linkPrev linkPrevAlt originLink originOffset originFront destinationLink legLink legParent legSamples sampleTime sampleOffset sampleSpeed firstSample linkAt originAt legAt sampleFrom sampleAt samplePatterns headPatterns member originBelow stacked pushed enter search optionsOf inSet keptOrigins eventOffset clears twiceAhead speedAt timeAt passingAt badPassing sameKind sameEvent nodeAt putFloats putNumbers noLinkEvent blank courseOf firstBeyond startBack startFront start offsetNext inRange clearsNext emits turned turn passedAs passedNext walk turnsLeft passedFrom pointsPassed reachesLast badPoint someBad row11 matches seek linkedTo eventNode splitFake put at addBehind splitAt placeAt soughtIn inserted insertedTable flagged entry entryAt entriesIn push alternatives strandFrom strands extended extendedAll seenIn nodesFrom eventNodes lastOf arriveAt clearAt closer closestOf closest chainEnd joinFake joinAt joinedTable names appendedAll appended rebuilt joinStep legsTo pathOf linkOf pointLink pointOffset legCourse eventAt eventsAt legEvents fakeNode firstNodes originEvent originRun seekLeg growOrigins badFinish finishedAt waiting onOver saveOver goOn isDestination finishes takeLeg drive leadsToEnd endFakes lastNode grownWith grow arcTo arcToEnd addedTo movedTo insertEvent joinedTo withJoins runEvent runEvents add sub mul div lt le eq ofBits round sum toBits isNan neg
 book235-grown = refl
 
 -- refused with 13
@@ -234,7 +234,7 @@ book790 =
     248 ∷ 130 ∷ 82 ∷ 207 ∷ 51 ∷ 152 ∷ 9 ∷ 64 ∷ 0 ∷ 0 ∷ 0 ∷ 0 ∷ 0 ∷ 0 ∷ 50 ∷ 64 ∷ 33 ∷ 13 ∷ 114 ∷ 160 ∷ 149 ∷ 53 ∷ 134 ∷ 64 ∷ 216 ∷ 70 ∷ 157 ∷ 173 ∷ 237 ∷ 76 ∷ 21 ∷ 64 ∷ 0 ∷ 0 ∷ 0 ∷ 0 ∷ 0 ∷ 0 ∷ 50 ∷ 64 ∷ []
 
 book790-grown : summary (grow book790 8 (lent 8)) ≡ 13 ∷ []
-unfolding someBelow sumBelow u32At u64At billion tableFloat abs gap smaller rootDigits wholeRoot rootOf sqrt legBelow joinBits departureBits lengthBits links originsAt origins destinationsAt destinations legsAt legs samplesAt samples endOf sectionsOf linkLength linkNext linkNextAlt linkPrev linkPrevAlt originLink originOffset originFront destinationLink legLink legParent legSamples sampleTime sampleOffset sampleSpeed firstSample linkAt originAt legAt sampleFrom sampleAt samplePatterns headPatterns member originBelow stacked pushed enter search optionsOf inSet keptOrigins eventOffset clears twiceAhead speedAt timeAt passingAt badPassing sameKind sameEvent nodeAt putFloats putNumbers noLinkEvent blank courseOf firstBeyond startBack startFront start offsetNext inRange clearsNext emits turned turn passedAs passedNext walk turnsLeft passedFrom pointsPassed reachesLast badPoint someBad row11 matches seek linkedTo eventNode splitFake alternating put at addBehind splitAt placeAt soughtIn inserted insertedTable flagged entry entryAt entriesIn push alternatives strandFrom strands extended extendedAll seenIn nodesFrom eventNodes lastOf arriveAt clearAt closer closestOf closest chainEnd joinedBy joinFake joinAt joinedTable names appendedAll appended rebuilt joinStep legsTo pathOf linkOf pointLink pointOffset legCourse eventAt eventsAt legEvents fakeNode firstNodes originEvent originRun seekLeg growOrigins badFinish finishedAt waiting onOver saveOver goOn isDestination finishes takeLeg drive leadsToEnd endFakes lastNode grownWith grow arcTo arcToEnd addedTo movedTo insertEvent joinedTo withJoins runEvent runEvents add sub mul div lt le eq ofBits round sum toBits isNan neg
+unfolding someBelow sumBelow u32At u64At billion tableFloat abs gap smaller rootDigits wholeRoot rootOf sqrt legBelow joinBits departureBits lengthBits links originsAt origins destinationsAt destinations legsAt legs samplesAt samples endOf sectionsOf linkLength linkNext linkNextAlt linkPrev linkPrevAlt originLink originOffset originFront destinationLink legLink legParent legSamples sampleTime sampleOffset sampleSpeed firstSample linkAt originAt legAt sampleFrom sampleAt samplePatterns headPatterns member originBelow stacked pushed enter search optionsOf inSet keptOrigins eventOffset clears twiceAhead speedAt timeAt passingAt badPassing sameKind sameEvent nodeAt putFloats putNumbers noLinkEvent blank courseOf firstBeyond startBack startFront start offsetNext inRange clearsNext emits turned turn passedAs passedNext walk turnsLeft passedFrom pointsPassed reachesLast badPoint someBad row11 matches seek linkedTo eventNode splitFake put at addBehind splitAt placeAt soughtIn inserted insertedTable flagged entry entryAt entriesIn push alternatives strandFrom strands extended extendedAll seenIn nodesFrom eventNodes lastOf arriveAt clearAt closer closestOf closest chainEnd joinFake joinAt joinedTable names appendedAll appended rebuilt joinStep legsTo pathOf linkOf pointLink pointOffset legCourse eventAt eventsAt legEvents fakeNode firstNodes originEvent originRun seekLeg growOrigins badFinish finishedAt waiting onOver saveOver goOn isDestination finishes takeLeg drive leadsToEnd endFakes lastNode grownWith grow arcTo arcToEnd addedTo movedTo insertEvent joinedTo withJoins runEvent runEvents add sub mul div lt le eq ofBits round sum toBits isNan neg
 book790-grown = refl
 
 -- 2 splits, 1 joined, 2 finished
@@ -253,5 +253,5 @@ book809 =
 book809-grown : summary (grow book809 40 (lent 40)) ≡ 16 ∷ 8 ∷ 2 ∷ 1 ∷ 2 ∷ 2 ∷ 0 ∷ 1 ∷ 0 ∷ 0 ∷ 0 ∷ 0 ∷ 0 ∷ 0 ∷ 2 ∷ 0 ∷ 2 ∷ 0 ∷ 0 ∷ 0 ∷ 0 ∷ 0 ∷ 0 ∷ 0 ∷ 1 ∷ 3 ∷ 0 ∷ 1 ∷ 0 ∷ 0 ∷ 4607182418800017408 ∷ 0 ∷ 1 ∷ 1 ∷ 4 ∷ 0 ∷ 2 ∷ 0 ∷ 4607998208032306688 ∷ 4611686018427387904 ∷ 0 ∷ 0 ∷ 2 ∷ 5 ∷ 0 ∷ 3 ∷ 0 ∷ 4603103615400740864 ∷ 4607182418800017408 ∷ 4611179177059995450 ∷ 1 ∷ 2 ∷ 6 ∷ 11 ∷ 4 ∷ 7 ∷ 4611193973893833728 ∷ 4613937818241073152 ∷ 4610640133763304104 ∷ 0 ∷
     2 ∷ 7 ∷ 8 ∷ 5 ∷ 0 ∷ 4604180019048436736 ∷ 4607182418800017408 ∷ 4609434218613702656 ∷ 2 ∷ 0 ∷ 5 ∷ 0 ∷ 6 ∷ 0 ∷ 0 ∷ 0 ∷ 0 ∷ 2 ∷ 0 ∷ 9 ∷ 0 ∷ 6 ∷ 0 ∷ 4604756809356684288 ∷ 4607182418800017408 ∷ 0 ∷ 1 ∷ 2 ∷ 10 ∷ 0 ∷ 8 ∷ 0 ∷ 4612998829527786496 ∷ 4613937818241073152 ∷ 4608636521481959658 ∷ 0 ∷ 3 ∷ 14 ∷ 0 ∷ 9 ∷ 0 ∷ 0 ∷ 0 ∷ 4607182418800017408 ∷ 2 ∷ 0 ∷ 12 ∷ 0 ∷ 5 ∷ 0 ∷ 4612236358700182016 ∷ 4613937818241073152 ∷ 0 ∷ 0 ∷ 3 ∷ 13 ∷ 0 ∷ 11 ∷ 0 ∷ 0 ∷
     0 ∷ 4607182418800017408 ∷ 2 ∷ 0 ∷ 14 ∷ 0 ∷ 12 ∷ 0 ∷ 0 ∷ 0 ∷ 0 ∷ 2 ∷ 0 ∷ 15 ∷ 0 ∷ 10 ∷ 13 ∷ 0 ∷ 0 ∷ 0 ∷ 2 ∷ 0 ∷ 0 ∷ 0 ∷ 14 ∷ 0 ∷ 0 ∷ 0 ∷ 0 ∷ []
-unfolding someBelow sumBelow u32At u64At billion tableFloat abs gap smaller rootDigits wholeRoot rootOf sqrt legBelow joinBits departureBits lengthBits links originsAt origins destinationsAt destinations legsAt legs samplesAt samples endOf sectionsOf linkLength linkNext linkNextAlt linkPrev linkPrevAlt originLink originOffset originFront destinationLink legLink legParent legSamples sampleTime sampleOffset sampleSpeed firstSample linkAt originAt legAt sampleFrom sampleAt samplePatterns headPatterns member originBelow stacked pushed enter search optionsOf inSet keptOrigins eventOffset clears twiceAhead speedAt timeAt passingAt badPassing sameKind sameEvent nodeAt putFloats putNumbers noLinkEvent blank courseOf firstBeyond startBack startFront start offsetNext inRange clearsNext emits turned turn passedAs passedNext walk turnsLeft passedFrom pointsPassed reachesLast badPoint someBad row11 matches seek linkedTo eventNode splitFake alternating put at addBehind splitAt placeAt soughtIn inserted insertedTable flagged entry entryAt entriesIn push alternatives strandFrom strands extended extendedAll seenIn nodesFrom eventNodes lastOf arriveAt clearAt closer closestOf closest chainEnd joinedBy joinFake joinAt joinedTable names appendedAll appended rebuilt joinStep legsTo pathOf linkOf pointLink pointOffset legCourse eventAt eventsAt legEvents fakeNode firstNodes originEvent originRun seekLeg growOrigins badFinish finishedAt waiting onOver saveOver goOn isDestination finishes takeLeg drive leadsToEnd endFakes lastNode grownWith grow arcTo arcToEnd addedTo movedTo insertEvent joinedTo withJoins runEvent runEvents add sub mul div lt le eq ofBits round sum toBits isNan neg
+unfolding someBelow sumBelow u32At u64At billion tableFloat abs gap smaller rootDigits wholeRoot rootOf sqrt legBelow joinBits departureBits lengthBits links originsAt origins destinationsAt destinations legsAt legs samplesAt samples endOf sectionsOf linkLength linkNext linkNextAlt linkPrev linkPrevAlt originLink originOffset originFront destinationLink legLink legParent legSamples sampleTime sampleOffset sampleSpeed firstSample linkAt originAt legAt sampleFrom sampleAt samplePatterns headPatterns member originBelow stacked pushed enter search optionsOf inSet keptOrigins eventOffset clears twiceAhead speedAt timeAt passingAt badPassing sameKind sameEvent nodeAt putFloats putNumbers noLinkEvent blank courseOf firstBeyond startBack startFront start offsetNext inRange clearsNext emits turned turn passedAs passedNext walk turnsLeft passedFrom pointsPassed reachesLast badPoint someBad row11 matches seek linkedTo eventNode splitFake put at addBehind splitAt placeAt soughtIn inserted insertedTable flagged entry entryAt entriesIn push alternatives strandFrom strands extended extendedAll seenIn nodesFrom eventNodes lastOf arriveAt clearAt closer closestOf closest chainEnd joinFake joinAt joinedTable names appendedAll appended rebuilt joinStep legsTo pathOf linkOf pointLink pointOffset legCourse eventAt eventsAt legEvents fakeNode firstNodes originEvent originRun seekLeg growOrigins badFinish finishedAt waiting onOver saveOver goOn isDestination finishes takeLeg drive leadsToEnd endFakes lastNode grownWith grow arcTo arcToEnd addedTo movedTo insertEvent joinedTo withJoins runEvent runEvents add sub mul div lt le eq ofBits round sum toBits isNan neg
 book809-grown = refl

@@ -17,7 +17,7 @@ use Rattle.net_node.specs.declared.EstType.{EstType}
 use Rattle.net_node.specs.declared.EstType.the-variants.{Arrive, Clear}
 use Rattle.net_node.specs.declared.EstTime.{EstTime}
 use Rattle.net_node.specs.declared.TimedEvent.{TimedEvent}
-use Rattle.net_node.specs.Table.{blank, Table, put, at}
+use Rattle.net_node.specs.Table.{blank, Table, put, at, withArc, withNext, withPrev, withPrevAlt}
 use Rattle.net_insertion.specs.declared.Place.{Place}
 use Rattle.net_strands.specs.declared.EstJoinPath.{EstJoinPath}
 use Rattle.grow_path.specs.Path.{linkOf, legCourse, legEvents}
@@ -40,17 +40,7 @@ pub record Growth : Type 0 where
 -- a node made of the blank one: its next, its previous and previous alternative, and a held time
 unfoldable pub fakeNode : ℕ → ℕ → ℕ → Float → EstTime
 unfolding blank
-fakeNode next prev prev-alt time = record {
-  «time_sched» = blank .«time_sched»;
-  «time_to_next» = time;
-  «dist_to_next» = blank .«dist_to_next»;
-  speed = blank .speed;
-  «idx_next» = next;
-  «idx_next_alt» = 0;
-  «idx_prev» = prev;
-  «idx_prev_alt» = prev-alt;
-  «link_event» = blank .«link_event»;
-}
+fakeNode next prev prev-alt time = withPrevAlt (withPrev (withNext (withArc blank time (blank .«dist_to_next»)) next) prev) prev-alt
 
 -- node 0 leads to node 1, the start, which holds the departure
 unfoldable pub firstNodes : List ℕ → Table → Net
@@ -197,17 +187,7 @@ drive (suc k) b places net (run ∷ saved) = andThen (takeLeg b places net run s
 
 -- a finished run's event leads to its end Fake, with zeros
 unfoldable pub leadsToEnd : EstTime → ℕ → EstTime
-leadsToEnd n next = record {
-  «time_sched» = n .«time_sched»;
-  «time_to_next» = ofBits binary64 0;
-  «dist_to_next» = ofBits binary64 0;
-  speed = n .speed;
-  «idx_next» = next;
-  «idx_next_alt» = n .«idx_next_alt»;
-  «idx_prev» = n .«idx_prev»;
-  «idx_prev_alt» = n .«idx_prev_alt»;
-  «link_event» = n .«link_event»;
-}
+leadsToEnd n next = withNext (withArc n (ofBits binary64 0) (ofBits binary64 0)) next
 
 pub record Tail : Type 0 where
   pub table : Table

@@ -9,11 +9,11 @@ use Rattle.net_node.specs.declared.EstType.{EstType}
 use Rattle.net_node.specs.declared.EstType.the-variants.{Arrive, Clear, Fake}
 use Rattle.net_node.specs.declared.EstTime.{EstTime}
 use Rattle.net_node.specs.declared.TimedEvent.{TimedEvent}
-use Rattle.net_node.specs.Table.{kindNumber, sameEvent, nodeAt, putFloats, putNumbers, Table, at}
+use Rattle.net_node.specs.Table.{kindNumber, sameEvent, nodeAt, putFloats, putNumbers, Table, at, withNextAlt}
 use Rattle.net_insertion.specs.declared.Place.{Place}
 use Rattle.net_insertion.specs.declared.Seek.the-variants.{Match, Split}
 use Rattle.net_insertion.specs.declared.Inserted.the-variants.{Added, Moved, Refused}
-use Rattle.net_insertion.specs.Insertion.{linkedTo, eventNode, splitFake, alternating, addBehind, splitAt, placeAt, soughtIn, inserted, insertedTable}
+use Rattle.net_insertion.specs.Insertion.{linkedTo, eventNode, splitFake, addBehind, splitAt, placeAt, soughtIn, inserted, insertedTable}
 
 abbrev 0s : Float
 0s = ofBits binary64 0
@@ -120,7 +120,7 @@ record Examples : Type 0 where
   at-end : inserted arrived 3 4 ended 1s (here 2) (event 1s Clear 1) ≡ Refused 13
 
 examples : Examples
-unfolding inserted insertedTable gap sameEvent nodeAt putFloats putNumbers linkedTo eventNode splitFake alternating addBehind splitAt placeAt sub lt ofBits
+unfolding inserted insertedTable gap sameEvent nodeAt putFloats putNumbers linkedTo eventNode splitFake addBehind splitAt placeAt sub lt ofBits
 examples = record {
   gap-of-J = refl;
   gap-below-J = refl;

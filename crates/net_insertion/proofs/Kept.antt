@@ -8,17 +8,18 @@ use native.Mathlib.Omega.{arith}
 use borrow.Author.Tests.{ltb-true}
 use lib.Dec.{ltb}
 use lib.Ieee.{Float}
+use Rattle.net_node.proofs.Tables.{RoomIn}
 use Rattle.net_node.specs.declared.EstTime.{EstTime}
 use Rattle.net_node.specs.declared.TimedEvent.{TimedEvent}
-use Rattle.net_node.specs.Table.{nodeAt, Indexed, Table, at}
+use Rattle.net_node.specs.Table.{nodeAt, Indexed, Table, at, withNextAlt}
 use Rattle.net_insertion.specs.declared.Place.{Place}
 use Rattle.net_insertion.specs.declared.Seek.{Seek}
 use Rattle.net_insertion.specs.declared.Seek.the-variants.{Open, Match, Split}
 use Rattle.net_insertion.specs.declared.Inserted.{Inserted}
 use Rattle.net_insertion.specs.declared.Inserted.the-variants.{Added, Moved, Refused}
-use Rattle.net_insertion.specs.Insertion.{matches, linkedTo, eventNode, splitFake, alternating, addBehind, splitAt, placeAt, addedAs, insertedAs, tableAs, soughtIn, inserted, insertedTable, InsertedInto}
+use Rattle.net_insertion.specs.Insertion.{matches, linkedTo, eventNode, splitFake, addBehind, splitAt, placeAt, addedAs, insertedAs, tableAs, soughtIn, inserted, insertedTable, InsertedInto}
 use Rattle.net_insertion.proofs.Seeking.{Found, sought-found}
-use Rattle.net_insertion.proofs.Puts.{RoomIn, add-found, add-new, add-indexed, add-other, add-room, split-found, split-new, split-indexed, split-other, split-room}
+use Rattle.net_insertion.proofs.Puts.{add-found, add-new, add-indexed, add-other, add-room, split-found, split-new, split-indexed, split-other, split-room}
 
 -- a table's nodes, as contracts name them
 pub at-is : (t : Table) → at t ≡ nodeAt (t .floats) (t .numbers)
@@ -84,7 +85,7 @@ module _ (t : Table) (n places : ℕ) (ended : ℕ → Bool) (join : Float) (p :
     pub within : node < n
     pub next : 0 < at t node .«idx_next»
     pub no-alt : at t node .«idx_next_alt» ≡ 0
-    pub found : at after node ≡ alternating (at t node) n
+    pub found : at after node ≡ withNextAlt (at t node) n
     pub fake : at after n ≡ linkedTo (splitFake p node) (n + 1) e
     pub added : at after (n + 1) ≡ eventNode e n
     pub others : (j : ℕ) → j ≢ node → j ≢ n → j ≢ n + 1 → at after j ≡ at t j

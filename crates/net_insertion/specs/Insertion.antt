@@ -10,7 +10,7 @@ use lib.Ieee.{Float, binary64, sub, lt}
 use Rattle.floats.specs.Floats.{gap}
 use Rattle.net_node.specs.declared.EstTime.{EstTime}
 use Rattle.net_node.specs.declared.TimedEvent.{TimedEvent}
-use Rattle.net_node.specs.Table.{Table, put, at, sameEvent, blank}
+use Rattle.net_node.specs.Table.{Table, put, at, sameEvent, blank, withArc, withSpeed, withNext, withNextAlt, withPrev, withEvent}
 use Rattle.net_insertion.specs.declared.Place.{Place}
 use Rattle.net_insertion.specs.declared.Seek.{Seek}
 use Rattle.net_insertion.specs.declared.Seek.the-variants.{Open, Match, Split}
@@ -43,61 +43,17 @@ seek (suc k) node join e i =
 
 -- a node to which the next is set: its held time and offset become those up to the event that follows
 unfoldable pub linkedTo : EstTime → ℕ → TimedEvent → EstTime
-linkedTo n next e = record {
-  «time_sched» = n .«time_sched»;
-  «time_to_next» = sub binary64 (e .time) (n .«time_to_next»);
-  «dist_to_next» = sub binary64 (e .offset) (n .«dist_to_next»);
-  speed = n .speed;
-  «idx_next» = next;
-  «idx_next_alt» = n .«idx_next_alt»;
-  «idx_prev» = n .«idx_prev»;
-  «idx_prev_alt» = n .«idx_prev_alt»;
-  «link_event» = n .«link_event»;
-}
+linkedTo n next e = withNext (withArc n (sub binary64 (e .time) (n .«time_to_next»)) (sub binary64 (e .offset) (n .«dist_to_next»))) next
 
 -- the event's own node, which holds its time and offset until a next is set
 unfoldable pub eventNode : TimedEvent → ℕ → EstTime
 unfolding blank
-eventNode e prev = record {
-  «time_sched» = blank .«time_sched»;
-  «time_to_next» = e .time;
-  «dist_to_next» = e .offset;
-  speed = e .speed;
-  «idx_next» = 0;
-  «idx_next_alt» = 0;
-  «idx_prev» = prev;
-  «idx_prev_alt» = 0;
-  «link_event» = e .«link_event»;
-}
+eventNode e prev = withPrev (withEvent (withSpeed (withArc blank (e .time) (e .offset)) (e .speed)) (e .«link_event»)) prev
 
 -- a split's Fake behind node prev: it holds the run's own time and offset
 unfoldable pub splitFake : Place → ℕ → EstTime
 unfolding blank
-splitFake p prev = record {
-  «time_sched» = blank .«time_sched»;
-  «time_to_next» = p .«time_to_next»;
-  «dist_to_next» = p .«dist_to_next»;
-  speed = blank .speed;
-  «idx_next» = 0;
-  «idx_next_alt» = 0;
-  «idx_prev» = prev;
-  «idx_prev_alt» = 0;
-  «link_event» = blank .«link_event»;
-}
-
--- a node whose next alternative is set
-unfoldable pub alternating : EstTime → ℕ → EstTime
-alternating n alt = record {
-  «time_sched» = n .«time_sched»;
-  «time_to_next» = n .«time_to_next»;
-  «dist_to_next» = n .«dist_to_next»;
-  speed = n .speed;
-  «idx_next» = n .«idx_next»;
-  «idx_next_alt» = alt;
-  «idx_prev» = n .«idx_prev»;
-  «idx_prev_alt» = n .«idx_prev_alt»;
-  «link_event» = n .«link_event»;
-}
+splitFake p prev = withPrev (withArc blank (p .«time_to_next») (p .«dist_to_next»)) prev
 
 -- ---- the table afterwards
 
@@ -109,7 +65,7 @@ addBehind t i k e = put (put t i (linkedTo (at t i) k e)) k (eventNode e i)
 -- a split Fake as node k, the next alternative of node i
 unfoldable pub splitAt : Table → ℕ → ℕ → Place → Table
 unfolding put at
-splitAt t i k p = put (put t i (alternating (at t i) k)) k (splitFake p i)
+splitAt t i k p = put (put t i (withNextAlt (at t i) k)) k (splitFake p i)
 
 -- ---- insertion
 

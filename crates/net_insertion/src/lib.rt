@@ -4,8 +4,8 @@ use net_node::TimedEvent;
 ghost use mathlib.Core.Path.{_≡_};
 ghost use Prim.Native.Nat.{_+_, _*_, _≤_, _<_};
 ghost use lib.ListN.{length};
-ghost use Rattle.net_node.specs.Table.{nodeAt, Room, Indexed};
-ghost use Rattle.net_insertion.specs.Insertion.{matches, seek, linkedTo, eventNode, splitFake, alternating, addBehind, splitAt, placeAt, inserted, InsertedInto, flagged};
+ghost use Rattle.net_node.specs.Table.{nodeAt, Room, Indexed, withNextAlt};
+ghost use Rattle.net_insertion.specs.Insertion.{matches, seek, linkedTo, eventNode, splitFake, addBehind, splitAt, placeAt, inserted, InsertedInto, flagged};
 
 // A run's place, the source's `est_alt`: a node, and the time and offset of the run's own event there.
 pub struct Place {
@@ -75,74 +75,36 @@ fn seek_place(
 pub fn link_to(node: EstTime, next: u32, e: TimedEvent) -> EstTime
     ensures { λ r. ⌜ r ≡ linkedTo node next e ⌝ }
 {
-    let link_event = node.link_event;
-    EstTime {
-        time_sched: node.time_sched,
-        time_to_next: e.time - node.time_to_next,
-        dist_to_next: e.offset - node.dist_to_next,
-        speed: node.speed,
-        idx_next: next,
-        idx_next_alt: node.idx_next_alt,
-        idx_prev: node.idx_prev,
-        idx_prev_alt: node.idx_prev_alt,
-        link_event,
-    }
+    let mut linked = node;
+    linked.time_to_next = e.time - node.time_to_next;
+    linked.dist_to_next = e.offset - node.dist_to_next;
+    linked.idx_next = next;
+    linked
 }
 
 // An event's own node behind node prev.
 fn event_node(e: TimedEvent, prev: u32) -> EstTime
     ensures { λ r. ⌜ r ≡ eventNode e prev ⌝ }
 {
-    let blank = net_node::blank_node();
     let link_event = e.link_event;
-    EstTime {
-        time_sched: blank.time_sched,
-        time_to_next: e.time,
-        dist_to_next: e.offset,
-        speed: e.speed,
-        idx_next: 0,
-        idx_next_alt: 0,
-        idx_prev: prev,
-        idx_prev_alt: 0,
-        link_event,
-    }
+    let mut node = net_node::blank_node();
+    node.time_to_next = e.time;
+    node.dist_to_next = e.offset;
+    node.speed = e.speed;
+    node.link_event = link_event;
+    node.idx_prev = prev;
+    node
 }
 
 // A split's Fake behind node prev, which holds the run's own time and offset.
 fn split_fake(place: Place, prev: u32) -> EstTime
     ensures { λ r. ⌜ r ≡ splitFake place prev ⌝ }
 {
-    let blank = net_node::blank_node();
-    let link_event = blank.link_event;
-    EstTime {
-        time_sched: blank.time_sched,
-        time_to_next: place.time_to_next,
-        dist_to_next: place.dist_to_next,
-        speed: blank.speed,
-        idx_next: 0,
-        idx_next_alt: 0,
-        idx_prev: prev,
-        idx_prev_alt: 0,
-        link_event,
-    }
-}
-
-// A node whose next alternative is set.
-fn alternate(node: EstTime, alt: u32) -> EstTime
-    ensures { λ r. ⌜ r ≡ alternating node alt ⌝ }
-{
-    let link_event = node.link_event;
-    EstTime {
-        time_sched: node.time_sched,
-        time_to_next: node.time_to_next,
-        dist_to_next: node.dist_to_next,
-        speed: node.speed,
-        idx_next: node.idx_next,
-        idx_next_alt: alt,
-        idx_prev: node.idx_prev,
-        idx_prev_alt: node.idx_prev_alt,
-        link_event,
-    }
+    let mut node = net_node::blank_node();
+    node.time_to_next = place.time_to_next;
+    node.dist_to_next = place.dist_to_next;
+    node.idx_prev = prev;
+    node
 }
 
 // Adds an event as node k behind node i.
@@ -169,7 +131,7 @@ fn split_at(floats: &mut [f64], numbers: &mut [u32], i: u32, k: u32, place: Plac
     ensures numbers { λ _. ⌜ now (numbers .exit) ≡ splitAt (record { floats = now (floats .entry); numbers = now (numbers .entry) }) i k place .numbers ⌝ }
 {
     let node = net_node::load(floats, numbers, i as usize);
-    let before = alternate(node, k);
+    let before = net_node::with_next_alt(node, k);
     net_node::store(floats, numbers, i as usize, before);
     let fake = split_fake(place, i);
     net_node::store(floats, numbers, k as usize, fake);

@@ -10,13 +10,13 @@ use Rattle.net_node.specs.declared.EstType.{EstType}
 use Rattle.net_node.specs.declared.EstType.the-variants.{Arrive, Clear, Fake}
 use Rattle.net_node.specs.declared.EstTime.{EstTime}
 use Rattle.net_node.specs.declared.TimedEvent.{TimedEvent}
-use Rattle.net_node.specs.Table.{kindNumber, sameEvent, nodeAt, putFloats, putNumbers, noLinkEvent, blank, Table, at}
+use Rattle.net_node.specs.Table.{kindNumber, sameEvent, nodeAt, putFloats, putNumbers, noLinkEvent, blank, Table, at, withPrevAlt}
 use Rattle.net_insertion.specs.Insertion.{linkedTo}
 use Rattle.net_event_map.specs.EventMap.{seenIn, eventNodes}
 use Rattle.net_strands.specs.declared.EstJoinPath.{EstJoinPath}
 use Rattle.net_strands.specs.Entries.{entry, push}
 use Rattle.net_strands.specs.Space.{alternatives, strandFrom, strands, extendedAll}
-use Rattle.net_joins.specs.Joins.{closest, joinedBy, joinFake, joinedTable, appended, JoinsTo, GoesOn, Beyond, JoinStep, joinStep}
+use Rattle.net_joins.specs.Joins.{closest, joinFake, joinedTable, appended, JoinsTo, GoesOn, Beyond, JoinStep, joinStep}
 
 abbrev 0s : Float
 0s = ofBits binary64 0
@@ -122,7 +122,7 @@ record Examples : Type 0 where
   clear-appends : after Clear (entry 0 6 ∷ []) ≡ some (entry 0 6 ∷ [])
 
 examples : Examples
-unfolding joinStep joinedTable appended closest seenIn someBelow eventNodes extendedAll alternatives strands strandFrom push entry sameEvent at nodeAt putFloats putNumbers linkedTo joinedBy joinFake gap sub lt ofBits blank noLinkEvent
+unfolding joinStep joinedTable appended closest seenIn someBelow eventNodes extendedAll alternatives strands strandFrom push entry sameEvent at nodeAt putFloats putNumbers linkedTo joinFake gap sub lt ofBits blank noLinkEvent
 examples = record {
   no-entries = refl;
   gap-of-J = refl;

@@ -11,13 +11,13 @@ use borrow.Author.Tests.{ltb-true}
 use lib.Dec.{ltb}
 use lib.Ieee.{Float, lt}
 use lib.ListN.{length, getD}
+use Rattle.net_node.proofs.Tables.{RoomIn, put-room, put-same, put-other, Fits, fits-at, fits-indexed, either}
 use Rattle.net_node.specs.declared.EstType.the-variants.{Fake}
 use Rattle.net_node.specs.declared.LinkEvent.{LinkEvent}
 use Rattle.net_node.specs.declared.EstTime.{EstTime}
 use Rattle.net_node.specs.declared.TimedEvent.{TimedEvent}
-use Rattle.net_node.specs.Table.{Indexed, Table, put, at}
+use Rattle.net_node.specs.Table.{Indexed, Table, put, at, withPrevAlt}
 use Rattle.net_insertion.specs.Insertion.{linkedTo}
-use Rattle.net_insertion.proofs.Puts.{RoomIn, put-room, put-same, put-other, Fits, fits-at, fits-indexed, either}
 use Rattle.net_event_map.specs.declared.Layout.{Layout}
 use Rattle.net_event_map.specs.EventMap.{seenIn, eventNodes, Mapped}
 use Rattle.net_event_map.proofs.Kept.{mapped-fake, mapped-same, event-nodes}
@@ -26,7 +26,7 @@ use Rattle.net_strands.specs.Entries.{entry, entriesIn, Valid}
 use Rattle.net_strands.specs.Space.{isArrive}
 use Rattle.net_strands.proofs.Kept.{Sound, Kept, kept-then, kept-push, space-kept}
 use Rattle.net_joins.specs.declared.Step.the-variants.{Joined, Waits}
-use Rattle.net_joins.specs.Joins.{closest, chainEnd, joinedBy, joinFake, joinAt, joinedTable, names, appendedIf, appendedAll, appended, rebuilt, JoinStep, JoinsTo, GoesOn, Beyond, stepWith, joinsIf, chosenAs, chosen, joinStep, StepAs, SteppedInto}
+use Rattle.net_joins.specs.Joins.{closest, chainEnd, joinFake, joinAt, joinedTable, names, appendedIf, appendedAll, appended, rebuilt, JoinStep, JoinsTo, GoesOn, Beyond, stepWith, joinsIf, chosenAs, chosen, joinStep, StepAs, SteppedInto}
 use Rattle.net_joins.proofs.Choosing.{closest-within}
 use Rattle.net_joins.proofs.Chains.{Last, chain-ends}
 
@@ -107,7 +107,7 @@ stepped-table t n target e fs us h = λ k. record { floats = h .0 k; numbers = h
 
 module _ (t : Table) (n end : ℕ) (e : TimedEvent) where
   abbrev first : Table
-  first = put t end (joinedBy (at t end) n)
+  first = put t end (withPrevAlt (at t end) n)
 
   abbrev second : Table
   second = put first n (joinFake end (n - 1))
@@ -154,7 +154,7 @@ module _ (t : Table) (n target places : ℕ) (e : TimedEvent) (r : RoomIn t plac
   table-is = third-is t n chainLast e
 
   one-room : RoomIn one places
-  one-room = put-room t chainLast (joinedBy (at t chainLast) n) places r
+  one-room = put-room t chainLast (withPrevAlt (at t chainLast) n) places r
 
   two-room : RoomIn two places
   two-room = put-room one n (joinFake chainLast (n - 1)) places one-room
@@ -179,15 +179,15 @@ module _ (t : Table) (n target places : ℕ) (e : TimedEvent) (r : RoomIn t plac
       ap (λ (s : Table). at s j) table-is
       ∙ put-other two (n - 1) (linkedTo (at two (n - 1)) n e) j l
       ∙ put-other one n (joinFake chainLast (n - 1)) j f
-      ∙ put-other t chainLast (joinedBy (at t chainLast) n) j h
+      ∙ put-other t chainLast (withPrevAlt (at t chainLast) n) j h
 
   -- the end of the chain, where it isn't the last node
-  pub joined-end : chainEnd n (at t) target ≢ n - 1 → at (joinedTable t n target e) (chainEnd n (at t) target) ≡ joinedBy (at t (chainEnd n (at t) target)) n
+  pub joined-end : chainEnd n (at t) target ≢ n - 1 → at (joinedTable t n target e) (chainEnd n (at t) target) ≡ withPrevAlt (at t (chainEnd n (at t) target)) n
   joined-end h =
       ap (λ (s : Table). at s chainLast) table-is
       ∙ put-other two (n - 1) (linkedTo (at two (n - 1)) n e) chainLast h
       ∙ put-other one n (joinFake chainLast (n - 1)) chainLast (λ (o : chainLast ≡ n). omega (arith, last-is .within))
-      ∙ put-same t chainLast (joinedBy (at t chainLast) n) places r (omega (arith, last-is .within))
+      ∙ put-same t chainLast (withPrevAlt (at t chainLast) n) places r (omega (arith, last-is .within))
 
   last-from : at (joinedTable t n target e) (n - 1) ≡ linkedTo (at one (n - 1)) n e
   last-from =
@@ -197,36 +197,35 @@ module _ (t : Table) (n target places : ℕ) (e : TimedEvent) (r : RoomIn t plac
 
   -- the last node: where it is the end of the chain it has the Fake as its previous alternative too
   pub joined-last : chainEnd n (at t) target ≢ n - 1 → at (joinedTable t n target e) (n - 1) ≡ linkedTo (at t (n - 1)) n e
-  joined-last h = last-from ∙ ap (λ (x : EstTime). linkedTo x n e) (put-other t chainLast (joinedBy (at t chainLast) n) (n - 1) (λ (o : n - 1 ≡ chainLast). h (sym o)))
+  joined-last h = last-from ∙ ap (λ (x : EstTime). linkedTo x n e) (put-other t chainLast (withPrevAlt (at t chainLast) n) (n - 1) (λ (o : n - 1 ≡ chainLast). h (sym o)))
 
-  pub joined-both : chainEnd n (at t) target ≡ n - 1 → at (joinedTable t n target e) (n - 1) ≡ linkedTo (joinedBy (at t (n - 1)) n) n e
+  pub joined-both : chainEnd n (at t) target ≡ n - 1 → at (joinedTable t n target e) (n - 1) ≡ linkedTo (withPrevAlt (at t (n - 1)) n) n e
   joined-both h =
       last-from
-      ∙ ap (λ (x : EstTime). linkedTo x n e) (ap (at one) (sym h) ∙ put-same t chainLast (joinedBy (at t chainLast) n) places r (omega (arith, last-is .within)) ∙ ap (λ (i : ℕ). joinedBy (at t i) n) h)
+      ∙ ap (λ (x : EstTime). linkedTo x n e) (ap (at one) (sym h) ∙ put-same t chainLast (withPrevAlt (at t chainLast) n) places r (omega (arith, last-is .within)) ∙ ap (λ (i : ℕ). withPrevAlt (at t i) n) h)
 
   -- what a join leaves to each of the n nodes
-  below : {A : Type 0} (f : EstTime → A) → ((x : EstTime) (k : ℕ) → f (joinedBy x k) ≡ f x) → ((x : EstTime) (k : ℕ) → f (linkedTo x k e) ≡ f x) → (j : ℕ) → j < n → f (at (joinedTable t n target e) j) ≡ f (at t j)
+  below : {A : Type 0} (f : EstTime → A) → ((x : EstTime) (k : ℕ) → f (withPrevAlt x k) ≡ f x) → ((x : EstTime) (k : ℕ) → f (linkedTo x k e) ≡ f x) → (j : ℕ) → j < n → f (at (joinedTable t n target e) j) ≡ f (at t j)
   below f p q j h =
       ap (λ (s : Table). f (at s j)) table-is
       ∙ kept-put f two (n - 1) (linkedTo (at two (n - 1)) n e) places j two-room (omega arith) (q (at two (n - 1)) n)
       ∙ ap f (put-other one n (joinFake chainLast (n - 1)) j (λ (o : j ≡ n). omega arith))
-      ∙ kept-put f t chainLast (joinedBy (at t chainLast) n) places j r (omega (arith, last-is .within)) (p (at t chainLast) n)
+      ∙ kept-put f t chainLast (withPrevAlt (at t chainLast) n) places j r (omega (arith, last-is .within)) (p (at t chainLast) n)
 
   pub joined-events : (j : ℕ) → j < n → at (joinedTable t n target e) j .«link_event» ≡ at t j .«link_event»
-  unfolding joinedBy linkedTo
+  unfolding linkedTo
   joined-events = below (λ x. x .«link_event») (λ x k. refl) (λ x k. refl)
 
   pub joined-speeds : (j : ℕ) → j < n → at (joinedTable t n target e) j .speed ≡ at t j .speed
-  unfolding joinedBy linkedTo
+  unfolding linkedTo
   joined-speeds = below (λ x. x .speed) (λ x k. refl) (λ x k. refl)
 
   -- ---- what it keeps
 
   one-fits : (j : ℕ) → j < n → Fits (at one j) j (n + 1)
-  unfolding joinedBy
   one-fits j h =
       let f = fits-at w chainLast (n + 1) (last-is .within) (omega arith) in
-      fits-put t chainLast (joinedBy (at t chainLast) n) places (n + 1) j r (omega (arith, last-is .within))
+      fits-put t chainLast (withPrevAlt (at t chainLast) n) places (n + 1) j r (omega (arith, last-is .within))
       (record { next = f .next; next-alt = f .next-alt; prev = f .prev; prev-alt = omega arith; next-alt-rises = f .next-alt-rises; prev-alt-rises = λ o. last-is .within })
       (λ d. fits-at w j (n + 1) h (omega arith))
 

@@ -5,9 +5,9 @@ use Prim.Native.Nat.{ℕ, _-_}
 use lib.Ieee.{Float}
 use Rattle.net_node.specs.declared.EstTime.{EstTime}
 use Rattle.net_node.specs.declared.TimedEvent.{TimedEvent}
-use Rattle.net_node.specs.Table.{nodeAt, putFloats, putNumbers, Table, put, at}
+use Rattle.net_node.specs.Table.{nodeAt, putFloats, putNumbers, Table, put, at, withPrevAlt}
 use Rattle.net_insertion.specs.Insertion.{linkedTo}
-use Rattle.net_joins.specs.Joins.{chainEnd, joinedBy, joinFake, joinAt, joinedTable}
+use Rattle.net_joins.specs.Joins.{chainEnd, joinFake, joinAt, joinedTable}
 
 abbrev pub lists : List Float → List ℕ → Table
 lists fs us = record { floats = fs; numbers = us }
@@ -19,7 +19,7 @@ stored s i x fs us a b = λ t. record { floats = a t; numbers = b t }
 -- node x was loaded, u stored, v stored, y loaded, z stored
 pub record Stored (t : Table) (n end : ℕ) (e : TimedEvent) (fs gs hs : List Float) (us vs ws : List ℕ) (x u v y z : EstTime) : Type 0 where
   pub load : x ≡ nodeAt (t .floats) (t .numbers) end
-  pub joined : u ≡ joinedBy x n
+  pub joined : u ≡ withPrevAlt x n
   pub floats : fs ≡ putFloats (t .floats) end u
   pub numbers : us ≡ putNumbers (t .numbers) end u
   pub fake : v ≡ joinFake end (n - 1)
@@ -32,14 +32,14 @@ pub record Stored (t : Table) (n end : ℕ) (e : TimedEvent) (fs gs hs : List Fl
 
 module _ {t : Table} {n end : ℕ} {e : TimedEvent} {fs gs hs : List Float} {us vs ws : List ℕ} {x u v y z : EstTime} (s : Stored t n end e fs gs hs us vs ws x u v y z) where
   abbrev first : Table
-  first = put t end (joinedBy (at t end) n)
+  first = put t end (withPrevAlt (at t end) n)
 
   abbrev second : Table
   second = put first n (joinFake end (n - 1))
 
   stored-first : lists fs us ≡ first
   unfolding at
-  stored-first = stored t end u fs us (s .floats) (s .numbers) ∙ ap (put t end) (s .joined ∙ ap (λ (m : EstTime). joinedBy m n) (s .load))
+  stored-first = stored t end u fs us (s .floats) (s .numbers) ∙ ap (put t end) (s .joined ∙ ap (λ (m : EstTime). withPrevAlt m n) (s .load))
 
   stored-second : lists gs vs ≡ second
   stored-second =

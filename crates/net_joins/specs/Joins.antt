@@ -10,7 +10,7 @@ use Rattle.floats.specs.Floats.{gap}
 use Rattle.net_node.specs.declared.LinkEvent.{LinkEvent}
 use Rattle.net_node.specs.declared.EstTime.{EstTime}
 use Rattle.net_node.specs.declared.TimedEvent.{TimedEvent}
-use Rattle.net_node.specs.Table.{sameEvent, blank, Table, put, at}
+use Rattle.net_node.specs.Table.{sameEvent, blank, Table, put, at, withNext, withPrev, withPrevAlt}
 use Rattle.net_insertion.specs.Insertion.{linkedTo}
 use Rattle.net_event_map.specs.EventMap.{seenIn, eventNodes}
 use Rattle.net_strands.specs.declared.EstJoinPath.{EstJoinPath}
@@ -53,40 +53,16 @@ unfoldable pub chainEnd : ℕ → (ℕ → EstTime) → ℕ → ℕ
 chainEnd zero node i = i
 chainEnd (suc k) node i = chainEndAs (node i .«idx_prev_alt») i (chainEnd k node)
 
--- a node whose previous alternative is set
-unfoldable pub joinedBy : EstTime → ℕ → EstTime
-joinedBy n alt = record {
-  «time_sched» = n .«time_sched»;
-  «time_to_next» = n .«time_to_next»;
-  «dist_to_next» = n .«dist_to_next»;
-  speed = n .speed;
-  «idx_next» = n .«idx_next»;
-  «idx_next_alt» = n .«idx_next_alt»;
-  «idx_prev» = n .«idx_prev»;
-  «idx_prev_alt» = alt;
-  «link_event» = n .«link_event»;
-}
-
 -- a join's Fake, between the last node and the end of the chain
 unfoldable pub joinFake : ℕ → ℕ → EstTime
 unfolding blank
-joinFake next prev = record {
-  «time_sched» = blank .«time_sched»;
-  «time_to_next» = blank .«time_to_next»;
-  «dist_to_next» = blank .«dist_to_next»;
-  speed = blank .speed;
-  «idx_next» = next;
-  «idx_next_alt» = 0;
-  «idx_prev» = prev;
-  «idx_prev_alt» = 0;
-  «link_event» = blank .«link_event»;
-}
+joinFake next prev = withPrev (withNext blank next) prev
 
 -- The table of n nodes after a join: the chain's end gets the Fake as node n, and the last node gets it as its next. The end of the chain may be the last node itself.
 unfoldable pub joinAt : Table → ℕ → ℕ → TimedEvent → Table
 unfolding put at
 joinAt t n end e =
-    let t1 = put t end (joinedBy (at t end) n) in
+    let t1 = put t end (withPrevAlt (at t end) n) in
     let t2 = put t1 n (joinFake end (n - 1)) in
     put t2 (n - 1) (linkedTo (at t2 (n - 1)) n e)
 

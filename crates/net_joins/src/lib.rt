@@ -11,10 +11,10 @@ ghost use Prim.Native.Nat.{ℕ, _+_, _*_, _≤_, _<_};
 ghost use lib.Dec.{ltb};
 ghost use lib.ListN.{length, getD};
 ghost use Rattle.net_node.specs.declared.EstTime.{EstTime};
-ghost use Rattle.net_node.specs.Table.{nodeAt, Room, Indexed, Table};
+ghost use Rattle.net_node.specs.Table.{nodeAt, Room, Indexed, Table, withPrevAlt};
 ghost use Rattle.net_event_map.specs.EventMap.{CellsApart, Mapped, Real};
 ghost use Rattle.net_strands.specs.Entries.{entriesIn, EntriesAs, Valid};
-ghost use Rattle.net_joins.specs.Joins.{closer, closest, chainEnd, joinedBy, joinFake, joinAt, joinedTable, appendedIf, appendedAll, appended, joinsIf, stepWith, joinStep, StepAs, SteppedInto, CellsAs};
+ghost use Rattle.net_joins.specs.Joins.{closer, closest, chainEnd, joinFake, joinAt, joinedTable, appendedIf, appendedAll, appended, joinsIf, stepWith, joinStep, StepAs, SteppedInto, CellsAs};
 ghost use Rattle.net_joins.specs.Marks.{marks, NamesMarked, Chain, Ending, MapWalkable};
 
 // The smallest gap of speeds so far, and its node.
@@ -91,41 +91,14 @@ fn chain_end(floats: &[f64], numbers: &[u32], nodes: usize, start: u32) -> u32
     }
 }
 
-// A node whose previous alternative is set.
-fn join_by(node: EstTime, alt: u32) -> EstTime
-    ensures { λ r. ⌜ r ≡ joinedBy node alt ⌝ }
-{
-    let link_event = node.link_event;
-    EstTime {
-        time_sched: node.time_sched,
-        time_to_next: node.time_to_next,
-        dist_to_next: node.dist_to_next,
-        speed: node.speed,
-        idx_next: node.idx_next,
-        idx_next_alt: node.idx_next_alt,
-        idx_prev: node.idx_prev,
-        idx_prev_alt: alt,
-        link_event,
-    }
-}
-
 // A join's Fake, between the last node and the end of the chain.
 fn join_fake(next: u32, prev: u32) -> EstTime
     ensures { λ r. ⌜ r ≡ joinFake next prev ⌝ }
 {
-    let blank = net_node::blank_node();
-    let link_event = blank.link_event;
-    EstTime {
-        time_sched: blank.time_sched,
-        time_to_next: blank.time_to_next,
-        dist_to_next: blank.dist_to_next,
-        speed: blank.speed,
-        idx_next: next,
-        idx_next_alt: 0,
-        idx_prev: prev,
-        idx_prev_alt: 0,
-        link_event,
-    }
+    let mut fake = net_node::blank_node();
+    fake.idx_next = next;
+    fake.idx_prev = prev;
+    fake
 }
 
 // The last of n nodes is linked to the end of a chain through a new Fake. The end may be the last node itself.
@@ -137,7 +110,7 @@ fn join_at(floats: &mut [f64], numbers: &mut [u32], n: u32, end: u32, e: TimedEv
     ensures numbers { λ _. ⌜ now (numbers .exit) ≡ joinAt (record { floats = now (floats .entry); numbers = now (numbers .entry) }) n end e .numbers ⌝ }
 {
     let node = net_node::load(floats, numbers, end as usize);
-    let joined = join_by(node, n);
+    let joined = net_node::with_prev_alt(node, n);
     net_node::store(floats, numbers, end as usize, joined);
     let last = n - 1;
     let fake = join_fake(end, last);

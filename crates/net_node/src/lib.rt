@@ -2,7 +2,15 @@
 ghost use mathlib.Core.Path.{_≡_};
 ghost use Prim.Native.Nat.{_+_, _*_, _≤_};
 ghost use lib.ListN.{length};
-ghost use Rattle.net_node.specs.Table.{kindOf, kindNumber, sameKind, sameEvent, nodeAt, putFloats, putNumbers, noLinkEvent, blank};
+ghost use Rattle.net_node.specs.Lent.{tableAtEntry};
+ghost use Rattle.net_node.specs.Table.{floatWidth, numberWidth, kindOf, kindNumber, fakeKind, sameKind, sameEvent};
+ghost use Rattle.net_node.specs.Table.{nodeAt, putFloats, putNumbers, Table, setTime, setArc, setNext, setPrev};
+ghost use Rattle.net_node.specs.Table.{noLinkEvent, blank, withTime, withArc, withSpeed, withNext, withNextAlt, withPrev, withPrevAlt, withEvent};
+
+// How many floats and how many numbers a node has in the table's two slices.
+pub const FLOAT_WIDTH: usize = 4;
+
+pub const NUMBER_WIDTH: usize = 6;
 
 // Type of an estimated time node: the train arrives at the entry point of a link, clears it, or the node only links alternatives.
 pub enum EstType {
@@ -98,6 +106,13 @@ pub fn kind_number(k: EstType) -> u32
     }
 }
 
+// Whether a kind is Fake.
+pub fn is_fake(kind: EstType) -> bool
+    ensures { λ r. ⌜ r ≡ fakeKind kind ⌝ }
+{
+    kind_number(kind) == 2
+}
+
 fn same_kind(a: EstType, b: EstType) -> bool
     ensures { λ r. ⌜ r ≡ sameKind a b ⌝ }
 {
@@ -116,12 +131,12 @@ pub fn same_event(a: LinkEvent, b: LinkEvent) -> bool
 
 // The node of index i.
 pub fn load(floats: &[f64], numbers: &[u32], i: usize) -> EstTime
-    requires { ⌜ i * 4 + 4 ≤ length (now floats) ⌝ }
-    requires { ⌜ i * 6 + 6 ≤ length (now numbers) ⌝ }
+    requires { ⌜ i * floatWidth + floatWidth ≤ length (now floats) ⌝ }
+    requires { ⌜ i * numberWidth + numberWidth ≤ length (now numbers) ⌝ }
     ensures { λ r. ⌜ r ≡ nodeAt (now (floats .entry)) (now (numbers .entry)) i ⌝ }
 {
-    let f = i * 4;
-    let u = i * 6;
+    let f = i * FLOAT_WIDTH;
+    let u = i * NUMBER_WIDTH;
     let est_type = kind_of(numbers[u + 5]);
     let link_event = LinkEvent {
         link_idx: numbers[u + 4],
@@ -142,17 +157,17 @@ pub fn load(floats: &[f64], numbers: &[u32], i: usize) -> EstTime
 
 // Writes a node at index i.
 pub fn store(floats: &mut [f64], numbers: &mut [u32], i: usize, node: EstTime)
-    requires { ⌜ i * 4 + 4 ≤ length (now floats) ⌝ }
-    requires { ⌜ i * 6 + 6 ≤ length (now numbers) ⌝ }
+    requires { ⌜ i * floatWidth + floatWidth ≤ length (now floats) ⌝ }
+    requires { ⌜ i * numberWidth + numberWidth ≤ length (now numbers) ⌝ }
     ensures floats { λ _. ⌜ now (floats .exit) ≡ putFloats (now (floats .entry)) i node ⌝ }
     ensures numbers { λ _. ⌜ now (numbers .exit) ≡ putNumbers (now (numbers .entry)) i node ⌝ }
 {
-    let f = i * 4;
+    let f = i * FLOAT_WIDTH;
     floats[f] = node.time_sched;
     floats[f + 1] = node.time_to_next;
     floats[f + 2] = node.dist_to_next;
     floats[f + 3] = node.speed;
-    let u = i * 6;
+    let u = i * NUMBER_WIDTH;
     let event = node.link_event;
     numbers[u] = node.idx_next;
     numbers[u + 1] = node.idx_next_alt;
@@ -161,4 +176,119 @@ pub fn store(floats: &mut [f64], numbers: &mut [u32], i: usize, node: EstTime)
     numbers[u + 4] = event.link_idx;
     let est_type = event.est_type;
     numbers[u + 5] = kind_number(est_type);
+}
+
+// The node at another time.
+pub fn with_time(node: EstTime, time: f64) -> EstTime
+    ensures { λ r. ⌜ r ≡ withTime node time ⌝ }
+{
+    let mut changed = node;
+    changed.time_sched = time;
+    changed
+}
+
+// The node with another time and distance to next.
+pub fn with_arc(node: EstTime, time: f64, distance: f64) -> EstTime
+    ensures { λ r. ⌜ r ≡ withArc node time distance ⌝ }
+{
+    let mut changed = node;
+    changed.time_to_next = time;
+    changed.dist_to_next = distance;
+    changed
+}
+
+// The node with another speed.
+pub fn with_speed(node: EstTime, speed: f64) -> EstTime
+    ensures { λ r. ⌜ r ≡ withSpeed node speed ⌝ }
+{
+    let mut changed = node;
+    changed.speed = speed;
+    changed
+}
+
+// The node with another next.
+pub fn with_next(node: EstTime, next: u32) -> EstTime
+    ensures { λ r. ⌜ r ≡ withNext node next ⌝ }
+{
+    let mut changed = node;
+    changed.idx_next = next;
+    changed
+}
+
+// The node with another next alternative.
+pub fn with_next_alt(node: EstTime, alt: u32) -> EstTime
+    ensures { λ r. ⌜ r ≡ withNextAlt node alt ⌝ }
+{
+    let mut changed = node;
+    changed.idx_next_alt = alt;
+    changed
+}
+
+// The node with another previous.
+pub fn with_prev(node: EstTime, prev: u32) -> EstTime
+    ensures { λ r. ⌜ r ≡ withPrev node prev ⌝ }
+{
+    let mut changed = node;
+    changed.idx_prev = prev;
+    changed
+}
+
+// The node with another previous alternative.
+pub fn with_prev_alt(node: EstTime, alt: u32) -> EstTime
+    ensures { λ r. ⌜ r ≡ withPrevAlt node alt ⌝ }
+{
+    let mut changed = node;
+    changed.idx_prev_alt = alt;
+    changed
+}
+
+// The node of another event.
+pub fn with_event(node: EstTime, event: LinkEvent) -> EstTime
+    ensures { λ r. ⌜ r ≡ withEvent node event ⌝ }
+{
+    let mut changed = node;
+    changed.link_event = event;
+    changed
+}
+
+// Sets a node's time.
+pub fn set_time(floats: &mut [f64], numbers: &mut [u32], i: usize, time: f64)
+    requires { ⌜ i * floatWidth + floatWidth ≤ length (now floats) ⌝ }
+    requires { ⌜ i * numberWidth + numberWidth ≤ length (now numbers) ⌝ }
+    ensures floats { λ _. ⌜ now (floats .exit) ≡ setTime (tableAtEntry floats numbers) i time .floats ⌝ }
+    ensures numbers { λ _. ⌜ now (numbers .exit) ≡ setTime (tableAtEntry floats numbers) i time .numbers ⌝ }
+{
+    floats[i * FLOAT_WIDTH] = time;
+}
+
+// Sets a node's time and distance to next.
+pub fn set_arc(floats: &mut [f64], numbers: &mut [u32], i: usize, time: f64, distance: f64)
+    requires { ⌜ i * floatWidth + floatWidth ≤ length (now floats) ⌝ }
+    requires { ⌜ i * numberWidth + numberWidth ≤ length (now numbers) ⌝ }
+    ensures floats { λ _. ⌜ now (floats .exit) ≡ setArc (tableAtEntry floats numbers) i time distance .floats ⌝ }
+    ensures numbers { λ _. ⌜ now (numbers .exit) ≡ setArc (tableAtEntry floats numbers) i time distance .numbers ⌝ }
+{
+    let f = i * FLOAT_WIDTH;
+    floats[f + 1] = time;
+    floats[f + 2] = distance;
+}
+
+// Sets a node's next.
+pub fn set_next(floats: &mut [f64], numbers: &mut [u32], i: usize, next: u32)
+    requires { ⌜ i * floatWidth + floatWidth ≤ length (now floats) ⌝ }
+    requires { ⌜ i * numberWidth + numberWidth ≤ length (now numbers) ⌝ }
+    ensures floats { λ _. ⌜ now (floats .exit) ≡ setNext (tableAtEntry floats numbers) i next .floats ⌝ }
+    ensures numbers { λ _. ⌜ now (numbers .exit) ≡ setNext (tableAtEntry floats numbers) i next .numbers ⌝ }
+{
+    numbers[i * NUMBER_WIDTH] = next;
+}
+
+// Sets a node's previous.
+pub fn set_prev(floats: &mut [f64], numbers: &mut [u32], i: usize, prev: u32)
+    requires { ⌜ i * floatWidth + floatWidth ≤ length (now floats) ⌝ }
+    requires { ⌜ i * numberWidth + numberWidth ≤ length (now numbers) ⌝ }
+    ensures floats { λ _. ⌜ now (floats .exit) ≡ setPrev (tableAtEntry floats numbers) i prev .floats ⌝ }
+    ensures numbers { λ _. ⌜ now (numbers .exit) ≡ setPrev (tableAtEntry floats numbers) i prev .numbers ⌝ }
+{
+    numbers[i * NUMBER_WIDTH + 2] = prev;
 }

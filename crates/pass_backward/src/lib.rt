@@ -142,7 +142,7 @@ fn stops_at(floats: &[f64], numbers: &[u32], i: u32) -> bool
     let node = net_node::load(floats, numbers, i as usize);
     let event = node.link_event;
     let kind = event.est_type;
-    let fake = pass_rules::is_fake(kind);
+    let fake = net_node::is_fake(kind);
     !(node.idx_next_alt == 0) | fake
 }
 
@@ -216,7 +216,7 @@ fn settle(
     let ahead = net_node::load(floats, numbers, prev as usize);
     let event = node.link_event;
     let kind = event.est_type;
-    let fake = pass_rules::is_fake(kind);
+    let fake = net_node::is_fake(kind);
     if pass_state::is_done(cells, done_at, prev) {
         if fake & (curr == ahead.idx_next_alt) {
             return Passed::Queued(count);

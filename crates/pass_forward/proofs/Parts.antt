@@ -7,10 +7,10 @@ use lib.Dec.{eqb}
 use lib.ListN.{set}
 use lib.Ieee.{Float, binary64, ofBits, isNan}
 use Rattle.net_node.specs.declared.EstTime.{EstTime}
-use Rattle.net_node.specs.Table.{nodeAt, at, isFake}
+use Rattle.net_node.specs.Table.{nodeAt, at, isFake, setTime}
 use Rattle.pass_queue.specs.declared.Entry.{Entry}
 use Rattle.pass_queue.specs.Queue.{best, others}
-use Rattle.pass_rules.specs.Net.{Answer, fails, given, andThen, asserting, Pass, setTime}
+use Rattle.pass_rules.specs.Net.{Answer, fails, given, andThen, asserting, Pass}
 use Rattle.pass_rules.specs.Walks.{passOf}
 use Rattle.pass_rules.specs.Forward.{At, timeNext, queued, timed, isPassable, walkedOn, relinkWalk, swapJoin, swappedIf, relinked, alternatedBy, stepOn, step, stopsAt, stopIf, strand, addedIf, settledBy, settle, turn, turns}
 use Rattle.pass_state.specs.Held.{PassIn}

@@ -6,9 +6,9 @@ use Prim.Native.Nat.{ℕ, zero, suc, _+_, _*_, _-_, _≤_}
 use native.Mathlib.Omega.{arith}
 use lib.ListN.{length, set}
 use lib.Ieee.{Float, binary64, ofBits, isNan}
-use Rattle.net_node.specs.Table.{nodeAt, Room}
+use Rattle.net_node.specs.Table.{nodeAt, Room, setTime}
 use Rattle.pass_queue.specs.declared.Entry.{Entry}
-use Rattle.pass_rules.specs.Net.{fails, asserting, Pass, alsoDone, setTime}
+use Rattle.pass_rules.specs.Net.{fails, asserting, Pass, alsoDone}
 use Rattle.pass_rules.specs.Walks.{Inside, doneIn}
 use Rattle.pass_rules.specs.Forward.{turns, firstTwo, forward}
 use Rattle.pass_state.specs.declared.Passed.{Passed}

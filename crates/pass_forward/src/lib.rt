@@ -158,7 +158,7 @@ fn stops_at(floats: &[f64], numbers: &[u32], i: u32) -> bool
     let node = net_node::load(floats, numbers, i as usize);
     let event = node.link_event;
     let kind = event.est_type;
-    let fake = pass_rules::is_fake(kind);
+    let fake = net_node::is_fake(kind);
     !(node.idx_prev_alt == 0) | fake
 }
 
@@ -229,7 +229,7 @@ fn settle(
     let ahead = net_node::load(floats, numbers, next as usize);
     let event = node.link_event;
     let kind = event.est_type;
-    let fake = pass_rules::is_fake(kind);
+    let fake = net_node::is_fake(kind);
     if pass_state::is_done(cells, done_at, next) {
         if fake & (curr == ahead.idx_prev_alt) {
             return Passed::Queued(count);

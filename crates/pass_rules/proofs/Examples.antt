@@ -5,14 +5,14 @@ use mathlib.Core.List.{List, [], _∷_}
 use Prim.Native.Nat.{ℕ, zero, suc}
 use lib.Ieee.{Float, binary64, ofBits, toBits, add, sub, lt, le, eq, round, sum, isNan, neg, below, level}
 use Rattle.net_node.specs.declared.EstTime.{EstTime}
-use Rattle.net_node.specs.Table.{kindNumber, Table, at}
+use Rattle.net_node.specs.Table.{kindNumber, Table, at, setTime, setNext, setPrev, setArc}
 use Rattle.pass_rules.specs.Passes.{Timed, refused, timedAs}
 use Rattle.laws.specs.Below.{someBelow}
 use Rattle.net_node.specs.Table.{nodeAt}
 use Rattle.pass_queue.specs.Queue.{byBits, beforeForward, beforeBackward, before, best, others}
 use Rattle.pass_rules.specs.Passes.{someLeft, allZero, passes}
 use Rattle.pass_rules.specs.Checks.{prevHolds, nextHolds, fakeHolds, prevLeads, nextLeads, notBothAlternates, nodeHolds, row14}
-use Rattle.pass_rules.specs.Net.{alsoDone, setTime, setNext, setPrev, setArc}
+use Rattle.pass_rules.specs.Net.{alsoDone}
 use Rattle.pass_rules.specs.Forward as Forward
 use Rattle.pass_rules.specs.Backward as Backward
 

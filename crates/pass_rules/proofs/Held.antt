@@ -14,11 +14,6 @@ use Rattle.net_node.specs.Table.{kindNumber, fakeKind, isFake}
 use Rattle.pass_rules.specs.Checks.{differ, prevHolds, nextHolds, fakeHolds, prevLeads, nextLeads, notBothAlternates, nodeHolds, row14}
 use Rattle.pass_rules.specs.Plain.{plain}
 
-pub fake-number : (k : EstType) → eqb (kindNumber k) 2 ≡ fakeKind k
-fake-number Arrive = refl
-fake-number Clear = refl
-fake-number Fake = refl
-
 or-three : (a b c : Bool) → (a || (b || c)) ≡ (a || b || c)
 or-three true b c = refl
 or-three false b c = refl

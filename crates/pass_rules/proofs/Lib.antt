@@ -1,4 +1,3 @@
-pub mod Fields
 mod Sets
 mod Held
 mod Walking

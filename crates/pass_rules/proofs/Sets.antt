@@ -4,8 +4,7 @@ use mathlib.Core.List.{List}
 use Prim.Native.Nat.{ℕ, _<_}
 use lib.Ieee.{Float}
 use Rattle.net_node.specs.declared.EstTime.{EstTime}
-use Rattle.net_node.specs.Table.{nodeAt, Table, at}
-use Rattle.pass_rules.specs.Net.{setNext, setPrev, setArc}
+use Rattle.net_node.specs.Table.{nodeAt, Table, at, setNext, setPrev, setArc}
 use Rattle.pass_rules.specs.Forward.{swapJoin}
 use Rattle.pass_rules.specs.Backward.{swapSplit}
 use Rattle.pass_rules.specs.Walks.{Inside}

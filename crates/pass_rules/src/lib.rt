@@ -1,15 +1,14 @@
 // The checks before the time passes, and the relinks of both. Contracts: specs/.
 use net_node::EstTime;
-use net_node::EstType;
 ghost use mathlib.Core.Path.{_≡_};
 ghost use mathlib.Core.Bool.{not, _&&_, _||_};
 ghost use Prim.Native.Nat.{ℕ, _+_, _-_, _*_, _≤_, _<_};
 ghost use lib.Dec.{eqb};
 ghost use lib.ListN.{length};
-ghost use Rattle.net_node.specs.Table.{nodeAt, Room, Table, fakeKind};
+ghost use Rattle.net_node.specs.Table.{nodeAt, Room, Table};
 ghost use Rattle.pass_rules.specs.Checks.{differ, prevHolds, nextHolds, fakeHolds, prevLeads, nextLeads, nodeHolds, row14};
 ghost use Rattle.pass_rules.specs.Plain.{plain};
-ghost use Rattle.pass_rules.specs.Net.{Pass, setTime, setNext, setPrev, setArc};
+ghost use Rattle.pass_rules.specs.Net.{Pass};
 ghost use Rattle.pass_rules.specs.Forward.{swapJoin};
 ghost use Rattle.pass_rules.specs.Backward.{swapSplit};
 ghost use Rattle.pass_rules.specs.Walks.{Inside, doneIn, passOf, ahead, endOf, passable, RelinkWalk};
@@ -18,13 +17,6 @@ ghost use Rattle.pass_rules.specs.Walks.{Inside, doneIn, passOf, ahead, 
 pub enum Walked {
     Found(u32),
     Endless,
-}
-
-// Whether a kind is Fake.
-pub fn is_fake(kind: EstType) -> bool
-    ensures { λ r. ⌜ r ≡ fakeKind kind ⌝ }
-{
-    net_node::kind_number(kind) == 2
 }
 
 // Whether one of two holds and the other does not.
@@ -43,7 +35,7 @@ fn own_links_hold(here: EstTime, n: usize, i: usize) -> bool
     let next = is_one(!(here.idx_next == 0), i == n - 1);
     let event = here.link_event;
     let kind = event.est_type;
-    let fake = is_fake(kind);
+    let fake = net_node::is_fake(kind);
     let alone = !fake | ((here.idx_prev_alt == 0) | (here.idx_next_alt == 0));
     prev & (next & alone)
 }
@@ -69,7 +61,7 @@ fn is_plain(here: EstTime, before: EstTime, after: EstTime, n: usize, i: usize) 
 {
     let event = here.link_event;
     let kind = event.est_type;
-    let fake = is_fake(kind);
+    let fake = net_node::is_fake(kind);
     (1 < i)
         & ((i < n - 1)
             & (!(here.idx_prev == 0)
@@ -113,48 +105,6 @@ pub fn checks_fail(floats: &[f64], numbers: &[u32], n: usize) -> bool
     false
 }
 
-// Sets a node's time.
-pub fn set_time(floats: &mut [f64], numbers: &mut [u32], i: usize, time: f64)
-    requires { ⌜ i * 4 + 4 ≤ length (now floats) ⌝ }
-    requires { ⌜ i * 6 + 6 ≤ length (now numbers) ⌝ }
-    ensures floats { λ _. ⌜ now (floats .exit) ≡ setTime (record { floats = now (floats .entry); numbers = now (numbers .entry) }) i time .floats ⌝ }
-    ensures numbers { λ _. ⌜ now (numbers .exit) ≡ setTime (record { floats = now (floats .entry); numbers = now (numbers .entry) }) i time .numbers ⌝ }
-{
-    floats[i * 4] = time;
-}
-
-// Sets a node's next.
-fn set_next(floats: &mut [f64], numbers: &mut [u32], i: usize, next: u32)
-    requires { ⌜ i * 4 + 4 ≤ length (now floats) ⌝ }
-    requires { ⌜ i * 6 + 6 ≤ length (now numbers) ⌝ }
-    ensures floats { λ _. ⌜ now (floats .exit) ≡ setNext (record { floats = now (floats .entry); numbers = now (numbers .entry) }) i next .floats ⌝ }
-    ensures numbers { λ _. ⌜ now (numbers .exit) ≡ setNext (record { floats = now (floats .entry); numbers = now (numbers .entry) }) i next .numbers ⌝ }
-{
-    numbers[i * 6] = next;
-}
-
-// Sets a node's previous.
-fn set_prev(floats: &mut [f64], numbers: &mut [u32], i: usize, prev: u32)
-    requires { ⌜ i * 4 + 4 ≤ length (now floats) ⌝ }
-    requires { ⌜ i * 6 + 6 ≤ length (now numbers) ⌝ }
-    ensures floats { λ _. ⌜ now (floats .exit) ≡ setPrev (record { floats = now (floats .entry); numbers = now (numbers .entry) }) i prev .floats ⌝ }
-    ensures numbers { λ _. ⌜ now (numbers .exit) ≡ setPrev (record { floats = now (floats .entry); numbers = now (numbers .entry) }) i prev .numbers ⌝ }
-{
-    numbers[i * 6 + 2] = prev;
-}
-
-// Sets a node's time and distance to next.
-fn set_arc(floats: &mut [f64], numbers: &mut [u32], i: usize, time: f64, distance: f64)
-    requires { ⌜ i * 4 + 4 ≤ length (now floats) ⌝ }
-    requires { ⌜ i * 6 + 6 ≤ length (now numbers) ⌝ }
-    ensures floats { λ _. ⌜ now (floats .exit) ≡ setArc (record { floats = now (floats .entry); numbers = now (numbers .entry) }) i time distance .floats ⌝ }
-    ensures numbers { λ _. ⌜ now (numbers .exit) ≡ setArc (record { floats = now (floats .entry); numbers = now (numbers .entry) }) i time distance .numbers ⌝ }
-{
-    let f = i * 4;
-    floats[f + 1] = time;
-    floats[f + 2] = distance;
-}
-
 // The index along which a relink walk goes: a node's next forward, its previous backward.
 fn ahead(node: EstTime, backward: bool) -> u32
     ensures { λ r. ⌜ r ≡ ahead backward node ⌝ }
@@ -193,7 +143,7 @@ fn is_passable(
     let node = net_node::load(floats, numbers, i as usize);
     let event = node.link_event;
     let kind = event.est_type;
-    let fake = is_fake(kind);
+    let fake = net_node::is_fake(kind);
     let to = ahead(node, backward) as usize;
     let end = end_of(n, backward);
     let done = 0 < cells[done_at + to];
@@ -250,10 +200,10 @@ pub fn swap_join(
 {
     let node = net_node::load(floats, numbers, found as usize);
     let base = node.idx_prev;
-    set_next(floats, numbers, curr as usize, found);
-    set_next(floats, numbers, base as usize, save);
-    set_prev(floats, numbers, save as usize, base);
-    set_prev(floats, numbers, found as usize, curr);
+    net_node::set_next(floats, numbers, curr as usize, found);
+    net_node::set_next(floats, numbers, base as usize, save);
+    net_node::set_prev(floats, numbers, save as usize, base);
+    net_node::set_prev(floats, numbers, found as usize, curr);
 }
 
 // Backward: the node and the base of the split that is reached exchange their previous, and time and distance to next go along.
@@ -275,20 +225,20 @@ pub fn swap_split(
 {
     let node = net_node::load(floats, numbers, found as usize);
     let base = node.idx_next;
-    set_prev(floats, numbers, curr as usize, found);
-    set_prev(floats, numbers, base as usize, save);
-    set_next(floats, numbers, save as usize, base);
-    set_next(floats, numbers, found as usize, curr);
+    net_node::set_prev(floats, numbers, curr as usize, found);
+    net_node::set_prev(floats, numbers, base as usize, save);
+    net_node::set_next(floats, numbers, save as usize, base);
+    net_node::set_next(floats, numbers, found as usize, curr);
     let a = net_node::load(floats, numbers, save as usize);
     let b = net_node::load(floats, numbers, found as usize);
-    set_arc(
+    net_node::set_arc(
         floats,
         numbers,
         save as usize,
         b.time_to_next,
         b.dist_to_next,
     );
-    set_arc(
+    net_node::set_arc(
         floats,
         numbers,
         found as usize,

@@ -9,11 +9,11 @@ use lib.ListN.{length, getD, set, length-set}
 use lib.Seq.{getD-set-other}
 use lib.Ieee.{Float, isNan}
 use Rattle.net_node.specs.declared.EstTime.{EstTime}
-use Rattle.net_node.specs.Table.{nodeAt, Room, Table, at}
+use Rattle.net_node.specs.Table.{nodeAt, Room, Table, at, setTime}
 use Rattle.pass_queue.specs.declared.Entry.{Entry}
 use Rattle.pass_queue.specs.Queue.{best, others, Each, Holds}
 use Rattle.pass_queue.proofs.Kept.{each-kept, holds-none}
-use Rattle.pass_rules.specs.Net.{Answer, given, Pass, alsoDone, setTime}
+use Rattle.pass_rules.specs.Net.{Answer, given, Pass, alsoDone}
 use Rattle.pass_rules.specs.Walks.{Inside, doneIn}
 use Rattle.pass_rules.specs.Backward.{queued}
 use Rattle.pass_state.specs.declared.Passed.{Passed}

@@ -4,14 +4,13 @@ use mathlib.Core.Logic.{_≢_, ⊎-elim}
 use mathlib.Core.List.{List}
 use Prim.Native.Nat.{ℕ, _<_}
 use lib.Ieee.{Float}
+use Rattle.net_node.proofs.Sets.{Changed, time-set, next-set, prev-set, arc-set}
+use Rattle.net_node.proofs.Tables.{RoomIn}
 use Rattle.net_node.specs.declared.EstTime.{EstTime}
-use Rattle.net_node.specs.Table.{nodeAt, Table, at}
-use Rattle.net_insertion.proofs.Puts.{RoomIn}
-use Rattle.pass_rules.specs.Net.{setTime, setNext, setPrev, setArc}
+use Rattle.net_node.specs.Table.{nodeAt, Table, at, setTime, setNext, setPrev, setArc, withTime, withNext, withPrev, withArc}
 use Rattle.pass_rules.specs.Walks.{Inside}
 use Rattle.pass_rules.specs.Forward.{swapJoin}
 use Rattle.pass_rules.specs.Backward.{swapSplit}
-use Rattle.pass_rules.proofs.Fields.{Changed, withTime, withNext, withPrev, withArc, time-set, next-set, prev-set, arc-set}
 use Rattle.pass_state.proofs.Left.{same-or-not}
 
 -- a table with room for n nodes whose indices name nodes
@@ -50,26 +49,22 @@ linked-change t s n i x v c w = record {
 
 module _ (t : Table) (n : ℕ) (v : Linked t n) (i : ℕ) (h : i < n) where
   pub linked-time : (time : Float) → Linked (setTime t i time) n
-  unfolding withTime
   linked-time time =
       let w = names-at t n v i h in
       linked-change t (setTime t i time) n i (withTime (at t i) time) v (time-set t n (v .room) i h time) (record { next = w .next; next-alt = w .next-alt; prev = w .prev; prev-alt = w .prev-alt })
 
   linked-arc : (time distance : Float) → Linked (setArc t i time distance) n
-  unfolding withArc
   linked-arc time distance =
       let w = names-at t n v i h in
       linked-change t (setArc t i time distance) n i (withArc (at t i) time distance) v (arc-set t n (v .room) i h time distance) (record { next = w .next; next-alt = w .next-alt; prev = w .prev; prev-alt = w .prev-alt })
 
   module _ (k : ℕ) (l : k < n) where
     linked-next : Linked (setNext t i k) n
-    unfolding withNext
     linked-next =
         let w = names-at t n v i h in
         linked-change t (setNext t i k) n i (withNext (at t i) k) v (next-set t n (v .room) i h k) (record { next = l; next-alt = w .next-alt; prev = w .prev; prev-alt = w .prev-alt })
 
     linked-prev : Linked (setPrev t i k) n
-    unfolding withPrev
     linked-prev =
         let w = names-at t n v i h in
         linked-change t (setPrev t i k) n i (withPrev (at t i) k) v (prev-set t n (v .room) i h k) (record { next = w .next; next-alt = w .next-alt; prev = l; prev-alt = w .prev-alt })

@@ -8,9 +8,9 @@ use lib.ListN.{length, set}
 use lib.Ieee.{Float, isNan}
 use mathlib.Core.Bool.{_||_}
 use Rattle.net_node.specs.declared.EstTime.{EstTime}
-use Rattle.net_node.specs.Table.{nodeAt, Table, at}
+use Rattle.net_node.specs.Table.{nodeAt, Table, at, setTime}
 use Rattle.pass_queue.specs.declared.Entry.{Entry}
-use Rattle.pass_rules.specs.Net.{Answer, fails, given, andThen, asserting, Pass, setTime}
+use Rattle.pass_rules.specs.Net.{Answer, fails, given, andThen, asserting, Pass}
 use Rattle.pass_rules.specs.Backward.{queued}
 use Rattle.pass_rules.specs.Walks.{doneIn}
 use Rattle.pass_state.specs.declared.Passed.{Passed}

@@ -3,7 +3,7 @@ use pass_queue::Entry;
 ghost use mathlib.Core.Path.{_≡_};
 ghost use Prim.Native.Nat.{_+_, _*_, _≤_, _<_};
 ghost use lib.ListN.{length, set};
-ghost use Rattle.pass_rules.specs.Net.{setTime};
+ghost use Rattle.net_node.specs.Table.{setTime};
 ghost use Rattle.pass_rules.specs.Walks.{doneIn};
 ghost use Rattle.pass_state.specs.Held.{EnqueuedAs};
 
@@ -43,7 +43,7 @@ pub fn set_done(
     ensures numbers { λ _. ⌜ now (numbers .exit) ≡ setTime (record { floats = now (floats .entry); numbers = now (numbers .entry) }) i time .numbers ⌝ }
     ensures cells { λ _. ⌜ now (cells .exit) ≡ set (now (cells .entry)) («done_at» + i) 1 ⌝ }
 {
-    pass_rules::set_time(floats, numbers, i as usize, time);
+    net_node::set_time(floats, numbers, i as usize, time);
     cells[done_at + i as usize] = 1;
 }
 

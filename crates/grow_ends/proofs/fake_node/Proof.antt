@@ -6,7 +6,7 @@ use Rattle.grow_ends.proofs.fake_node.Tie as tie
 
 returns : tie.Need-returns
 unfolding fakeNode
-returns c = rw (c .before .blank-node .ensures)
+returns c = rw (c .blank-node .ensures)
 
 pub fake-node-spec : {M : Type 1} → statement M
 fake-node-spec = tie.close (tie.spec (λ c κs. search needs) returns)

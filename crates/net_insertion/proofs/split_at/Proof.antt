@@ -10,7 +10,7 @@ store-requires-2 c κs = (omega (arith, c .before .before .before .before .befor
 
 returns : tie.Need-returns
 returns c =
-    split-stored _ _ _ _ _ _ _ _ _ _ _ (c .before .before .before .before .before .before .before .before .before .before .before .before .before .before .before .before .load .ensures) (c .before .before .before .before .before .before .before .before .before .before .before .before .before .before .before .alternate .ensures) (c .before .before .before .before .before .before .before .split-fake .ensures)
+    split-stored _ _ _ _ _ _ _ _ _ _ _ (c .before .before .before .before .before .before .before .before .before .before .before .before .before .before .before .before .load .ensures) (c .before .before .before .before .before .before .before .before .before .before .before .before .before .before .before .with-next-alt .ensures) (c .before .before .before .before .before .before .before .split-fake .ensures)
     (record { floats = c .before .before .before .before .before .before .before .before .before .before .before .before .store .ensures .0; numbers = c .before .before .before .before .before .before .before .before .before .before .before .before .store .ensures .1; floats-then = c .before .before .before .before .store2 .ensures .0; numbers-then = c .before .before .before .before .store2 .ensures .1 })
 
 pub split-at-spec : {M : Type 1} → statement M

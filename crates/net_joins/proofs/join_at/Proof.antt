@@ -29,7 +29,7 @@ same-length-2 c = omega (arith, c .before .before .before .before .before .befor
 returns : tie.Need-returns
 returns c = join-stored (record {
   load = c .before .before .before .before .before .before .before .before .before .before .before .before .before .before .before .before .before .before .before .before .before .before .before .before .before .before .before .load .ensures;
-  joined = c .before .before .before .before .before .before .before .before .before .before .before .before .before .before .before .before .before .before .before .before .before .before .before .before .before .before .join-by .ensures;
+  joined = c .before .before .before .before .before .before .before .before .before .before .before .before .before .before .before .before .before .before .before .before .before .before .before .before .before .before .with-prev-alt .ensures;
   floats = c .before .before .before .before .before .before .before .before .before .before .before .before .before .before .before .before .before .before .before .before .before .before .before .store .ensures .0;
   numbers = c .before .before .before .before .before .before .before .before .before .before .before .before .before .before .before .before .before .before .before .before .before .before .before .store .ensures .1;
   fake = c .before .before .before .before .before .before .before .before .before .before .before .before .before .before .before .before .before .before .join-fake .ensures;

@@ -1,9 +1,9 @@
--- `pass_rules::set_next` meets its contract.
+-- `net_node::set_next` meets its contract.
 use mathlib.Core.Path.{refl}
 use borrow.Author.Needs.{needs}
-use Rattle.pass_rules.specs.Net.{setNext}
-use Rattle.pass_rules.proofs.set_next.Statement.{statement}
-use Rattle.pass_rules.proofs.set_next.Tie as tie
+use Rattle.net_node.specs.Table.{setNext}
+use Rattle.net_node.proofs.set_next.Statement.{statement}
+use Rattle.net_node.proofs.set_next.Tie as tie
 
 returns : tie.Need-returns
 unfolding setNext

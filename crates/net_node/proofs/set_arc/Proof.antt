@@ -1,11 +1,11 @@
--- `pass_rules::set_arc` meets its contract.
+-- `net_node::set_arc` meets its contract.
 use mathlib.Core.Path.{refl}
 use borrow.Author.Needs.{needs}
 use native.Mathlib.Omega.{arith}
 use lib.ListN.{length-set}
-use Rattle.pass_rules.specs.Net.{setArc}
-use Rattle.pass_rules.proofs.set_arc.Statement.{statement}
-use Rattle.pass_rules.proofs.set_arc.Tie as tie
+use Rattle.net_node.specs.Table.{setArc}
+use Rattle.net_node.proofs.set_arc.Statement.{statement}
+use Rattle.net_node.proofs.set_arc.Tie as tie
 
 returns : tie.Need-returns
 unfolding setArc

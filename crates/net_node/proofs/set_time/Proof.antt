@@ -1,9 +1,9 @@
--- `pass_rules::set_time` meets its contract.
+-- `net_node::set_time` meets its contract.
 use mathlib.Core.Path.{refl}
 use borrow.Author.Needs.{needs}
-use Rattle.pass_rules.specs.Net.{setTime}
-use Rattle.pass_rules.proofs.set_time.Statement.{statement}
-use Rattle.pass_rules.proofs.set_time.Tie as tie
+use Rattle.net_node.specs.Table.{setTime}
+use Rattle.net_node.proofs.set_time.Statement.{statement}
+use Rattle.net_node.proofs.set_time.Tie as tie
 
 returns : tie.Need-returns
 unfolding setTime

@@ -1,11 +1,11 @@
--- `pass_rules::is_fake` meets its contract.
+-- `net_node::is_fake` meets its contract.
 use borrow.Author.Needs.{needs}
 use mathlib.Core.Path.{ap, _∙_}
 use Prim.Native.Nat.{ℕ}
 use lib.Dec.{eqb}
-use Rattle.pass_rules.proofs.Held.{fake-number}
-use Rattle.pass_rules.proofs.is_fake.Statement.{statement}
-use Rattle.pass_rules.proofs.is_fake.Tie as tie
+use Rattle.net_node.proofs.Nodes.{fake-number}
+use Rattle.net_node.proofs.is_fake.Statement.{statement}
+use Rattle.net_node.proofs.is_fake.Tie as tie
 
 returns : tie.Need-returns
 returns c = ap (λ (k : ℕ). eqb k 2) (c .kind-number .ensures) ∙ fake-number (c .before .args .kind)

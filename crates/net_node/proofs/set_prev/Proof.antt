@@ -1,9 +1,9 @@
--- `pass_rules::set_prev` meets its contract.
+-- `net_node::set_prev` meets its contract.
 use mathlib.Core.Path.{refl}
 use borrow.Author.Needs.{needs}
-use Rattle.pass_rules.specs.Net.{setPrev}
-use Rattle.pass_rules.proofs.set_prev.Statement.{statement}
-use Rattle.pass_rules.proofs.set_prev.Tie as tie
+use Rattle.net_node.specs.Table.{setPrev}
+use Rattle.net_node.proofs.set_prev.Statement.{statement}
+use Rattle.net_node.proofs.set_prev.Tie as tie
 
 returns : tie.Need-returns
 unfolding setPrev
