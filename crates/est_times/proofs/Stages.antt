@@ -17,7 +17,7 @@ use Rattle.net_node.specs.declared.EstTime.{EstTime}
 use Rattle.net_node.specs.Table.{nodeAt, Room}
 use Rattle.net_insertion.specs.Insertion.{Table, at}
 use Rattle.grow_rules.specs.Run.{Answer, refused, given}
-use Rattle.grow_rules.specs.GrownBook.{Grown, departure}
+use Rattle.grow_rules.specs.Growth.{Grown, departure}
 use Rattle.pass_rules.specs.Walks.{Inside}
 use Rattle.pass_rules.specs.Passes.{Timed, timedAs, passes}
 use Rattle.pass_rules.specs.Passes.{refused as untimed}

@@ -7,7 +7,7 @@ use Rattle.space.specs.Space.{placesOf, zeros, zeroFloats}
 use Rattle.book_reader.specs.Reader.{readNumber}
 use Rattle.net_insertion.specs.Insertion.{Table}
 use Rattle.grow_rules.specs.Run.{Answer, refused, given}
-use Rattle.grow_rules.specs.GrownBook.{Grown, grow}
+use Rattle.grow_rules.specs.Growth.{Grown, grow}
 use Rattle.grow_book.specs.declared.Report.{Report}
 use Rattle.grow_book.specs.declared.GrownBook.{GrownBook}
 use Rattle.grow_book.specs.declared.GrownBook.the-variants.{Whole, Stopped}
