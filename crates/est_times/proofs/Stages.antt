@@ -16,7 +16,7 @@ use Rattle.book_format.specs.Format.{departureBits}
 use Rattle.book_format.proofs.Floats.{book-no-nan}
 use Rattle.net_node.specs.declared.EstTime.{EstTime}
 use Rattle.net_node.specs.Table.{nodeAt, Room, Table, at}
-use Rattle.grow_rules.specs.GrownBook.{Grown, departure}
+use Rattle.grow_rules.specs.Growth.{Grown, departure}
 use Rattle.pass_rules.specs.Walks.{Inside}
 use Rattle.pass_rules.specs.Passes.{Timed, timedAs, passes}
 use Rattle.pass_rules.specs.Passes.{refused as untimed}

@@ -11,7 +11,7 @@ use Rattle.space.specs.Space.{placesOf, bytesOf, zeros, zeroFloats}
 use Rattle.space.proofs.Zeros.{zeros-length}
 use Rattle.book_reader.specs.Reader.{readNumber}
 use Rattle.net_node.specs.Table.{Room, Table}
-use Rattle.grow_rules.specs.GrownBook.{Grown, grow}
+use Rattle.grow_rules.specs.Growth.{Grown, grow}
 use Rattle.report.specs.declared.Report.{Report}
 use Rattle.grow_book.specs.declared.GrownBook.{GrownBook}
 use Rattle.grow_book.specs.declared.GrownBook.the-variants.{Whole, Stopped}

@@ -7,7 +7,7 @@ use Rattle.net_node.specs.Table.{Table}
 use Rattle.laws.specs.Answer.{Answer, refused, given}
 use Rattle.space.specs.Space.{placesOf, zeros, zeroFloats}
 use Rattle.book_reader.specs.Reader.{readNumber}
-use Rattle.grow_rules.specs.GrownBook.{Grown, grow}
+use Rattle.grow_rules.specs.Growth.{Grown, grow}
 use Rattle.report.specs.declared.Report.{Report}
 use Rattle.grow_book.specs.declared.GrownBook.{GrownBook}
 use Rattle.grow_book.specs.declared.GrownBook.the-variants.{Whole, Stopped}
