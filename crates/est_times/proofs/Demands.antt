@@ -6,7 +6,8 @@ use native.Mathlib.Omega.{arith}
 use lib.ListN.{length, getD, take, List·getD-append}
 use lib.Seq.{length-take-le, getD-take}
 use lib.Ieee.{Float, nan}
-use Rattle.space.specs.Space.{placesOf, bytesOf, zeros, zeroFloats}
+use Rattle.net_node.specs.Left.{placesOf}
+use Rattle.space.specs.Space.{bytesOf, zeros, zeroFloats}
 use Rattle.net_node.specs.declared.EstTime.{EstTime}
 use Rattle.net_node.specs.Table.{kindOf, nodeAt, Table, at}
 use Rattle.grow_rules.specs.Growth.{Grown, departure}

@@ -8,10 +8,11 @@ use lib.Dec.{T}
 use lib.ListN.{length, take}
 use lib.Seq.{length-take-le}
 use lib.Ieee.{Float, binary64, nanBits, ofBits}
+use Rattle.net_node.specs.Left.{placesOf}
 use Rattle.laws.specs.Answer.{Answer, refused, given}
 use Rattle.fields.specs.Fields.{u64At}
 use Rattle.floats.specs.Floats.{bookFloat}
-use Rattle.space.specs.Space.{placesOf, bytesOf}
+use Rattle.space.specs.Space.{bytesOf}
 use Rattle.book_format.specs.Format.{departureBits}
 use Rattle.book_format.proofs.Floats.{book-no-nan}
 use Rattle.net_node.specs.declared.EstTime.{EstTime}

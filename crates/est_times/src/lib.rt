@@ -105,7 +105,7 @@ pub fn make_est_times(
     grow_for_tests::clear_before(floats, numbers, cells, marks);
     let sheet = build(book, floats, numbers, reals, cells, marks);
     let n = nodes_of(sheet);
-    grow_for_tests::clear_behind(floats, numbers, n);
+    net_node::clear_behind(floats, numbers, n);
     grow_for_tests::clear_work(reals, cells, marks);
     sheet
 }

@@ -9,8 +9,8 @@ use borrow.Author.Tests.{lt-ltb, le-ltb}
 use lib.Dec.{ltb}
 use lib.ListN.{length, getD}
 use lib.Ieee.{Float, binary64, ofBits, nan}
+use Rattle.net_node.specs.Left.{placesOf}
 use Rattle.laws.specs.Answer.{Answer, refused, andThen}
-use Rattle.space.specs.Space.{placesOf}
 use Rattle.book_format.specs.declared.Sections.{Sections}
 use Rattle.book_format.specs.Format.{links, legs}
 use Rattle.book_options.specs.Options.{keptOrigins}

@@ -14,7 +14,7 @@ ghost use Prim.Native.Nat.{ℕ, _+_, _*_, _≤_};
 ghost use lib.Dec.{eqb};
 ghost use lib.ListN.{length};
 ghost use lib.Ieee.{Float};
-ghost use Rattle.space.specs.Space.{placesOf};
+ghost use Rattle.net_node.specs.Left.{placesOf};
 ghost use Rattle.net_node.specs.Table.{nodeAt};
 ghost use Rattle.book_format.specs.Format.{links, origins, destinations, legs};
 ghost use Rattle.book_legs.specs.Legs.{Started};
@@ -260,7 +260,7 @@ pub fn grow_book(
     requires { ⌜ 2 * links (now book) + destinations (now book) + origins (now book) ≤ length (now marks) ⌝ }
     ensures { λ r. ⌜ GrownAs (grow (now (book .entry)) (placesOf (length (now (floats .entry))) (length (now (numbers .entry)))) (record { floats = now (floats .entry); numbers = now (numbers .entry) })) (now (floats .exit)) (now (numbers .exit)) r ⌝ }
 {
-    let places = space::places(floats.len(), numbers.len());
+    let places = net_node::places(floats.len(), numbers.len());
     if places < 2 {
         return GrownBook::Stopped(12);
     }

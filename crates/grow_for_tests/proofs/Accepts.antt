@@ -6,10 +6,11 @@ use Prim.Native.Nat.{ℕ, zero, suc, _+_, _*_, _/_, _≤_, _<_, min}
 use native.Mathlib.Omega.{arith}
 use borrow.Author.Tests.{not-false}
 use lib.ListN.{length}
+use Rattle.net_node.specs.Left.{placesOf}
 use Rattle.laws.specs.Below.{someBelow}
 use Rattle.laws.proofs.Below.{none-left, none-right}
 use Rattle.floats.specs.Floats.{bookFloat}
-use Rattle.space.specs.Space.{placesOf, unitsOf, bytesOf}
+use Rattle.space.specs.Space.{unitsOf, bytesOf}
 use Rattle.book_format.specs.declared.Sections.{Sections}
 use Rattle.book_format.specs.Format.{links, origins, destinations, legs, samples, linkLength, joinBits, departureBits, lengthBits}
 use Rattle.book_format.specs.Rows.{row1, row2, row3, row4, row5, row6, row7, workBytes, badOriginValue, badSample, badLeg, legRepeats, legFalls, legBegins, lowest}

@@ -6,8 +6,9 @@ use native.Mathlib.Nat.{sub-zero}
 use native.Mathlib.Omega.{arith}
 use lib.ListN.{length, take}
 use lib.Ieee.{Float}
+use Rattle.net_node.specs.Left.{placesOf}
 use Rattle.laws.specs.Answer.{Answer, refused, given}
-use Rattle.space.specs.Space.{placesOf, bytesOf, zeros, zeroFloats}
+use Rattle.space.specs.Space.{bytesOf, zeros, zeroFloats}
 use Rattle.space.proofs.Zeros.{zeros-length}
 use Rattle.book_reader.specs.Reader.{readNumber}
 use Rattle.net_node.specs.Table.{Room, Table}

@@ -3,9 +3,10 @@ use mathlib.Core.List.{List, _++_}
 use Prim.Native.Nat.{ℕ, zero, suc, _-_, _*_}
 use lib.ListN.{take}
 use lib.Ieee.{Float}
+use Rattle.net_node.specs.Left.{placesOf}
 use Rattle.net_node.specs.Table.{Table}
 use Rattle.laws.specs.Answer.{Answer, refused, given}
-use Rattle.space.specs.Space.{placesOf, zeros, zeroFloats}
+use Rattle.space.specs.Space.{zeros, zeroFloats}
 use Rattle.book_reader.specs.Reader.{readNumber}
 use Rattle.grow_rules.specs.Growth.{Grown, grow}
 use Rattle.report.specs.declared.Report.{Report}

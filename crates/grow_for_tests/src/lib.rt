@@ -24,7 +24,7 @@ pub fn read_and_grow(
     requires { ⌜ now marks ≡ zeros (length (now marks)) ⌝ }
     ensures { λ r. ⌜ GrownAs (network (now (book .entry)) (length (now (floats .entry))) (length (now (numbers .entry))) (bytesOf (length (now (reals .entry))) (length (now (cells .entry))) (length (now (marks .entry))))) (now (floats .exit)) (now (numbers .exit)) r ⌝ }
 {
-    let places = space::places(floats.len(), numbers.len());
+    let places = net_node::places(floats.len(), numbers.len());
     let reading = book_reader::read_book(book, places, reals.len(), cells, marks);
     match reading {
         Reading::Refused(k) => GrownBook::Stopped(k),
@@ -45,16 +45,6 @@ pub fn clear_before(floats: &mut [f64], numbers: &mut [u32], cells: &mut [u32], 
     space::clear_numbers(numbers);
     space::clear_numbers(cells);
     space::clear_numbers(marks);
-}
-
-// Makes a table zero from node n on.
-pub fn clear_behind(floats: &mut [f64], numbers: &mut [u32], n: usize)
-    requires { ⌜ n ≤ 65535 ⌝ }
-    ensures floats { λ _. ⌜ now (floats .exit) ≡ take (n * 4) (now (floats .entry)) ++ zeroFloats (length (now (floats .entry)) - n * 4) ⌝ }
-    ensures numbers { λ _. ⌜ now (numbers .exit) ≡ take (n * 6) (now (numbers .entry)) ++ zeros (length (now (numbers .entry)) - n * 6) ⌝ }
-{
-    space::clear_floats_from(floats, n * 4);
-    space::clear_numbers_from(numbers, n * 6);
 }
 
 // Makes the work space zero.
@@ -97,7 +87,7 @@ pub fn grow_network(
     clear_before(floats, numbers, cells, marks);
     let grown = read_and_grow(book, floats, numbers, reals, cells, marks);
     let n = nodes_of(grown);
-    clear_behind(floats, numbers, n);
+    net_node::clear_behind(floats, numbers, n);
     clear_work(reals, cells, marks);
     grown
 }

@@ -3,9 +3,10 @@ ghost use mathlib.Core.Path.{_≡_};
 ghost use Prim.Native.Nat.{_+_, _*_, _≤_};
 ghost use lib.ListN.{length};
 ghost use Rattle.net_node.specs.Lent.{tableAtEntry};
+ghost use Rattle.net_node.specs.Left.{filled, placesOf, kindAt, floatsKept, numbersKept};
 ghost use Rattle.net_node.specs.Table.{floatWidth, numberWidth, kindOf, kindNumber, fakeKind, sameKind, sameEvent};
 ghost use Rattle.net_node.specs.Table.{nodeAt, putFloats, putNumbers, Table, setTime, setArc, setNext, setPrev};
-ghost use Rattle.net_node.specs.Table.{noLinkEvent, blank, withTime, withArc, withSpeed, withNext, withNextAlt, withPrev, withPrevAlt, withEvent};
+ghost use Rattle.net_node.specs.Table.{noLinkEvent, blank, withNextAlt, withPrevAlt};
 
 // How many floats and how many numbers a node has in the table's two slices.
 pub const FLOAT_WIDTH: usize = 4;
@@ -178,43 +179,6 @@ pub fn store(floats: &mut [f64], numbers: &mut [u32], i: usize, node: EstTime)
     numbers[u + 5] = kind_number(est_type);
 }
 
-// The node at another time.
-pub fn with_time(node: EstTime, time: f64) -> EstTime
-    ensures { λ r. ⌜ r ≡ withTime node time ⌝ }
-{
-    let mut changed = node;
-    changed.time_sched = time;
-    changed
-}
-
-// The node with another time and distance to next.
-pub fn with_arc(node: EstTime, time: f64, distance: f64) -> EstTime
-    ensures { λ r. ⌜ r ≡ withArc node time distance ⌝ }
-{
-    let mut changed = node;
-    changed.time_to_next = time;
-    changed.dist_to_next = distance;
-    changed
-}
-
-// The node with another speed.
-pub fn with_speed(node: EstTime, speed: f64) -> EstTime
-    ensures { λ r. ⌜ r ≡ withSpeed node speed ⌝ }
-{
-    let mut changed = node;
-    changed.speed = speed;
-    changed
-}
-
-// The node with another next.
-pub fn with_next(node: EstTime, next: u32) -> EstTime
-    ensures { λ r. ⌜ r ≡ withNext node next ⌝ }
-{
-    let mut changed = node;
-    changed.idx_next = next;
-    changed
-}
-
 // The node with another next alternative.
 pub fn with_next_alt(node: EstTime, alt: u32) -> EstTime
     ensures { λ r. ⌜ r ≡ withNextAlt node alt ⌝ }
@@ -224,30 +188,12 @@ pub fn with_next_alt(node: EstTime, alt: u32) -> EstTime
     changed
 }
 
-// The node with another previous.
-pub fn with_prev(node: EstTime, prev: u32) -> EstTime
-    ensures { λ r. ⌜ r ≡ withPrev node prev ⌝ }
-{
-    let mut changed = node;
-    changed.idx_prev = prev;
-    changed
-}
-
 // The node with another previous alternative.
 pub fn with_prev_alt(node: EstTime, alt: u32) -> EstTime
     ensures { λ r. ⌜ r ≡ withPrevAlt node alt ⌝ }
 {
     let mut changed = node;
     changed.idx_prev_alt = alt;
-    changed
-}
-
-// The node of another event.
-pub fn with_event(node: EstTime, event: LinkEvent) -> EstTime
-    ensures { λ r. ⌜ r ≡ withEvent node event ⌝ }
-{
-    let mut changed = node;
-    changed.link_event = event;
     changed
 }
 
@@ -291,4 +237,36 @@ pub fn set_prev(floats: &mut [f64], numbers: &mut [u32], i: usize, prev: u32)
     ensures numbers { λ _. ⌜ now (numbers .exit) ≡ setPrev (tableAtEntry floats numbers) i prev .numbers ⌝ }
 {
     numbers[i * NUMBER_WIDTH + 2] = prev;
+}
+
+// How many nodes both slices of a table fill.
+pub fn nodes_filled(floats: usize, numbers: usize) -> usize
+    ensures { λ r. ⌜ r ≡ filled floats numbers ⌝ }
+{
+    space::smaller(floats / FLOAT_WIDTH, numbers / NUMBER_WIDTH)
+}
+
+// How many nodes both slices of a table have places for.
+pub fn places(floats: usize, numbers: usize) -> usize
+    ensures { λ r. ⌜ r ≡ placesOf floats numbers ⌝ }
+{
+    space::smaller(nodes_filled(floats, numbers), 65535)
+}
+
+// The number of a node's kind, whichever it is.
+pub fn kind_at(numbers: &[u32], i: usize) -> u32
+    requires { ⌜ i * numberWidth + numberWidth ≤ length (now numbers) ⌝ }
+    ensures { λ r. ⌜ r ≡ kindAt (now (numbers .entry)) i ⌝ }
+{
+    numbers[i * NUMBER_WIDTH + 5]
+}
+
+// Makes a table zero from node n on.
+pub fn clear_behind(floats: &mut [f64], numbers: &mut [u32], n: usize)
+    requires { ⌜ n ≤ 65535 ⌝ }
+    ensures floats { λ _. ⌜ now (floats .exit) ≡ floatsKept n (now (floats .entry)) (length (now (floats .entry))) ⌝ }
+    ensures numbers { λ _. ⌜ now (numbers .exit) ≡ numbersKept n (now (numbers .entry)) (length (now (numbers .entry))) ⌝ }
+{
+    space::clear_floats_from(floats, n * FLOAT_WIDTH);
+    space::clear_numbers_from(numbers, n * NUMBER_WIDTH);
 }

@@ -1,14 +1,9 @@
--- The lent slices: how many nodes a table has places for, and how many bytes of work space there are.
--- Document 01: a node is 4 f64 and 6 u32, "as many places as both slices fill"; work space is counted in bytes. It is lent in units of 64 bytes:
+-- The work space and slices that are zero. Document 01 counts work space in bytes. It is lent in units of 64 bytes:
 -- 3 f64 (`reals`), 8 u32 (`cells`) and 2 u32 (`marks`), as many units as all three slices fill. Row 3 asks for a multiple of 64 bytes, so no byte is lost by that.
 use mathlib.Core.List.{List}
 use Prim.Native.Nat.{ℕ, _+_, _*_, _/_, min}
 use lib.ListN.{length, replicate, getD}
 use lib.Ieee.{Float, binary64, ofBits}
-
--- "as many places as both slices fill", and "at most 65,535"
-unfoldable pub placesOf : ℕ → ℕ → ℕ
-placesOf floats numbers = min (min (floats / 4) (numbers / 6)) 65535
 
 -- whole units of work space
 unfoldable pub unitsOf : ℕ → ℕ → ℕ → ℕ

@@ -1,22 +1,15 @@
-// The lent slices: their places and units, and making them zero. Contracts: specs/Space.antt.
+// The work space in units, and making slices zero. Contracts: specs/Space.antt.
 ghost use mathlib.Core.Path.{_≡_};
 ghost use mathlib.Core.List.{_++_};
 ghost use Prim.Native.Nat.{_-_, min};
 ghost use lib.ListN.{length, take};
-ghost use Rattle.space.specs.Space.{placesOf, unitsOf, zeros, zeroFloats};
+ghost use Rattle.space.specs.Space.{unitsOf, zeros, zeroFloats};
 
 // The smaller of two counts.
 pub fn smaller(a: usize, b: usize) -> usize
     ensures { λ r. ⌜ r ≡ min a b ⌝ }
 {
     if a <= b { a } else { b }
-}
-
-// How many nodes both slices of a table have places for.
-pub fn places(floats: usize, numbers: usize) -> usize
-    ensures { λ r. ⌜ r ≡ placesOf floats numbers ⌝ }
-{
-    smaller(smaller(floats / 4, numbers / 6), 65535)
 }
 
 // How many whole units of work space the three slices have.

@@ -1,9 +1,9 @@
--- `space::places` meets its contract: `smaller` is `min`.
+-- `net_node::places` meets its contract: `smaller` is `min`.
 use borrow.Author.Needs.{needs}
 use mathlib.Core.Path.{_≡_}
-use Rattle.space.specs.Space.{placesOf}
-use Rattle.space.proofs.places.Statement.{statement}
-use Rattle.space.proofs.places.Tie as tie
+use Rattle.net_node.specs.Left.{placesOf}
+use Rattle.net_node.proofs.places.Statement.{statement}
+use Rattle.net_node.proofs.places.Tie as tie
 
 returns : tie.Need-returns
 unfolding placesOf
