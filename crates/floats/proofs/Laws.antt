@@ -27,6 +27,15 @@ pub limit-is : limit ≡ billion
 unfolding billion ofBits
 limit-is = refl
 
+-- ---- the pattern of a float
+
+nan-pattern : 0x7ff8_0000_0000_0000 ≡ toBits binary64 nan
+unfolding toBits
+nan-pattern = refl
+
+pub nan-bits : (x : Float) → ne x x ≡ true → 0x7ff8_0000_0000_0000 ≡ toBits binary64 x
+nan-bits x h = nan-pattern ∙ ap (toBits binary64) (sym (differs-from-itself x (subst T (sym h) tt)))
+
 -- ---- tests
 
 never : {X : Type 0} → true ≡ false → X

@@ -1,5 +1,6 @@
 // The float tests and choices that document 01 names, one function each. Contracts: specs/Floats.antt.
 ghost use mathlib.Core.Path.{_≡_};
+ghost use lib.Ieee.{binary64, toBits};
 ghost use Rattle.floats.specs.Floats.{tableFloat, bookFloat, bookValue, gap, smaller};
 
 // The pattern of 1,000,000,000.
@@ -55,4 +56,17 @@ pub fn is_book_value(x: f64) -> bool
         return false;
     }
     is_book_float(f64::to_bits(x))
+}
+
+// The pattern of NaN: the logic has one.
+const NAN: u64 = 0x7ff8_0000_0000_0000;
+
+// The bit pattern of a float.
+pub fn bits_of(x: f64) -> u64
+    ensures { λ r. ⌜ r ≡ toBits binary64 x ⌝ }
+{
+    if x != x {
+        return NAN;
+    }
+    f64::to_bits(x)
 }

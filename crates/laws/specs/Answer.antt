@@ -1,5 +1,5 @@
 -- An answer that may be a refusal: document 01, "Each is accepted, or gets one refusal number".
-use Prim.Native.Nat.{ℕ}
+use Prim.Native.Nat.{ℕ, zero, suc}
 
 -- a refusal's number, or what is given
 pub data Answer (A : Type 0) : Type 0 where
@@ -10,3 +10,13 @@ pub data Answer (A : Type 0) : Type 0 where
 abbrev pub andThen : {A B : Type 0} → Answer A → (A → Answer B) → Answer B
 andThen (refused n) f = refused n
 andThen (given a) f = f a
+
+-- a number that was found before, or what comes later where there was none: "Of 1 to 8 the lowest wins; after that the first met."
+abbrev pub unless : {A : Type 0} → ℕ → Answer A → Answer A
+unless zero later = later
+unless (suc k) later = refused (suc k)
+
+-- the number of an answer, 0 where something is given
+abbrev pub numberOf : {A : Type 0} → Answer A → ℕ
+numberOf (refused n) = n
+numberOf (given a) = 0

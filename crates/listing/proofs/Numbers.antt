@@ -10,7 +10,6 @@ use native.Mathlib.Omega.{arith}
 use borrow.Author.Tests.{lt-ltb, le-ltb, ltb-true, ltb-false, eqb-true, eqb-false, ne-eqb}
 use lib.Dec.{T, ltb, eqb, lit<}
 use lib.Ieee.{Float, nan, binary64, ne, toBits}
-use lib.Ieee.Compare.{differs-from-itself}
 use Rattle.listing.specs.Listing.{glyph, digits, places, decimal, unlessZero, trimmed, oneKept, float}
 
 -- ---- digits
@@ -86,13 +85,6 @@ kept-digit [] y e = refl
 kept-digit (x ∷ xs) y e = ap (λ (t : List ℕ). x ∷ t) (trimmed-digit xs y e)
 
 -- ---- the digits of a float
-
-nan-pattern : 0x7ff8_0000_0000_0000 ≡ toBits binary64 nan
-unfolding toBits
-nan-pattern = refl
-
-pub nan-bits : (x : Float) → ne x x ≡ true → 0x7ff8_0000_0000_0000 ≡ toBits binary64 x
-nan-bits x h = nan-pattern ∙ ap (toBits binary64) (sym (differs-from-itself x (subst T (sym h) tt)))
 
 -- `count` digits of `bits`, with no closing zeros, are those of x
 pub record Kept (x : Float) (bits count : ℕ) : Type 0 where

@@ -1,6 +1,7 @@
 -- Texts in a slice: a byte more, one text behind another, and the slice when all has been written.
 use mathlib.Core.Path.{_≡_, refl, sym, ap, subst, _∙_}
-use mathlib.Core.Bool.{true, false}
+use mathlib.Core.Bool.{Bool, true, false}
+use mathlib.Core.Option.{Option, some}
 use mathlib.Core.List.{List, [], _∷_, _++_, append-nil, append-assoc}
 use mathlib.Core.Logic.{⊎-elim}
 use Prim.Native.Nat.{ℕ, _+_, _-_, _≤_, _<_}
@@ -12,11 +13,14 @@ use lib.Dec.{leb}
 use lib.ListN.{length, set, take, getD, length-append, length-set}
 use lib.Seq.{take-suc, take-suc-set, length-take-le}
 use Rattle.net_node.specs.declared.EstTime.{EstTime}
+use Rattle.net_node.specs.Table.{Table, at}
+use Rattle.net_node.specs.Left.{filled, nodesIn}
+use Rattle.report.specs.declared.Report.{Report}
 use Rattle.space.specs.Space.{zeros}
 use Rattle.listing.specs.declared.Listed.{Listed}
 use Rattle.listing.specs.declared.Listed.the-variants.{Bytes, Short, Unfilled}
-use Rattle.listing.specs.Listing.{line, lines, fitted, bytesAs, sheetListed, sheetBytes}
-use Rattle.listing.specs.Written.{Written, Puts}
+use Rattle.listing.specs.Listing.{line, lines, sheetText, textIf, sheetIn, listedAs, bytesLeft, TextListed}
+use Rattle.listing.specs.Written.{Written, Puts, Finishes}
 
 -- ---- bytes
 
@@ -86,53 +90,56 @@ line-one node i e = ap (λ (n : EstTime). lines node i ++ line i n) e ∙ sym (a
 -- ---- the slice when all has been written
 
 module _ {out : List ℕ} {at : ℕ} {text : List ℕ} (w : Written out at text) where
-  pub short-answer : length out < at → Short ≡ fitted (leb (length text) (length out)) text
-  short-answer h = rw (lt-leb (length text) (length out) (w .over h)) refl
-
-  pub short-bytes : length out < at → {end : List ℕ} → end ≡ take 0 out ++ zeros (length out - 0) → end ≡ bytesAs (leb (length text) (length out)) text (length out)
-  short-bytes h e = rw (lt-leb (length text) (length out) (w .over h)) (e ∙ ap zeros (sub-zero (length out)))
+  short-listed : length out < at → {end : List ℕ} → end ≡ take 0 out ++ zeros (length out - 0) → TextListed (some text) out end Short
+  short-listed h e = record {
+    answer = rw (lt-leb (length text) (length out) (w .over h)) refl;
+    bytes = rw (lt-leb (length text) (length out) (w .over h)) (e ∙ ap zeros (sub-zero (length out)));
+  }
 
   reached : at ≤ length out → at ≡ length text
   reached l = sym (length-take-le at out l) ∙ ap length (w .there l)
 
-  pub whole-answer : at ≤ length out → Bytes at ≡ fitted (leb (length text) (length out)) text
-  whole-answer l =
-      let e : at ≡ length text = reached l in
-      rw (le-leb (length text) (length out) (omega arith)) (ap Bytes e)
-
-  pub whole-bytes : at ≤ length out → {end : List ℕ} → end ≡ take at out ++ zeros (length out - at) → end ≡ bytesAs (leb (length text) (length out)) text (length out)
-  whole-bytes l e =
+  whole-listed : at ≤ length out → {end : List ℕ} → end ≡ take at out ++ zeros (length out - at) → TextListed (some text) out end (Bytes at)
+  whole-listed l e =
       let n : at ≡ length text = reached l in
-      rw (le-leb (length text) (length out) (omega arith)) (e ∙ ap (λ (t : List ℕ). t ++ zeros (length out - at)) (w .there l) ∙ ap (λ (k : ℕ). text ++ zeros (length out - k)) n)
+      record {
+        answer = rw (le-leb (length text) (length out) (omega arith)) (ap Bytes n);
+        bytes = rw (le-leb (length text) (length out) (omega arith)) (e ∙ ap (λ (t : List ℕ). t ++ zeros (length out - at)) (w .there l) ∙ ap (λ (k : ℕ). text ++ zeros (length out - k)) n);
+      }
+
+pub finishes-short : {out : List ℕ} {at : ℕ} → length out < at → {end : List ℕ} → end ≡ take 0 out ++ zeros (length out - 0) → Finishes out at end Short
+finishes-short h e = record { listed = λ text w. short-listed w h e }
+
+pub finishes-whole : {out : List ℕ} {at : ℕ} → at ≤ length out → {end : List ℕ} → end ≡ take at out ++ zeros (length out - at) → Finishes out at end (Bytes at)
+finishes-whole h e = record { listed = λ text w. whole-listed w h e }
 
 -- a text that has been put at the start
 module _ {a b : List ℕ} {to : ℕ} {text : List ℕ} (p : Puts a 0 text b to) where
   whole : Written b to text
   whole = p .behind [] (record { there = λ _. refl; over = λ h. absurd (omega (arith, h)) })
 
-  pub text-answer : {r : Listed} → ((t : List ℕ) → Written b to t → r ≡ fitted (leb (length t) (length b)) t) → r ≡ fitted (leb (length text) (length a)) text
-  text-answer {r} f = subst (λ (n : ℕ). r ≡ fitted (leb (length text) n) text) (p .sized) (f text whole)
+  pub text-listed : {end : List ℕ} {r : Listed} → Finishes b to end r → TextListed (some text) a end r
+  text-listed {end} {r} f =
+      let l = f .listed text whole in
+      record {
+        answer = subst (λ (n : ℕ). r ≡ listedAs (some text) n) (p .sized) (l .answer);
+        bytes = subst (λ (n : ℕ). end ≡ bytesLeft (some text) n) (p .sized) (l .bytes);
+      }
 
-  pub text-bytes : {end : List ℕ} → ((t : List ℕ) → Written b to t → end ≡ bytesAs (leb (length t) (length b)) t (length b)) → end ≡ bytesAs (leb (length text) (length a)) text (length a)
-  text-bytes {end} f = subst (λ (n : ℕ). end ≡ bytesAs (leb (length text) n) text n) (p .sized) (f text whole)
+-- ---- a table has so many nodes, and the report says n
 
--- ---- a table has m nodes, and the report says n
+module _ (report : Report) (t : Table) {k : ℕ} (e : k ≡ filled (length (t .floats)) (length (t .numbers))) where
+  text-is : {b : Bool} → leb (report .nodes) (nodesIn t) ≡ b → sheetIn report t ≡ textIf b (sheetText report (at t))
+  unfolding sheetIn
+  text-is h = ap (λ (b : Bool). textIf b (sheetText report (at t))) h
 
-module _ {k m : ℕ} (n : ℕ) (text : List ℕ) (e : k ≡ m) where
-  few : k < n → leb n m ≡ false
-  few h = lt-leb n m (omega (arith, e))
+  pub unfilled-listed : k < report .nodes → {out end : List ℕ} → end ≡ take 0 out ++ zeros (length out - 0) → TextListed (sheetIn report t) out end Unfilled
+  unfolding nodesIn
+  unfilled-listed h {out} g = record {
+    answer = sym (ap (λ (x : Option (List ℕ)). listedAs x (length out)) (text-is (lt-leb (report .nodes) (filled (length (t .floats)) (length (t .numbers))) (omega (arith, e)))));
+    bytes = g ∙ ap zeros (sub-zero (length out)) ∙ sym (ap (λ (x : Option (List ℕ)). bytesLeft x (length out)) (text-is (lt-leb (report .nodes) (filled (length (t .floats)) (length (t .numbers))) (omega (arith, e)))));
+  }
 
-  enough : n ≤ k → leb n m ≡ true
-  enough h = le-leb n m (omega (arith, e))
-
-  pub unfilled-answer : (size : ℕ) → k < n → Unfilled ≡ sheetListed (leb n m) text size
-  unfilled-answer size h = rw (few h) refl
-
-  pub unfilled-bytes : (out : List ℕ) → k < n → {end : List ℕ} → end ≡ take 0 out ++ zeros (length out - 0) → end ≡ sheetBytes (leb n m) text (length out)
-  unfilled-bytes out h g = rw (few h) (g ∙ ap zeros (sub-zero (length out)))
-
-  pub filled-answer : (size : ℕ) → n ≤ k → {r : Listed} → r ≡ fitted (leb (length text) size) text → r ≡ sheetListed (leb n m) text size
-  filled-answer size h g = rw (enough h) g
-
-  pub filled-bytes : (size : ℕ) → n ≤ k → {end : List ℕ} → end ≡ bytesAs (leb (length text) size) text size → end ≡ sheetBytes (leb n m) text size
-  filled-bytes size h g = rw (enough h) g
+  pub filled-listed : report .nodes ≤ k → {out end : List ℕ} {r : Listed} → TextListed (some (sheetText report (at t))) out end r → TextListed (sheetIn report t) out end r
+  unfolding nodesIn
+  filled-listed h {out} {end} {r} l = subst (λ (x : Option (List ℕ)). TextListed x out end r) (sym (text-is (le-leb (report .nodes) (filled (length (t .floats)) (length (t .numbers))) (omega (arith, e))))) l

@@ -1,7 +1,9 @@
 -- The listing, document 01 under "A book and its listing": "Fields: node, kind (A, C, F), link, next, its alternative, previous, its alternative, in decimal; time, time to next, distance to next,
 -- speed, each the 16 hexadecimal digits of its bits, closing zeros dropped, one digit kept. Refused: `refused N`." Text is a list of bytes (ASCII).
+use mathlib.Core.Path.{_≡_}
 use mathlib.Core.Bool.{Bool, true, false, cond}
 use mathlib.Core.List.{List, [], _∷_, _++_}
+use mathlib.Core.Option.{Option, none, some}
 use Prim.Native.Nat.{ℕ, zero, suc, _+_, _-_, _/_, _%_}
 use lib.Dec.{ltb, leb, eqb}
 use lib.ListN.{length}
@@ -10,6 +12,8 @@ use Rattle.space.specs.Space.{zeros}
 use Rattle.net_node.specs.declared.EstType.{EstType}
 use Rattle.net_node.specs.declared.EstType.the-variants.{Arrive, Clear, Fake}
 use Rattle.net_node.specs.declared.EstTime.{EstTime}
+use Rattle.net_node.specs.Table.{Table, at}
+use Rattle.net_node.specs.Left.{nodesIn}
 use Rattle.report.specs.declared.Report.{Report}
 use Rattle.listing.specs.declared.Listed.{Listed}
 use Rattle.listing.specs.declared.Listed.the-variants.{Bytes, Short, Unfilled}
@@ -120,14 +124,27 @@ abbrev pub bytesAs : Bool → List ℕ → ℕ → List ℕ
 bytesAs true text size = text ++ zeros (size - length text)
 bytesAs false text size = zeros size
 
--- a table that has fewer nodes than the report says is answered, too
-abbrev pub sheetListed : Bool → List ℕ → ℕ → Listed
-sheetListed true text size = fitted (leb (length text) size) text
-sheetListed false text size = Unfilled
+-- the text of a sheet, where the table has as many nodes as the report says
+abbrev pub textIf : Bool → List ℕ → Option (List ℕ)
+textIf true text = some text
+textIf false text = none
 
-abbrev pub sheetBytes : Bool → List ℕ → ℕ → List ℕ
-sheetBytes true text size = bytesAs (leb (length text) size) text size
-sheetBytes false text size = zeros size
+unfoldable pub sheetIn : Report → Table → Option (List ℕ)
+sheetIn r t = textIf (leb (r .nodes) (nodesIn t)) (sheetText r (at t))
+
+-- how a text is answered, and what the slice holds then; of a table with too few nodes there is no text
+abbrev pub listedAs : Option (List ℕ) → ℕ → Listed
+listedAs none size = Unfilled
+listedAs (some text) size = fitted (leb (length text) size) text
+
+abbrev pub bytesLeft : Option (List ℕ) → ℕ → List ℕ
+bytesLeft none size = zeros size
+bytesLeft (some text) size = bytesAs (leb (length text) size) text size
+
+-- The promise of a function that lists into a lent slice: what it answers, and every byte of the slice, whatever that held.
+pub record TextListed (text : Option (List ℕ)) (lent left : List ℕ) (r : Listed) : Type 0 where
+  pub answer : r ≡ listedAs text (length lent)
+  pub bytes : left ≡ bytesLeft text (length lent)
 
 -- what a function for other languages says of an answer: a number, 0 where the text stands in the slice, and its length
 abbrev pub listedNumber : Listed → ℕ

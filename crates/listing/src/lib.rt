@@ -3,18 +3,17 @@ use net_node::EstTime;
 use net_node::EstType;
 use report::Report;
 ghost use mathlib.Core.Path.{_≡_};
-ghost use mathlib.Core.List.{List, [], _∷_, _++_};
-ghost use Prim.Native.Nat.{ℕ, _-_, _*_, _/_, _≤_, _<_, min};
-ghost use lib.Dec.{leb};
+ghost use mathlib.Core.List.{[], _∷_, _++_};
+ghost use mathlib.Core.Option.{some};
+ghost use Prim.Native.Nat.{_-_, _≤_, _<_};
 ghost use lib.ListN.{length, take};
-ghost use lib.Ieee.{binary64, toBits};
 ghost use Rattle.space.specs.Space.{zeros};
 ghost use Rattle.net_node.specs.Table.{nodeAt};
-ghost use Rattle.listing.specs.Listing.{glyph as Listing·glyph, letter as Listing·letter, digits, decimal, float, line, lines, head, sheetText, refusedText, fitted, bytesAs, sheetListed, sheetBytes};
-ghost use Rattle.listing.specs.Written.{Written, Puts};
-
-// The pattern of NaN.
-const NAN: u64 = 0x7ff8_0000_0000_0000;
+ghost use Rattle.net_node.specs.Left.{filled};
+ghost use Rattle.net_node.specs.Lent.{tableAtEntry};
+ghost use Rattle.listing.specs.Listing.{glyph as Listing·glyph, letter as Listing·letter, digits, decimal, float};
+ghost use Rattle.listing.specs.Listing.{line, lines, head, refusedText, sheetIn, TextListed};
+ghost use Rattle.listing.specs.Written.{Puts, Finishes};
 
 // How many bytes a listing has, that the slice is too short for it, or that the table has fewer nodes than the report says.
 pub enum Listed {
@@ -86,21 +85,11 @@ fn put_hex(out: &mut [u8], at: usize, n: u64, count: usize) -> usize
     put_byte(out, to, glyph(n % 16))
 }
 
-// The bit pattern of a float.
-fn bits_of(x: f64) -> u64
-    ensures { λ r. ⌜ r ≡ toBits binary64 x ⌝ }
-{
-    if x != x {
-        return NAN;
-    }
-    f64::to_bits(x)
-}
-
 // Puts a blank and the hexadecimal digits of a float's bits behind a text, without closing zeros.
 fn put_float(out: &mut [u8], at: usize, x: f64) -> usize
     ensures { λ r. ⌜ Puts (now (out .entry)) at (32 ∷ float x) (now (out .exit)) r ⌝ }
 {
-    let mut bits = bits_of(x);
+    let mut bits = floats::bits_of(x);
     let mut count = 16;
     while (1 < count) & (bits % 16 == 0) {
         bits /= 16;
@@ -144,8 +133,7 @@ fn put_line(out: &mut [u8], at: usize, i: usize, node: EstTime) -> usize
 
 // Puts the lines of the first n nodes behind a text.
 fn put_lines(out: &mut [u8], at: usize, floats: &[f64], numbers: &[u32], n: usize) -> usize
-    requires { ⌜ n * 4 ≤ length (now floats) ⌝ }
-    requires { ⌜ n * 6 ≤ length (now numbers) ⌝ }
+    requires { ⌜ n ≤ filled (length (now floats)) (length (now numbers)) ⌝ }
     ensures { λ r. ⌜ Puts (now (out .entry)) at (lines (nodeAt (now (floats .entry)) (now (numbers .entry))) n) (now (out .exit)) r ⌝ }
 {
     let mut to = at;
@@ -183,8 +171,7 @@ fn clear_from(s: &mut [u8], from: usize)
 
 // Makes zero what lies behind a text that goes up to `at`, or everything if it has not fitted.
 fn finish(s: &mut [u8], at: usize) -> Listed
-    ensures answer { λ r. ⌜ ((text : List ℕ) → Written (now (s .entry)) at text → r ≡ fitted (leb (length text) (length (now (s .entry)))) text) ⌝ }
-    ensures out { λ _. ⌜ ((text : List ℕ) → Written (now (s .entry)) at text → now (s .exit) ≡ bytesAs (leb (length text) (length (now (s .entry)))) text (length (now (s .entry)))) ⌝ }
+    ensures { λ r. ⌜ Finishes (now (s .entry)) at (now (s .exit)) r ⌝ }
 {
     if s.len() < at {
         clear_from(s, 0);
@@ -196,11 +183,10 @@ fn finish(s: &mut [u8], at: usize) -> Listed
 
 // Lists a sheet: its report, then as many nodes as that says. A slice that is too short is left zero, and so is one for a table that has fewer nodes.
 pub fn list_sheet(floats: &[f64], numbers: &[u32], report: Report, out: &mut [u8]) -> Listed
-    ensures answer { λ r. ⌜ r ≡ sheetListed (leb (report .nodes) (min (length (now (floats .entry)) / 4) (length (now (numbers .entry)) / 6))) (sheetText report (nodeAt (now (floats .entry)) (now (numbers .entry)))) (length (now (out .entry))) ⌝ }
-    ensures out { λ _. ⌜ now (out .exit) ≡ sheetBytes (leb (report .nodes) (min (length (now (floats .entry)) / 4) (length (now (numbers .entry)) / 6))) (sheetText report (nodeAt (now (floats .entry)) (now (numbers .entry)))) (length (now (out .entry))) ⌝ }
+    ensures { λ r. ⌜ TextListed (sheetIn report (tableAtEntry floats numbers)) (now (out .entry)) (now (out .exit)) r ⌝ }
 {
     let n = report.nodes;
-    let filled = space::smaller(floats.len() / 4, numbers.len() / 6);
+    let filled = net_node::nodes_filled(floats.len(), numbers.len());
     if filled < n {
         clear_from(out, 0);
         return Listed::Unfilled;
@@ -212,8 +198,7 @@ pub fn list_sheet(floats: &[f64], numbers: &[u32], report: Report, out: &mut [u8
 
 // Lists a refusal.
 pub fn list_refused(number: u32, out: &mut [u8]) -> Listed
-    ensures answer { λ r. ⌜ r ≡ fitted (leb (length (refusedText number)) (length (now (out .entry)))) (refusedText number) ⌝ }
-    ensures out { λ _. ⌜ now (out .exit) ≡ bytesAs (leb (length (refusedText number)) (length (now (out .entry)))) (refusedText number) (length (now (out .entry))) ⌝ }
+    ensures { λ r. ⌜ TextListed (some (refusedText number)) (now (out .entry)) (now (out .exit)) r ⌝ }
 {
     let to = put_count(out, 0, b"refused ", number as u64);
     let end = put_byte(out, to, b'\n');

@@ -1,3 +1,3 @@
 pub mod Table
-pub mod Lent
 pub mod Left
+pub mod Lent

@@ -1,6 +1,6 @@
 -- `listing::finish` meets its contract.
 use borrow.Author.Needs.{needs}
-use Rattle.listing.proofs.Texts.{short-answer, short-bytes, whole-answer, whole-bytes}
+use Rattle.listing.proofs.Texts.{finishes-short, finishes-whole}
 use Rattle.listing.proofs.finish.Statement.{statement}
 use Rattle.listing.proofs.finish.Tie as tie
 
@@ -10,7 +10,7 @@ finish-spec =
     (tie.spec
     (λ c κs. search needs)
     (λ c. search needs)
-    (λ c. ((λ text w. short-answer w (c .before .before .before .before .if1 .taken)), (λ text w. short-bytes w (c .before .before .before .before .if1 .taken) (c .before .before .clear-from .ensures))))
+    (λ c. finishes-short (c .before .before .before .before .if1 .taken) (c .before .before .clear-from .ensures))
     (λ c κs. search needs)
     (λ c. search needs)
-    (λ c. ((λ text w. whole-answer w (c .before .before .before .before .if1 .left)), (λ text w. whole-bytes w (c .before .before .before .before .if1 .left) (c .before .before .clear-from2 .ensures)))))
+    (λ c. finishes-whole (c .before .before .before .before .if1 .left) (c .before .before .clear-from2 .ensures)))
