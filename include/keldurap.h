@@ -33,6 +33,15 @@ extern "C" {
 /* The longest listing of a sheet of so many nodes, in bytes: a head of 65 and lines of 106. */
 #define KELDURAP_LISTING_MAX(nodes) (65 + 106 * (size_t)(nodes))
 
+/* The report of a sheet: its nodes, those of them that were added for events (origins' nodes included), splits, joins and finished runs. All are 0 on a refusal. */
+struct keldurap_report {
+    size_t nodes;
+    size_t added;
+    size_t splits;
+    size_t joined;
+    size_t finished;
+};
+
 /* A count of a book: the u32 at an offset, 0 where the bytes end before it does. */
 static inline uint32_t keldurap_count_at(const uint8_t *book, size_t book_len, uint64_t at)
 {
@@ -83,28 +92,28 @@ uint32_t keldurap_make_events(double train_length, const uint8_t *samples, size_
 uint32_t keldurap_update_times(double *floats, size_t floats_len, uint32_t *numbers, size_t numbers_len, double departure, double *reals, size_t reals_len, uint32_t *cells, size_t cells_len, uint32_t *marks, size_t marks_len, uint32_t *nodes);
 
 /* The network of a book before its times are known, for tests: which nodes there are, how they are linked, and how long it is from each to the next.
- * Gives 0 or the number of a refusal, 1 to 13 of docs/REFUSALS.md, and in the last five the report's numbers. Table: 4 floats (time, which is 0 here,
+ * Gives 0 or the number of a refusal, 1 to 13 of docs/REFUSALS.md, and the report. Table: 4 floats (time, which is 0 here,
  * time to next, distance to next, speed) and 6 numbers (next, next alternative, previous, previous alternative, link, kind) to a node, as many places as both slices fill, at most 65,535.
- * Whatever table and work space held, the table has the nodes and zeros behind them, or on a refusal zeros alone, as the five numbers are; the work space is zero.
- * The slices and numbers must not overlap. A slice of no elements may have any pointer that is not null. */
-uint32_t keldurap_grow_network(const uint8_t *book, size_t book_len, double *floats, size_t floats_len, uint32_t *numbers, size_t numbers_len, double *reals, size_t reals_len, uint32_t *cells, size_t cells_len, uint32_t *marks, size_t marks_len, size_t *nodes, size_t *added, size_t *splits, size_t *joined, size_t *finished);
+ * Whatever table and work space held, the table has the nodes and zeros behind them, or on a refusal zeros alone, and so has the report; the work space is zero.
+ * The slices and the report must not overlap. A slice of no elements may have any pointer that is not null. */
+uint32_t keldurap_grow_network(const uint8_t *book, size_t book_len, double *floats, size_t floats_len, uint32_t *numbers, size_t numbers_len, double *reals, size_t reals_len, uint32_t *cells, size_t cells_len, uint32_t *marks, size_t marks_len, struct keldurap_report *report);
 
 /* The sheet of a book: every route in one network with its splits and joins, timed forward and backward. Gives 0, or the number of a refusal, 1 to 16 of docs/REFUSALS.md.
  * book: its bytes, at most KELDURAP_BOOK_MAX of them in a book that is accepted: 1 to 65,535 links and legs, 1 to 1,000 origins and destinations, 1 to 1,000,000 samples.
  * Table: 4 floats (time, time to next, distance to next, speed) and 6 numbers (next, next alternative, previous, previous alternative; link; kind, 0 Arrive, 1 Clear or 2 Fake)
  * to a node, as many places as both slices fill, at most 65,535. Work space in units of 64 bytes as above; row 3 asks for 36,864 + 64 * (links + origins + destinations + legs + places)
- * bytes, which are keldurap_units(book, book_len, places) units. The last five are the report: nodes of the sheet, of these added for events, then splits, joins and finished runs.
- * Whatever table and work space held, the table has the sheet and zeros behind it, or on a refusal zeros alone, as the report's numbers are; the work space is zero.
- * The slices and numbers must not overlap. A slice of no elements may have any pointer that is not null. */
-uint32_t keldurap_make_est_times(const uint8_t *book, size_t book_len, double *floats, size_t floats_len, uint32_t *numbers, size_t numbers_len, double *reals, size_t reals_len, uint32_t *cells, size_t cells_len, uint32_t *marks, size_t marks_len, size_t *nodes, size_t *added, size_t *splits, size_t *joined, size_t *finished);
+ * bytes, which are keldurap_units(book, book_len, places) units.
+ * Whatever table and work space held, the table has the sheet and zeros behind it, or on a refusal zeros alone, and so has the report; the work space is zero.
+ * The slices and the report must not overlap. A slice of no elements may have any pointer that is not null. */
+uint32_t keldurap_make_est_times(const uint8_t *book, size_t book_len, double *floats, size_t floats_len, uint32_t *numbers, size_t numbers_len, double *reals, size_t reals_len, uint32_t *cells, size_t cells_len, uint32_t *marks, size_t marks_len, struct keldurap_report *report);
 
 /* The listing of a sheet in ASCII: `nodes N added N splits N joined N finished N`, then a line for each node: its number, kind (A, C, F), link, next, next alternative, previous, previous
  * alternative in decimal; time, time to next, distance to next and speed, each the 16 hexadecimal digits of its bits without closing zeros, one digit kept. A blank between fields, a newline
  * behind each line. Table and report are those that keldurap_make_est_times gave. Gives 0: the listing stands in out, zeros behind it, and length is how many bytes it has (no byte closes it);
- * 1: out is too short; 2: the table's slices have fewer nodes than `nodes` says. With 1 or 2 all of out is zero, and length is.
+ * 1: out is too short; 2: the table's slices have fewer nodes than the report says. With 1 or 2 all of out is zero, and length is.
  * A sheet's head has at most 65 bytes and a line at most 106, so KELDURAP_LISTING_MAX(nodes) bytes are always enough, 6,946,775 for 65,535 nodes. (Of other tables and reports, whose numbers may
- * have any size: 140, and 126 and the digits of the node's number.) The slices and length must not overlap. A slice of no elements may have any pointer that is not null. */
-uint32_t keldurap_list_sheet(const double *floats, size_t floats_len, const uint32_t *numbers, size_t numbers_len, size_t nodes, size_t added, size_t splits, size_t joined, size_t finished, uint8_t *out, size_t out_len, size_t *length);
+ * have any size: 140, and 126 and the digits of the node's number.) The slices, the report and length must not overlap. A slice of no elements may have any pointer that is not null. */
+uint32_t keldurap_list_sheet(const double *floats, size_t floats_len, const uint32_t *numbers, size_t numbers_len, const struct keldurap_report *report, uint8_t *out, size_t out_len, size_t *length);
 
 #ifdef __cplusplus
 }

@@ -22,10 +22,6 @@ struct room {
     size_t places, units;
 };
 
-struct report {
-    size_t nodes, added, splits, joined, finished;
-};
-
 /* Says what is wrong with a file or with memory. */
 static int error(const char *what, const char *why)
 {
@@ -94,24 +90,24 @@ static void give_back(struct room *room)
     free(room->marks);
 }
 
-static uint32_t make(struct room *room, const struct book *book, struct report *report)
+static uint32_t make(struct room *room, const struct book *book, struct keldurap_report *report)
 {
     return keldurap_make_est_times(book->bytes, book->length,
         room->floats, KELDURAP_PLACE_FLOATS * room->places, room->numbers, KELDURAP_PLACE_NUMBERS * room->places,
         room->reals, KELDURAP_UNIT_REALS * room->units, room->cells, KELDURAP_UNIT_CELLS * room->units,
         room->marks, KELDURAP_UNIT_MARKS * room->units,
-        &report->nodes, &report->added, &report->splits, &report->joined, &report->finished);
+        report);
 }
 
 /* Prints the listing of a sheet. */
-static int print_listing(const struct room *room, const struct report *report)
+static int print_listing(const struct room *room, const struct keldurap_report *report)
 {
     size_t length, size = KELDURAP_LISTING_MAX(report->nodes);
     uint8_t *text = slice(size, 1);
     if (text == NULL)
         return error("listing", "no memory");
     uint32_t answer = keldurap_list_sheet(room->floats, KELDURAP_PLACE_FLOATS * room->places, room->numbers, KELDURAP_PLACE_NUMBERS * room->places,
-        report->nodes, report->added, report->splits, report->joined, report->finished, text, size, &length);
+        report, text, size, &length);
     int status = SHEET;
     if (answer != 0)
         status = error("listing", answer == 1 ? "the slice is too short" : "the table has fewer nodes");
@@ -123,7 +119,7 @@ static int print_listing(const struct room *room, const struct report *report)
 
 static int print_sheet(struct room *room, const struct book *book)
 {
-    struct report report;
+    struct keldurap_report report;
     uint32_t number = make(room, book, &report);
     if (number == 0)
         return print_listing(room, &report);

@@ -6,11 +6,7 @@ extern "C" {
         floats_len: usize,
         numbers: *const u32,
         numbers_len: usize,
-        nodes: usize,
-        added: usize,
-        splits: usize,
-        joined: usize,
-        finished: usize,
+        report: *const [usize; 5],
         out: *mut u8,
         out_len: usize,
         length: *mut usize,
@@ -19,7 +15,6 @@ extern "C" {
 
 /// The library's answer, all of a lent slice of so many bytes, and the length.
 fn listed(floats: &[f64], numbers: &[u32], report: [usize; 5], size: usize) -> (u32, Vec<u8>, usize) {
-    let [nodes, added, splits, joined, finished] = report;
     let (mut out, mut length) = (vec![0xa5; size], usize::MAX);
     // Pointers and lengths are those of slices that nothing else uses during the call.
     let answer = unsafe {
@@ -28,11 +23,7 @@ fn listed(floats: &[f64], numbers: &[u32], report: [usize; 5], size: usize) -> (
             floats.len(),
             numbers.as_ptr(),
             numbers.len(),
-            nodes,
-            added,
-            splits,
-            joined,
-            finished,
+            &report,
             out.as_mut_ptr(),
             out.len(),
             &mut length,

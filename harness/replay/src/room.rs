@@ -17,11 +17,7 @@ macro_rules! entries {
                 cells_len: usize,
                 marks: *mut u32,
                 marks_len: usize,
-                nodes: *mut usize,
-                added: *mut usize,
-                splits: *mut usize,
-                joined: *mut usize,
-                finished: *mut usize,
+                report: *mut [usize; 5],
             ) -> u32;)*
         }
     };
@@ -86,7 +82,7 @@ impl Room {
             Entry::Make => keldurap_make_est_times,
         };
         let work = &mut self.work;
-        let [mut nodes, mut added, mut splits, mut joined, mut finished] = [usize::MAX; 5];
+        let mut report = [usize::MAX; 5];
         // Pointers and lengths are those of slices that nothing else uses during the call.
         let number = unsafe {
             entry(
@@ -102,14 +98,10 @@ impl Room {
                 work.cells.len(),
                 work.marks.as_mut_ptr(),
                 work.marks.len(),
-                &mut nodes,
-                &mut added,
-                &mut splits,
-                &mut joined,
-                &mut finished,
+                &mut report,
             )
         };
-        (number, [nodes, added, splits, joined, finished])
+        (number, report)
     }
 
     /// Makes the slices zero that the job begins with: all but the reals.

@@ -4,6 +4,7 @@ use crate::{Refusal, Table, WorkSpace};
 
 /// What is told of a sheet beside its nodes: how many there are, how many of them stand for events, then splits, joins and finished runs.
 #[derive(Clone, Copy, Debug, Default, PartialEq, Eq, Hash)]
+#[repr(C)]
 pub struct Report {
     pub nodes: usize,
     pub added: usize,
@@ -24,7 +25,7 @@ pub fn grow_network(book: &[u8], table: &mut Table, work: &mut WorkSpace) -> Res
 
 fn run(entry: FromBook, book: &[u8], table: &mut Table, work: &mut WorkSpace) -> Result<Report, Refusal> {
     let mut report = Report::default();
-    // SAFETY: pointers and lengths are those of slices; the borrows keep them apart from each other and from all else.
+    // SAFETY: pointers and lengths are those of slices; the borrows keep them and the report apart from each other and from all else.
     let number = unsafe {
         entry(
             book.as_ptr(),
@@ -39,11 +40,7 @@ fn run(entry: FromBook, book: &[u8], table: &mut Table, work: &mut WorkSpace) ->
             work.cells.len(),
             work.marks.as_mut_ptr(),
             work.marks.len(),
-            &mut report.nodes,
-            &mut report.added,
-            &mut report.splits,
-            &mut report.joined,
-            &mut report.finished,
+            &mut report,
         )
     };
     table.nodes = report.nodes.min(table.places());

@@ -1,4 +1,5 @@
 //! The functions of libkeldurap.a, as include/keldurap.h declares them.
+use crate::Report;
 
 /// An entry from a book to nodes: book, table, work space, report.
 pub type FromBook = unsafe extern "C" fn(
@@ -14,11 +15,7 @@ pub type FromBook = unsafe extern "C" fn(
     usize,
     *mut u32,
     usize,
-    *mut usize,
-    *mut usize,
-    *mut usize,
-    *mut usize,
-    *mut usize,
+    *mut Report,
 ) -> u32;
 
 macro_rules! from_book {
@@ -37,11 +34,7 @@ macro_rules! from_book {
                 cells_len: usize,
                 marks: *mut u32,
                 marks_len: usize,
-                nodes: *mut usize,
-                added: *mut usize,
-                splits: *mut usize,
-                joined: *mut usize,
-                finished: *mut usize,
+                report: *mut Report,
             ) -> u32;)*
         }
     };
@@ -99,11 +92,7 @@ extern "C" {
         floats_len: usize,
         numbers: *const u32,
         numbers_len: usize,
-        nodes: usize,
-        added: usize,
-        splits: usize,
-        joined: usize,
-        finished: usize,
+        report: *const Report,
         out: *mut u8,
         out_len: usize,
         length: *mut usize,
