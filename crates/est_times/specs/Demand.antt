@@ -28,13 +28,13 @@ pub record Noted (b : List ℕ) (arcs : List Arc) : Type 0 where
 pub record Demand (b : List ℕ) (fs : List Float) (us : List ℕ) (r : Report) : Type 0 where
   pub noted : List Arc
   pub rule : Noted b noted
-  -- "the same as often each, both ends and every bit of time and distance"
+  -- the two lists hold the same arcs, each as often, both ends and every bit of time and distance
   pub arcs : SameArcs noted (arcsRead (nodeAt fs us) (r .nodes))
-  -- each arc leads out with zeros, from the start to an origin's Arrive, or "from one event of a run to the very next of that run with its own differences"
+  -- each arc leads out with zeros, from the start to an origin's Arrive, or from one event of a run to the very next of that run with its own differences
   pub of-runs : AllOfRuns b (nodeAt fs us) noted
-  -- "arcs = added + joined + finished"
+  -- as many arcs as additions, joins and finishes
   pub counted : length noted ≡ r .added + r .joined + r .finished
-  -- "1 + splits = joined + finished"
+  -- the start and each split begin a way, each join and each finish end one
   pub balanced : 1 + r .splits ≡ r .joined + r .finished
 
 abbrev pub DemandOf : List ℕ → List Float → List ℕ → Sheet → Type 0

@@ -12,7 +12,7 @@ unfoldable pub billion : Float
 unfolding ofInt
 billion = ofInt binary64 (pos 1000000000)
 
--- Row 4, "float not finite or above 1,000,000,000 in size (a table takes either sign)": when a table's float is none of these.
+-- Row 4, "float not finite or above 1,000,000,000 in size .. (a table takes either sign)": when a table's float is none of these.
 unfoldable pub tableFloat : Float → Bool
 unfolding billion
 tableFloat nan = false

@@ -1,4 +1,4 @@
--- An answer that may be a refusal: document 01, "Each is accepted, or gets one refusal number".
+-- An answer that may be a refusal: what is asked for is given, or one number of document 01's table.
 use Prim.Native.Nat.{ℕ, zero, suc}
 
 -- a refusal's number, or what is given

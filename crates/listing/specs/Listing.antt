@@ -115,7 +115,7 @@ refusedText k = (114 ∷ 101 ∷ 102 ∷ 117 ∷ 115 ∷ 101 ∷ 100 ∷ 32 ∷ 
 
 -- ---- into a slice of so many bytes
 
--- "a slice that is too short is answered and left zero"
+-- a slice that is too short is answered, and left zero
 abbrev pub fitted : Bool → List ℕ → Listed
 fitted true text = Bytes (length text)
 fitted false text = Short

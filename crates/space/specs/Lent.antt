@@ -12,7 +12,7 @@ use Rattle.space.specs.Space.{bytesOf, zeros, zeroFloats}
 abbrev pub Lent : Type 0 → Type 0
 Lent A = Both (RefT A) (RefT A)
 
--- the work space: "3 f64 (`reals`), 8 u32 (`cells`) and 2 u32 (`marks`)" to a unit
+-- the work space: 3 f64 (reals), 8 u32 (cells) and 2 u32 (marks) to a unit
 pub record Work : Type 0 where
   pub reals : List Float
   pub cells : List ℕ
