@@ -14,7 +14,7 @@ const MEANINGS: [&str; 16] = [
     "an index names nothing, link 0 is not all zero, a link has length 0, or both nexts of a link are the same",
     "an origin has an offset or the front flag, or its link is repeated",
     "a leg is on link 0 or repeated, its parent is not an earlier leg, its times don't rise, its offsets fall, or it doesn't begin where it has to",
-    "a destination is link 0, or no origin leads to a destination",
+    "a destination is link 0, or the search back from the destinations meets no origin",
     "a run has nowhere to go",
     "a leg that is needed is missing",
     "a sample reaches the end of its path, or an event has no finite speed and time",
