@@ -1,5 +1,7 @@
--- Which legs follow which: a leg's children, and how the work space keeps them. A leg's number is one more than its row's; 0 names no leg, and as a parent the origins.
--- In the cells of the work space each leg number has a unit of 8: its last child, the child before it of its own parent, and where its samples end.
+-- Which legs follow which: a leg's children, and how the work space keeps them.
+-- A leg's number is one more than its row's; 0 names no leg, and as a parent the origins.
+-- In the cells of the work space each leg number has a unit of 8: its last child, the child before it of its own
+-- parent, and where its samples end.
 use mathlib.Core.Path.{_≡_}
 use mathlib.Core.Bool.{Bool, true, false, _&&_, cond}
 use mathlib.Core.List.{List}

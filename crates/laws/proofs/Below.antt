@@ -7,29 +7,7 @@ use native.Mathlib.Nat.{le-refl, not-suc-le-zero, le-of-suc-le-suc, eq-or-lt-of-
 use native.Mathlib.Numerals.{add-one}
 use native.Mathlib.Omega.{arith}
 use Rattle.laws.specs.Below.{someBelow, sumBelow}
-
--- ---- what `||` says
-
-pub or-left : (a b : Bool) → a ≡ true → (a || b) ≡ true
-or-left true b e = refl
-or-left false b e = absurd (subst T e tt)
-  where
-    T : Bool → Type 0
-    T true = ⊥
-    T false = Unit
-
-pub or-right : (a b : Bool) → b ≡ true → (a || b) ≡ true
-or-right true b e = refl
-or-right false b e = e
-
-pub none-left : (a b : Bool) → (a || b) ≡ false → a ≡ false
-none-left true b e = e
-none-left false b e = refl
-
-pub none-right : (a b : Bool) → (a || b) ≡ false → b ≡ false
-none-right true true e = e
-none-right true false e = refl
-none-right false b e = e
+pub use Rattle.laws.proofs.Truth.{or-left, or-right, none-left, none-right}
 
 -- ---- one number more
 

@@ -1,2 +1,4 @@
+pub mod Truth
 pub mod Below
 pub mod Answers
+pub mod Refusals
