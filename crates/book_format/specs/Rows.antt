@@ -136,9 +136,15 @@ badOriginPlace b i = not (eqb (originOffset b i) 0) || eqb (originFront b i) 1
 unfoldable pub originRepeats : List ℕ → ℕ → Bool
 originRepeats b i = someBelow i (λ j. eqb (originLink b j) (originLink b i))
 
+abbrev pub someBadPlace : List ℕ → Bool
+someBadPlace b = someBelow (origins b) (badOriginPlace b)
+
+abbrev pub someOriginRepeats : List ℕ → Bool
+someOriginRepeats b = someBelow (origins b) (originRepeats b)
+
 unfoldable pub row6 : List ℕ → Bool
 unfolding badOriginPlace originRepeats
-row6 b = someBelow (origins b) (badOriginPlace b) || someBelow (origins b) (originRepeats b)
+row6 b = someBadPlace b || someOriginRepeats b
 
 -- ---- row 7
 
@@ -180,10 +186,16 @@ unfoldable pub legBegins : List ℕ → ℕ → Bool
 unfolding sameSample
 legBegins b i = begins b i (legParent b i)
 
+abbrev pub someBadLeg : List ℕ → Bool
+someBadLeg b = someBelow (legs b) (badLeg b)
+
+abbrev pub someLegRepeats : List ℕ → Bool
+someLegRepeats b = someBelow (legs b) (legRepeats b)
+
 unfoldable pub row7 : List ℕ → Bool
 unfolding badLeg legRepeats legFalls legBegins
 row7 b =
-    someBelow (legs b) (badLeg b)
-    || someBelow (legs b) (legRepeats b)
+    someBadLeg b
+    || someLegRepeats b
     || someBelow (legs b) (legFalls b)
     || someBelow (legs b) (λ i. not (legBegins b i))

@@ -4,13 +4,12 @@ use mathlib.Core.Bool.{Bool, false, not, cond}
 use mathlib.Core.List.{List, [], _∷_}
 use Prim.Native.Nat.{ℕ, zero, suc, _+_, _-_, min}
 use lib.Dec.{ltb}
-use Rattle.laws.specs.Below.{someBelow}
 use Rattle.laws.specs.Refusals.{row, firstOf}
 use Rattle.floats.specs.Floats.{bookFloat}
 use Rattle.book_format.specs.declared.Sections.{Sections}
-use Rattle.book_format.specs.Format.{origins, legs, linkLength, originLink, destinationLink}
-use Rattle.book_format.specs.Rows.{row4, row5, noSuchLink, badLink, badOriginValue, badOriginPlace, badLegIndex, badLeg}
-use Rattle.book_format.specs.Rows.{badSample}
+use Rattle.book_format.specs.Format.{linkLength, originLink, destinationLink}
+use Rattle.book_format.specs.Rows.{noSuchLink, badLink, badOriginValue, badOriginPlace, badLegIndex, badLeg, badSample}
+use Rattle.book_format.specs.Rows.{row4, row5, someBadPlace, someBadLeg}
 
 -- the lower of two numbers
 unfoldable pub lower : ℕ → ℕ → ℕ
@@ -61,15 +60,7 @@ elementNumber b s =
     (splice (s .origins) (originNumber b)
     (splice (s .destinations) (destinationNumber b) (legNumber b))))
 
--- ---- the whole book, as far as single rows tell
+-- ---- the whole book, as far as single rows tell: rows 4 and 5, and 6 and 7 without their repeats and samples
 
--- "origin offset nonzero, front flag 1"; "leg link 0; parent not below own number"
-abbrev pub someBadPlace : List ℕ → Bool
-someBadPlace b = someBelow (origins b) (badOriginPlace b)
-
-abbrev pub someBadLeg : List ℕ → Bool
-someBadLeg b = someBelow (legs b) (badLeg b)
-
--- rows 4 and 5 whole, 6 and 7 without their repeats and samples
 unfoldable pub singleNumber : List ℕ → ℕ
 singleNumber b = numberOf (row4 b) (row5 b) (someBadPlace b) (someBadLeg b)

@@ -1,5 +1,5 @@
 -- Laws of truth: what `||` and `&&` say, a Bool is true or false, and two numbers are equal or not.
-use mathlib.Core.Path.{_≡_, refl, sym}
+use mathlib.Core.Path.{_≡_, refl, sym, _∙_}
 use mathlib.Core.Logic.{_⊎_, inl, inr}
 use mathlib.Core.Bool.{Bool, true, false, _&&_, _||_, true≢false}
 use Prim.Native.Nat.{ℕ}
@@ -44,6 +44,10 @@ both true b e f = f
 both false b e f = e
 
 -- ---- two cases
+
+-- a Bool is not both
+pub not-both : {A : Type 0} {b : Bool} → b ≡ true → b ≡ false → A
+not-both d e = absurd (true≢false (sym d ∙ e))
 
 pub true-or-false : (b : Bool) → (b ≡ true) ⊎ (b ≡ false)
 true-or-false true = inl refl
