@@ -17,7 +17,7 @@ use Rattle.book_format.specs.Rows.{outsideLimits, badCount, badOriginVal
 
 -- ---- the limits
 
--- a count that is not outsideLimits
+-- a count that is not outside its limits
 within : (limit n : ℕ) → outsideLimits limit n ≡ false → n ≤ limit
 within limit n e = ltb-false limit n (none-right (eqb n 0) (ltb limit n) e)
 

@@ -1,7 +1,7 @@
 -- What `measuredOf` says of a book's bytes, by how their length stands to the end of the last field.
 -- Assumes nothing.
 use mathlib.Core.Path.{_≡_, refl, ap, _∙_}
-use mathlib.Core.Bool.{Bool, true, false}
+use mathlib.Core.Bool.{Bool, true, false, cond}
 use mathlib.Core.List.{List}
 use Prim.Native.Nat.{ℕ, _+_, _-_, _*_, _≤_, _<_}
 use native.Mathlib.Omega.{arith}
@@ -12,7 +12,7 @@ use Rattle.book_format.specs.declared.Sections.{Sections}
 use Rattle.book_format.specs.declared.Measured.{Measured}
 use Rattle.book_format.specs.declared.Measured.the-variants.{Whole, Short, Long}
 use Rattle.book_format.specs.Format.{Sized, sectionsOf, linkWidth, originWidth, destinationWidth, legWidth, sampleWidth, links, origins, destinations, legs, samples, linksAt, originsAt, destinationsAt, legsAt, samplesAt, endOf}
-use Rattle.book_format.specs.Rows.{row1, row2, pick, measuredOf, measuredNumber}
+use Rattle.book_format.specs.Rows.{row1, row2, measuredOf, measuredNumber}
 use Rattle.book_format.proofs.Places.{follow}
 
 -- ---- the three answers
@@ -129,17 +129,17 @@ module _ {X : Type 0} {m n : Measured} where
   other : m ≡ n → (measuredNumber m ≡ measuredNumber n → ⊥) → X
   other e d = absurd (d (ap measuredNumber e))
 
-picked-short : (p q : Bool) (t : Sections) → pick p Short (pick q Long (Whole t)) ≡ Short → p ≡ true
+picked-short : (p q : Bool) (t : Sections) → cond p Short (cond q Long (Whole t)) ≡ Short → p ≡ true
 picked-short true q t e = refl
 picked-short false true t e = other e (λ z. omega arith)
 picked-short false false t e = other e (λ z. omega arith)
 
-picked-long : (p q : Bool) (t : Sections) → pick p Short (pick q Long (Whole t)) ≡ Long → (p ≡ false) × (q ≡ true)
+picked-long : (p q : Bool) (t : Sections) → cond p Short (cond q Long (Whole t)) ≡ Long → (p ≡ false) × (q ≡ true)
 picked-long true q t e = other e (λ z. omega arith)
 picked-long false true t e = (refl, refl)
 picked-long false false t e = other e (λ z. omega arith)
 
-picked-whole : (p q : Bool) (t s : Sections) → pick p Short (pick q Long (Whole t)) ≡ Whole s → (p ≡ false) × (q ≡ false) × (s ≡ t)
+picked-whole : (p q : Bool) (t s : Sections) → cond p Short (cond q Long (Whole t)) ≡ Whole s → (p ≡ false) × (q ≡ false) × (s ≡ t)
 picked-whole true q t s e = other e (λ z. omega arith)
 picked-whole false true t s e = other e (λ z. omega arith)
 picked-whole false false t s e = (refl, refl, cc)

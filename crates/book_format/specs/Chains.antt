@@ -1,5 +1,7 @@
--- Which legs follow which: a leg's children, and how the work space keeps them. A leg's number is one more than its row's; 0 names no leg, and as a parent the origins.
--- In the cells of the work space each leg number has a unit of 8: its last child, the child before it of its own parent, and where its samples end.
+-- Which legs follow which: a leg's children, and how the work space keeps them.
+-- A leg's number is one more than its row's; 0 names no leg, and as a parent the origins.
+-- In the cells of the work space each leg number has a unit of 8: its last child, the child before it of its own
+-- parent, and where its samples end.
 use mathlib.Core.Path.{_≡_}
 use mathlib.Core.Bool.{Bool, true, false, _&&_, cond}
 use mathlib.Core.List.{List}
@@ -21,13 +23,21 @@ unfoldable pub legBelow : List ℕ → ℕ → ℕ → ℕ → ℕ
 legBelow b zero p l = 0
 legBelow b (suc n) p l = cond (eqb (legParent b n) p && eqb (legLink b n) l) (suc n) (legBelow b n p l)
 
+-- the cells with leg number j in front of its parent's children, and where its samples end
+abbrev pub withLeg : List ℕ → ℕ → ℕ → ℕ → List ℕ
+withLeg cells j parent end =
+    set (set (set cells (j * 8 + 1) (getD cells (parent * 8) 0)) (parent * 8) j) (j * 8 + 2) end
+
 -- the cells w after the first n legs are linked: each in front of its parent's children so far
 unfoldable pub linked : List ℕ → ℕ → List ℕ → List ℕ
 linked b zero w = w
 linked b (suc n) w =
     let v = linked b n w in
-    let p = legParent b n in
-    set (set (set v ((n + 1) * 8 + 1) (getD v (p * 8) 0)) (p * 8) (n + 1)) ((n + 1) * 8 + 2) (firstSample b (n + 1))
+    withLeg v (n + 1) (legParent b n) (firstSample b (n + 1))
+
+-- all legs
+abbrev pub allLinked : List ℕ → List ℕ → List ℕ
+allLinked b w = linked b (legs b) w
 
 -- what the cells then say of each leg
 pub record Chained (b cells : List ℕ) : Type 0 where

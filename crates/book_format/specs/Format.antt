@@ -1,7 +1,9 @@
 -- The format of a book, document 01 under "Book": where each section begins, and what stands in each row of it.
--- A book is a list of bytes. Three floats stand first: J in m/s, the departure in s, the train's length in m. Then come five sections, each after its count:
--- links from 0, origins, destinations, legs from 1, samples in leg order. A float is kept as its bit pattern where rows 4 to 7 look at it, and read by `lib.Ieee` in the records.
--- Every definition is total: bytes past the end are read as 0, and counts are taken as they stand. It is no parser: nothing here says in which order bytes are looked at.
+-- A book is a list of bytes. Three floats stand first: J in m/s, the departure in s, the train's length in m.
+-- Then come five sections, each after its count: links from 0, origins, destinations, legs from 1, samples in leg order.
+-- A float is kept as its bit pattern where rows 4 to 7 look at it, and read by `lib.Ieee` in the records.
+-- Every definition is total: bytes past the end are read as 0, and counts are taken as they stand. It is no parser:
+-- nothing here says in which order bytes are looked at.
 use mathlib.Core.Path.{_≡_}
 use mathlib.Core.List.{List}
 use Prim.Native.Nat.{ℕ, _+_, _-_, _*_}
@@ -128,7 +130,8 @@ originFront b i = u32At b (originsAt b + i * originWidth + 12)
 unfoldable pub destinationLink : List ℕ → ℕ → ℕ
 destinationLink b i = u32At b (destinationsAt b + i * destinationWidth)
 
--- "legs from 1: link, parent leg (0: starts at an origin), number of samples", here by the row, which is the leg's number less one
+-- "legs from 1: link, parent leg (0: starts at an origin), number of samples", here by the row, which is the leg's
+-- number less one
 unfoldable pub legLink : List ℕ → ℕ → ℕ
 legLink b i = u32At b (legsAt b + i * legWidth)
 
@@ -167,14 +170,22 @@ linkAt b i = record {
 }
 
 unfoldable pub originAt : List ℕ → ℕ → Origin
-originAt b i = record { «link_idx» = originLink b i; offset = floatOf (originOffset b i); «is_front_end» = originFront b i }
+originAt b i = record {
+  «link_idx» = originLink b i;
+  offset = floatOf (originOffset b i);
+  «is_front_end» = originFront b i;
+}
 
 unfoldable pub legAt : List ℕ → ℕ → Leg
 legAt b i = record { «link_idx» = legLink b i; parent = legParent b i; samples = legSamples b i }
 
 -- a sample whose first byte is at `at`: samples also stand in bytes that are no book
 unfoldable pub sampleFrom : List ℕ → ℕ → Sample
-sampleFrom b at = record { time = floatOf (u64At b at); offset = floatOf (u64At b (at + 8)); speed = floatOf (u64At b (at + 16)) }
+sampleFrom b at = record {
+  time = floatOf (u64At b at);
+  offset = floatOf (u64At b (at + 8));
+  speed = floatOf (u64At b (at + 16));
+}
 
 unfoldable pub sampleAt : List ℕ → ℕ → Sample
 unfolding sampleFrom

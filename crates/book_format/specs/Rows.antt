@@ -1,7 +1,8 @@
--- Rows 1 to 7 of document 01's table of refusals: for each, when it holds of the whole bytes. Of those that hold the lowest number is given, wherever in the bytes its cause stands.
+-- Rows 1 to 7 of document 01's table of refusals: for each, when it holds of the whole bytes.
+-- Which of those that hold is told first, and where row 8 comes, stands in book_reader's specs/Reader.antt.
 -- Each definition looks at every row of a section by its index; none says how a program scans.
-use mathlib.Core.Bool.{Bool, true, false, not, _&&_, _||_}
-use mathlib.Core.List.{List, [], _∷_}
+use mathlib.Core.Bool.{Bool, not, _&&_, _||_, cond}
+use mathlib.Core.List.{List}
 use Prim.Native.Nat.{ℕ, zero, suc, _+_, _-_, _*_, min}
 use lib.Dec.{leb, ltb, eqb}
 use lib.ListN.{length}
@@ -9,9 +10,15 @@ use lib.Ieee.{lt}
 use Rattle.fields.specs.Fields.{u64At}
 use Rattle.laws.specs.Below.{someBelow, sumBelow}
 use Rattle.floats.specs.Floats.{bookFloat}
+use Rattle.book_format.specs.declared.Sample.{Sample}
 use Rattle.book_format.specs.declared.Measured.{Measured}
 use Rattle.book_format.specs.declared.Measured.the-variants.{Whole, Short, Long}
-use Rattle.book_format.specs.Format.{sectionsOf, links, origins, destinations, legs, samples, endOf, joinBits, departureBits, lengthBits, linkLength, linkNext, linkNextAlt, linkPrev, linkPrevAlt, originLink, originOffset, originFront, destinationLink, legLink, legParent, legSamples, sampleTime, sampleOffset, sampleSpeed, samplesAt, sampleWidth, firstSample, floatOf}
+use Rattle.book_format.specs.Format.{sectionsOf, links, origins, destinations, legs, samples, endOf}
+use Rattle.book_format.specs.Format.{joinBits, departureBits, lengthBits}
+use Rattle.book_format.specs.Format.{linkLength, linkNext, linkNextAlt, linkPrev, linkPrevAlt}
+use Rattle.book_format.specs.Format.{originLink, originOffset, originFront, destinationLink}
+use Rattle.book_format.specs.Format.{legLink, legParent, legSamples, firstSample}
+use Rattle.book_format.specs.Format.{sampleTime, sampleOffset, sampleSpeed, samplesAt, sampleWidth, sampleAt}
 
 -- Row 1: bytes end before the last field does.
 unfoldable pub row1 : List ℕ → Bool
@@ -22,13 +29,9 @@ unfoldable pub row2 : List ℕ → Bool
 row2 b = ltb (endOf b) (length b)
 
 -- What rows 1 and 2 answer, and the number that document 01 gives for it.
-abbrev pub pick : Bool → Measured → Measured → Measured
-pick true a b = a
-pick false a b = b
-
 unfoldable pub measuredOf : List ℕ → Measured
 unfolding row1 row2
-measuredOf b = pick (row1 b) Short (pick (row2 b) Long (Whole (sectionsOf b)))
+measuredOf b = cond (row1 b) Short (cond (row2 b) Long (Whole (sectionsOf b)))
 
 abbrev pub measuredNumber : Measured → ℕ
 measuredNumber Short = 1
@@ -37,19 +40,24 @@ measuredNumber (Whole s) = 0
 
 -- ---- row 3
 
--- a count outsideLimits 1 to a limit
+-- a count outside 1 to a limit
 abbrev pub outsideLimits : ℕ → ℕ → Bool
 outsideLimits limit n = eqb n 0 || ltb limit n
 
 -- "Counts: links, legs 1 to 65,535; origins, destinations 1 to 1,000; samples 1 to 1,000,000."
 unfoldable pub badCount : List ℕ → Bool
-badCount b = outsideLimits 65535 (links b) || outsideLimits 65535 (legs b) || outsideLimits 1000 (origins b) || outsideLimits 1000 (destinations b) || outsideLimits 1000000 (samples b)
+badCount b =
+    outsideLimits 65535 (links b)
+    || outsideLimits 65535 (legs b)
+    || outsideLimits 1000 (origins b)
+    || outsideLimits 1000 (destinations b)
+    || outsideLimits 1000000 (samples b)
 
 -- "36,864 + 64 times (links + origins + destinations + legs + table places up to 65,535) bytes"
 unfoldable pub workBytes : List ℕ → ℕ → ℕ
 workBytes b places = 36864 + 64 * (links b + origins b + destinations b + legs b + min places 65535)
 
--- Row 3: count outsideLimits its limits; a leg of 0 samples; leg sums differ; work space below what is asked.
+-- Row 3: count outside its limits; a leg of 0 samples; leg sums differ; work space below what is asked.
 unfoldable pub row3 : List ℕ → ℕ → ℕ → Bool
 unfolding badCount workBytes
 row3 b places bytes =
@@ -65,7 +73,10 @@ badOriginValue b i = not (bookFloat (originOffset b i)) || ltb 1 (originFront b 
 
 -- a sample whose first byte is at `at`
 unfoldable pub badSampleFrom : List ℕ → ℕ → Bool
-badSampleFrom b at = not (bookFloat (u64At b at)) || not (bookFloat (u64At b (at + 8))) || not (bookFloat (u64At b (at + 16)))
+badSampleFrom b at =
+    not (bookFloat (u64At b at))
+    || not (bookFloat (u64At b (at + 8)))
+    || not (bookFloat (u64At b (at + 16)))
 
 unfoldable pub badSample : List ℕ → ℕ → Bool
 unfolding badSampleFrom
@@ -88,7 +99,12 @@ abbrev pub noSuchLink : List ℕ → ℕ → Bool
 noSuchLink b i = leb (links b) i
 
 unfoldable pub linkZero : List ℕ → Bool
-linkZero b = eqb (linkLength b 0) 0 && eqb (linkNext b 0) 0 && eqb (linkNextAlt b 0) 0 && eqb (linkPrev b 0) 0 && eqb (linkPrevAlt b 0) 0
+linkZero b =
+    eqb (linkLength b 0) 0
+    && eqb (linkNext b 0) 0
+    && eqb (linkNextAlt b 0) 0
+    && eqb (linkPrev b 0) 0
+    && eqb (linkPrevAlt b 0) 0
 
 unfoldable pub badLink : List ℕ → ℕ → Bool
 badLink b i =
@@ -120,9 +136,15 @@ badOriginPlace b i = not (eqb (originOffset b i) 0) || eqb (originFront b i) 1
 unfoldable pub originRepeats : List ℕ → ℕ → Bool
 originRepeats b i = someBelow i (λ j. eqb (originLink b j) (originLink b i))
 
+abbrev pub someBadPlace : List ℕ → Bool
+someBadPlace b = someBelow (origins b) (badOriginPlace b)
+
+abbrev pub someOriginRepeats : List ℕ → Bool
+someOriginRepeats b = someBelow (origins b) (originRepeats b)
+
 unfoldable pub row6 : List ℕ → Bool
 unfolding badOriginPlace originRepeats
-row6 b = someBelow (origins b) (badOriginPlace b) || someBelow (origins b) (originRepeats b)
+row6 b = someBadPlace b || someOriginRepeats b
 
 -- ---- row 7
 
@@ -134,9 +156,13 @@ badLeg b i = eqb (legLink b i) 0 || ltb i (legParent b i)
 unfoldable pub legRepeats : List ℕ → ℕ → Bool
 legRepeats b i = someBelow i (λ j. eqb (legParent b j) (legParent b i) && eqb (legLink b j) (legLink b i))
 
--- two samples of a leg, one after the other: "times not strictly rising or offsets falling"
+-- a sample and the one after it: "times not strictly rising or offsets falling"
+unfoldable pub sampleFalls : Sample → Sample → Bool
+sampleFalls s t = not (lt (s .time) (t .time)) || lt (t .offset) (s .offset)
+
 unfoldable pub falls : List ℕ → ℕ → Bool
-falls b k = not (lt (floatOf (sampleTime b k)) (floatOf (sampleTime b (k + 1)))) || lt (floatOf (sampleOffset b (k + 1))) (floatOf (sampleOffset b k))
+unfolding sampleFalls
+falls b k = sampleFalls (sampleAt b k) (sampleAt b (k + 1))
 
 unfoldable pub legFalls : List ℕ → ℕ → Bool
 unfolding falls
@@ -144,9 +170,13 @@ legFalls b i = someBelow (legSamples b i - 1) (λ k. falls b (firstSample b i + 
 
 -- two samples, bit for bit
 unfoldable pub sameSample : List ℕ → ℕ → ℕ → Bool
-sameSample b j k = eqb (sampleTime b j) (sampleTime b k) && eqb (sampleOffset b j) (sampleOffset b k) && eqb (sampleSpeed b j) (sampleSpeed b k)
+sameSample b j k =
+    eqb (sampleTime b j) (sampleTime b k)
+    && eqb (sampleOffset b j) (sampleOffset b k)
+    && eqb (sampleSpeed b j) (sampleSpeed b k)
 
--- the leg in row i begins where it must: "first sample not its parent's last, bit for bit; starting leg's first time not the departure".
+-- the leg in row i begins where it must, which row 7 denies:
+-- "first sample not its parent's last, bit for bit; starting leg's first time not the departure".
 -- The parent of number p stands in row p - 1, and its last sample just before the first of the row after it.
 abbrev pub begins : List ℕ → ℕ → ℕ → Bool
 begins b i zero = eqb (sampleTime b (firstSample b i)) (departureBits b)
@@ -156,18 +186,16 @@ unfoldable pub legBegins : List ℕ → ℕ → Bool
 unfolding sameSample
 legBegins b i = begins b i (legParent b i)
 
+abbrev pub someBadLeg : List ℕ → Bool
+someBadLeg b = someBelow (legs b) (badLeg b)
+
+abbrev pub someLegRepeats : List ℕ → Bool
+someLegRepeats b = someBelow (legs b) (legRepeats b)
+
 unfoldable pub row7 : List ℕ → Bool
 unfolding badLeg legRepeats legFalls legBegins
 row7 b =
-    someBelow (legs b) (badLeg b)
-    || someBelow (legs b) (legRepeats b)
+    someBadLeg b
+    || someLegRepeats b
     || someBelow (legs b) (legFalls b)
     || someBelow (legs b) (λ i. not (legBegins b i))
-
--- ---- "Of 1 to 8 the lowest wins"
-
--- the number of the first that holds, counted from n, and 0 where none does
-unfoldable pub lowest : ℕ → List Bool → ℕ
-lowest n [] = 0
-lowest n (true ∷ rows) = n
-lowest n (false ∷ rows) = lowest (suc n) rows

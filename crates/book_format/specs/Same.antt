@@ -1,9 +1,13 @@
--- Two books that say the same, for the theorem that their bytes are then the same: the format holds nothing beside its fields, and each byte is part of one.
+-- Two books that say the same, for the theorem that their bytes are then the same: the format holds nothing beside
+-- its fields, and each byte is part of one.
 use mathlib.Core.Path.{_≡_}
 use mathlib.Core.List.{List}
 use Prim.Native.Nat.{ℕ, _<_}
 use lib.ListN.{length, getD}
-use Rattle.book_format.specs.Format.{joinBits, departureBits, lengthBits, links, origins, destinations, legs, samples, linkLength, linkNext, linkNextAlt, linkPrev, linkPrevAlt, originLink, originOffset, originFront, destinationLink, legLink, legParent, legSamples, sampleTime, sampleOffset, sampleSpeed}
+use Rattle.book_format.specs.Format.{joinBits, departureBits, lengthBits, links, origins, destinations, legs, samples}
+use Rattle.book_format.specs.Format.{linkLength, linkNext, linkNextAlt, linkPrev, linkPrevAlt}
+use Rattle.book_format.specs.Format.{originLink, originOffset, originFront, destinationLink}
+use Rattle.book_format.specs.Format.{legLink, legParent, legSamples, sampleTime, sampleOffset, sampleSpeed}
 
 -- each element is a byte
 pub record Bytes (b : List ℕ) : Type 0 where

@@ -1,4 +1,5 @@
-// The format of a book: where its sections begin, and its rows as structs by value. Contracts: specs/Format.antt, specs/Rows.antt.
+// The format of a book: where its sections begin, its rows as structs by value, and tests of counts and samples.
+// Contracts: specs/Format.antt, specs/Rows.antt.
 ghost use mathlib.Core.Path.{_≡_};
 ghost use mathlib.Core.Bool.{true, false};
 ghost use Prim.Native.Nat.{_+_, _*_, _≤_, _<_};
@@ -6,8 +7,9 @@ ghost use lib.ListN.{length};
 ghost use Rattle.fields.specs.Fields.{u32At};
 ghost use Rattle.floats.specs.Floats.{bookFloat};
 ghost use Rattle.book_format.specs.Format.{Sized};
-ghost use Rattle.book_format.specs.Format.{linkLength, originOffset, destinationLink, linkAt, originAt, legAt, sampleFrom, sampleAt, samplePatterns, headPatterns, floatOf};
-ghost use Rattle.book_format.specs.Rows.{measuredOf, badSampleFrom, badSample};
+ghost use Rattle.book_format.specs.Format.{linkLength, originOffset, destinationLink, linkAt, originAt, legAt};
+ghost use Rattle.book_format.specs.Format.{sampleFrom, sampleAt, samplePatterns, headPatterns, floatOf};
+ghost use Rattle.book_format.specs.Rows.{measuredOf, outsideLimits, badSampleFrom, badSample, sampleFalls};
 
 // The counts of a book, and where the first row of each section but the links' stands.
 pub struct Sections {
@@ -302,4 +304,18 @@ pub fn head_patterns(book: &[u8], s: Sections) -> HeadPatterns
         departure,
         length,
     }
+}
+
+// Whether a count is outside 1 to its limit (row 3).
+pub fn is_outside(limit: usize, n: usize) -> bool
+    ensures { λ r. ⌜ r ≡ outsideLimits limit n ⌝ }
+{
+    (n == 0) | (limit < n)
+}
+
+// Whether sample b, which comes after a, is no later, or further back (row 7).
+pub fn sample_falls(a: Sample, b: Sample) -> bool
+    ensures { λ r. ⌜ r ≡ sampleFalls a b ⌝ }
+{
+    !(a.time < b.time) | (b.offset < a.offset)
 }

@@ -1,6 +1,6 @@
 -- What a readable book says of one leg: its parent stands above it, it has a sample, and its samples lie within the book's.
 use mathlib.Core.Path.{_≡_, refl, sym, ap, _∙_, subst}
-use mathlib.Core.Bool.{Bool, true, false, not, _&&_, _||_}
+use mathlib.Core.Bool.{Bool, true, false, not, _&&_, _||_, or-true, or-false}
 use mathlib.Core.List.{List}
 use Prim.Native.Nat.{ℕ, zero, suc, _+_, _-_, _*_, _≤_, _<_}
 use native.Mathlib.Nat.{le-refl}
@@ -110,16 +110,8 @@ module _ (b : List ℕ) (i end first : ℕ) (l : Leg) (e : l ≡ legAt b i) (f :
       ∙ ap (λ (n : ℕ). fallsFrom b n (l .samples)) g
       ∙ ap (λ (n : ℕ). fallsFrom b (firstSample b i) n) (leg-samples b i l e)
       ∙ sym (legFalls-is b i)
-      ∙ sym (or-none (legFalls b i))
+      ∙ sym (or-false (legFalls b i))
       ∙ ap (λ (u : Bool). legFalls b i || not u) (sym (begins-known t d ∙ y))
-    where
-      or-none : (a : Bool) → (a || false) ≡ a
-      or-none true = refl
-      or-none false = refl
 
   pub fails-elsewhere : (t : Bool) → t ≡ beginsAt b (l .parent) end first → t ≡ false → true ≡ (legFalls b i || not (legBegins b i))
-  fails-elsewhere t d n = sym (or-some (legFalls b i)) ∙ ap (λ (u : Bool). legFalls b i || not u) (sym (begins-known t d ∙ n))
-    where
-      or-some : (a : Bool) → (a || true) ≡ true
-      or-some true = refl
-      or-some false = refl
+  fails-elsewhere t d n = sym (or-true (legFalls b i)) ∙ ap (λ (u : Bool). legFalls b i || not u) (sym (begins-known t d ∙ n))

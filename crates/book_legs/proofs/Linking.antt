@@ -5,18 +5,19 @@ use mathlib.Core.List.{List}
 use Prim.Native.Nat.{ℕ, zero, suc, _+_, _*_, _≤_, _<_}
 use native.Mathlib.Numerals.{add-one}
 use native.Mathlib.Omega.{arith}
-use lib.Dec.{T}
-use lib.ListN.{length, getD, set}
+use lib.ListN.{length, getD}
 use Rattle.laws.specs.Below.{someBelow, sumBelow}
-use Rattle.laws.proofs.Below.{none-more, some-at, none-left, none-right}
+use Rattle.laws.proofs.Below.{none-more, some-at}
+use Rattle.laws.proofs.Truth.{or-left, or-right, none-left, none-right, neither}
 use Rattle.space.specs.Space.{zeros}
 use Rattle.space.proofs.Zeros.{zeros-length}
 use Rattle.book_format.specs.declared.Sections.{Sections}
 use Rattle.book_format.specs.declared.Leg.{Leg}
 use Rattle.book_format.specs.Format.{legs, legParent, legSamples, firstSample, legAt}
 use Rattle.book_format.specs.Rows.{legFalls, legBegins}
-use Rattle.book_format.specs.Chains.{linked, Readable}
+use Rattle.book_format.specs.Chains.{withLeg, linked, allLinked, Readable}
 use Rattle.book_format.proofs.Given.{leg-parent, leg-samples}
+use Rattle.book_legs.specs.Legs.{samplesFail}
 use Rattle.book_legs.proofs.Counts.{LegIn, leg-in, first-next}
 use Rattle.book_legs.proofs.Chains.{Room, linked-length, linked-ends}
 
@@ -47,34 +48,28 @@ linking-end {b} {len} {cells} {i} h l g p e =
 
 -- a leg that fails
 pub linking-found : (b : List ℕ) (i : ℕ) → i < legs b → (legFalls b i || not (legBegins b i)) ≡ true
-    → true ≡ (someBelow (legs b) (legFalls b) || someBelow (legs b) (λ j. not (legBegins b j)))
+    → true ≡ samplesFail b
 linking-found b i g e = go (legFalls b i) (not (legBegins b i)) refl refl e
   where
-    go : (x y : Bool) → legFalls b i ≡ x → not (legBegins b i) ≡ y → (x || y) ≡ true → true ≡ (someBelow (legs b) (legFalls b) || someBelow (legs b) (λ j. not (legBegins b j)))
-    go true y p q t = sym (ap (λ (u : Bool). u || someBelow (legs b) (λ j. not (legBegins b j))) (some-at (legs b) (legFalls b) i g p))
-    go false y p q t = sym (ap (λ (u : Bool). someBelow (legs b) (legFalls b) || u) (some-at (legs b) (λ j. not (legBegins b j)) i g (q ∙ t)) ∙ either (someBelow (legs b) (legFalls b)))
-      where
-        either : (a : Bool) → (a || true) ≡ true
-        either true = refl
-        either false = refl
+    go : (x y : Bool) → legFalls b i ≡ x → not (legBegins b i) ≡ y → (x || y) ≡ true → true ≡ samplesFail b
+    go true y p q t = sym (or-left (someBelow (legs b) (legFalls b)) (someBelow (legs b) (λ j. not (legBegins b j))) (some-at (legs b) (legFalls b) i g p))
+    go false y p q t = sym (or-right (someBelow (legs b) (legFalls b)) (someBelow (legs b) (λ j. not (legBegins b j))) (some-at (legs b) (λ j. not (legBegins b j)) i g (q ∙ t)))
 
 -- a leg that is linked
-linked-one : (b : List ℕ) (i : ℕ) (w : List ℕ) → linked b (i + 1) w ≡ set (set (set (linked b i w) ((i + 1) * 8 + 1) (getD (linked b i w) (legParent b i * 8) 0)) (legParent b i * 8) (i + 1)) ((i + 1) * 8 + 2) (firstSample b (i + 1))
+linked-one : (b : List ℕ) (i : ℕ) (w : List ℕ) → linked b (i + 1) w ≡ withLeg (linked b i w) (i + 1) (legParent b i) (firstSample b (i + 1))
 unfolding linked
 linked-one b i w = ap (λ (n : ℕ). linked b n w) (add-one i)
 
 pub linking-on : {b : List ℕ} {len : ℕ} {cells : List ℕ} {i first : ℕ} → Linking b len cells i first → i < legs b → (legFalls b i || not (legBegins b i)) ≡ false
-    → (l : Leg) → l ≡ legAt b i → (cells′ : List ℕ)
-    → cells′ ≡ set (set (set cells ((i + 1) * 8 + 1) (getD cells (l .parent * 8) 0)) (l .parent * 8) (i + 1)) ((i + 1) * 8 + 2) (first + l .samples)
-    → Linking b len cells′ (i + 1) (first + l .samples)
+    → (l : Leg) → l ≡ legAt b i → (cells′ : List ℕ) → cells′ ≡ withLeg cells (i + 1) (l .parent) (first + l .samples) → Linking b len cells′ (i + 1) (first + l .samples)
 linking-on {b} {len} {cells} {i} {first} k g e l d cells′ w =
     let n : first + l .samples ≡ firstSample b (i + 1) = ap (λ (x : ℕ). x + l .samples) (k .begun) ∙ ap (λ (x : ℕ). firstSample b i + x) (leg-samples b i l d) ∙ sym (first-next b i) in
     record {
       is =
           w
-          ∙ ap (λ (v : List ℕ). set (set (set v ((i + 1) * 8 + 1) (getD v (l .parent * 8) 0)) (l .parent * 8) (i + 1)) ((i + 1) * 8 + 2) (first + l .samples)) (k .is)
-          ∙ ap (λ (p : ℕ). set (set (set (linked b i (zeros len)) ((i + 1) * 8 + 1) (getD (linked b i (zeros len)) (p * 8) 0)) (p * 8) (i + 1)) ((i + 1) * 8 + 2) (first + l .samples)) (leg-parent b i l d)
-          ∙ ap (λ (x : ℕ). set (set (set (linked b i (zeros len)) ((i + 1) * 8 + 1) (getD (linked b i (zeros len)) (legParent b i * 8) 0)) (legParent b i * 8) (i + 1)) ((i + 1) * 8 + 2) x) n
+          ∙ ap (λ (v : List ℕ). withLeg v (i + 1) (l .parent) (first + l .samples)) (k .is)
+          ∙ ap (λ (p : ℕ). withLeg (linked b i (zeros len)) (i + 1) p (first + l .samples)) (leg-parent b i l d)
+          ∙ ap (withLeg (linked b i (zeros len)) (i + 1) (legParent b i)) n
           ∙ sym (linked-one b i (zeros len));
       begun = n;
       falls = none-more i (legFalls b) (k .falls) (none-left (legFalls b i) (not (legBegins b i)) e);
@@ -84,13 +79,11 @@ linking-on {b} {len} {cells} {i} {first} k g e l d cells′ w =
 
 -- all legs are linked
 pub linking-done : {b w cells : List ℕ} {i first : ℕ} → Linking b (length w) cells i first → w ≡ zeros (length w) → legs b ≤ i
-    → (false ≡ (someBelow (legs b) (legFalls b) || someBelow (legs b) (λ j. not (legBegins b j)))) × (cells ≡ linked b (legs b) w)
+    → (false ≡ samplesFail b) × (cells ≡ allLinked b w)
 linking-done {b} {w} {cells} {i} k z h =
     let e : i ≡ legs b = omega (arith, k .within) in (
-      sym (ap (λ (u : Bool). u || someBelow (legs b) (λ j. not (legBegins b j))) (subst (λ (n : ℕ). someBelow n (legFalls b) ≡ false) e (k .falls)) ∙ subst (λ (n : ℕ). someBelow n (λ j. not (legBegins b j)) ≡ false) e (k .begins)),
+      sym
+          (neither (someBelow (legs b) (legFalls b)) (someBelow (legs b) (λ j. not (legBegins b j)))
+          (subst (λ (n : ℕ). someBelow n (legFalls b) ≡ false) e (k .falls)) (subst (λ (n : ℕ). someBelow n (λ j. not (legBegins b j)) ≡ false) e (k .begins))),
       subst (λ (n : ℕ). cells ≡ linked b n (zeros (length w))) e (k .is) ∙ ap (linked b (legs b)) (sym z),
     )
-
--- an answer is not both
-pub not-both : {A : Type 0} → true ≡ false → A
-not-both e = absurd (subst T e tt)

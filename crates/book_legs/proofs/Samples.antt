@@ -16,7 +16,7 @@ use Rattle.book_format.specs.declared.SamplePatterns.{SamplePatterns}
 use Rattle.book_format.specs.declared.HeadPatterns.{HeadPatterns}
 use Rattle.floats.specs.Floats.{bookFloat}
 use Rattle.book_format.specs.Format.{Sized, links, origins, joinBits, lengthBits, linkLength, samples, sampleTime, sampleOffset, sampleSpeed, departureBits, floatOf, sampleAt, samplePatterns, headPatterns}
-use Rattle.book_format.specs.Rows.{badOriginValue, badSample, row4, falls, sameSample}
+use Rattle.book_format.specs.Rows.{badOriginValue, badSample, row4, sampleFalls, falls, sameSample}
 use Rattle.book_format.specs.Chains.{Readable}
 use Rattle.book_format.proofs.Places.{sized-samples}
 use Rattle.book_legs.specs.Legs.{beginsAt, fallsFrom}
@@ -29,19 +29,9 @@ module _ {b : List ℕ} {s : Sections} (r : Readable b s) where
 
 -- ---- two samples, one after the other
 
-sample-is : (b : List ℕ) (k : ℕ) (x : Sample) → x ≡ sampleAt b k → (x .time ≡ floatOf (sampleTime b k)) × (x .offset ≡ floatOf (sampleOffset b k))
-unfolding sampleAt sampleTime sampleOffset
-sample-is b k x e = (ap (λ (y : Sample). y .time) e, ap (λ (y : Sample). y .offset) e)
-
-falls-is : (b : List ℕ) (k : ℕ) (x y : Sample) → x ≡ sampleAt b k → y ≡ sampleAt b (k + 1) → falls b k ≡ (not (lt (x .time) (y .time)) || lt (y .offset) (x .offset))
+pub falls-is : (b : List ℕ) (k : ℕ) (x y : Sample) (r : Bool) → x ≡ sampleAt b k → y ≡ sampleAt b (k + 1) → r ≡ sampleFalls x y → r ≡ falls b k
 unfolding falls
-falls-is b k x y e f = let i = sample-is b k x e in let j = sample-is b (k + 1) y f in cc (i .0, i .1, j .0, j .1)
-
-pub falls-later : (b : List ℕ) (k : ℕ) (x y : Sample) → x ≡ sampleAt b k → y ≡ sampleAt b (k + 1) → lt (x .time) (y .time) ≡ true → lt (y .offset) (x .offset) ≡ falls b k
-falls-later b k x y e f t = sym (falls-is b k x y e f ∙ ap (λ (u : Bool). not u || lt (y .offset) (x .offset)) t)
-
-pub falls-early : (b : List ℕ) (k : ℕ) (x y : Sample) → x ≡ sampleAt b k → y ≡ sampleAt b (k + 1) → lt (x .time) (y .time) ≡ false → true ≡ falls b k
-falls-early b k x y e f t = sym (falls-is b k x y e f ∙ ap (λ (u : Bool). not u || lt (y .offset) (x .offset)) t)
+falls-is b k x y r e f g = g ∙ ap (λ (s : Sample). sampleFalls s y) e ∙ ap (sampleFalls (sampleAt b k)) f
 
 -- ---- all samples of a leg
 

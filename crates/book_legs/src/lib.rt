@@ -1,18 +1,18 @@
-// A book's legs: their chains in the work space, what row 7 says of their samples, and the search for a leg. Contracts: book_format's specs/Chains.antt, specs/Legs.antt.
+// A book's legs: their chains in the work space, what row 7 says of their samples, and the search for a leg.
+// Contracts: book_format's specs/Chains.antt, specs/Legs.antt.
 use book_format::Leg;
 use book_format::Sections;
 ghost use mathlib.Core.Path.{_≡_};
-ghost use mathlib.Core.Bool.{true, false, not, _||_, _&&_, cond};
+ghost use mathlib.Core.Bool.{false, not, _||_};
 ghost use mathlib.Core.List.{List};
 ghost use Prim.Native.Nat.{ℕ, _+_, _*_, _-_, _≤_, _<_};
-ghost use lib.Dec.{eqb};
-ghost use lib.ListN.{length, getD, set};
-ghost use Rattle.laws.specs.Below.{someBelow};
+ghost use lib.ListN.{length};
 ghost use Rattle.space.specs.Space.{zeros};
 ghost use Rattle.book_format.specs.Format.{Sized, links, legs, samples, legParent, firstSample};
 ghost use Rattle.book_format.specs.Rows.{falls, sameSample, legFalls, legBegins};
-ghost use Rattle.book_format.specs.Chains.{Readable, Chained, linked};
-ghost use Rattle.book_legs.specs.Legs.{legSearch, takenBy, takenLeg, Started, beginsAt, fallsFrom, Named, SameBut, InCells};
+ghost use Rattle.book_format.specs.Chains.{Readable, Chained, withLeg, allLinked};
+ghost use Rattle.book_legs.specs.Legs.{legSearch, takenLeg, Started, samplesFail, beginsAt, fallsFrom};
+ghost use Rattle.book_legs.specs.Legs.{namedStart, Named, SameButStarts, legIn, InCells, TakenFrom};
 
 // A leg that was sought: its number, or that there is none.
 pub enum LegSearch {
@@ -41,11 +41,7 @@ fn sample_falls(book: &[u8], s: Sections, k: usize) -> bool
 {
     let a = book_format::sample_at(book, s, k);
     let b = book_format::sample_at(book, s, k + 1);
-    if a.time < b.time {
-        b.offset < a.offset
-    } else {
-        true
-    }
+    book_format::sample_falls(a, b)
 }
 
 // Whether some sample of a leg falls.
@@ -104,7 +100,7 @@ fn link_leg(cells: &mut [u32], j: usize, parent: usize, end: usize)
     requires { ⌜ parent * 8 < length (now cells) ⌝ }
     requires { ⌜ j ≤ 65535 ⌝ }
     requires { ⌜ end ≤ 1000000 ⌝ }
-    ensures { λ _. ⌜ now (cells .exit) ≡ set (set (set (now (cells .entry)) (j * 8 + 1) (getD (now (cells .entry)) (parent * 8) 0)) (parent * 8) j) (j * 8 + 2) end ⌝ }
+    ensures { λ _. ⌜ now (cells .exit) ≡ withLeg (now (cells .entry)) j parent end ⌝ }
 {
     let before = cells[parent * 8];
     cells[j * 8 + 1] = before;
@@ -130,13 +126,14 @@ fn leg_fails(book: &[u8], s: Sections, i: usize, end: usize, first: usize) -> bo
     }
 }
 
-// Links each leg to its parent in the cells, and tells whether some leg's samples fall or don't begin where they must (row 7).
+// Links each leg to its parent in the cells, and tells whether some leg's samples fall or don't begin where they must
+// (row 7).
 pub fn link_legs(book: &[u8], s: Sections, cells: &mut [u32]) -> bool
     requires { ⌜ Readable (now book) s ⌝ }
     requires { ⌜ (legs (now book) + 1) * 8 ≤ length (now cells) ⌝ }
     requires { ⌜ now cells ≡ zeros (length (now cells)) ⌝ }
-    ensures answer { λ r. ⌜ r ≡ (someBelow (legs (now (book .entry))) (legFalls (now (book .entry))) || someBelow (legs (now (book .entry))) (λ i. not (legBegins (now (book .entry)) i))) ⌝ }
-    ensures chains { λ r. ⌜ (r ≡ false → now (cells .exit) ≡ linked (now (book .entry)) (legs (now (book .entry))) (now (cells .entry))) ⌝ }
+    ensures answer { λ r. ⌜ r ≡ samplesFail (now (book .entry)) ⌝ }
+    ensures chains { λ r. ⌜ (r ≡ false → now (cells .exit) ≡ allLinked (now (book .entry)) (now (cells .entry))) ⌝ }
 {
     let mut i = 0;
     let mut first = 0;
@@ -177,7 +174,7 @@ pub fn find_leg(book: &[u8], s: Sections, cells: &[u32], parent: u32, link_idx: 
 pub fn leg_samples(cells: &[u32], number: u32) -> TakenLeg
     requires { ⌜ 0 < number ⌝ }
     requires { ⌜ number * 8 + 2 < length (now cells) ⌝ }
-    ensures { λ r. ⌜ r ≡ record { number = number; first = getD (now (cells .entry)) ((number - 1) * 8 + 2) 0; end = getD (now (cells .entry)) (number * 8 + 2) 0 } ⌝ }
+    ensures { λ r. ⌜ r ≡ legIn (now (cells .entry)) number ⌝ }
 {
     let at = number as usize;
     let first = cells[(at - 1) * 8 + 2] as usize;
@@ -188,7 +185,7 @@ pub fn leg_samples(cells: &[u32], number: u32) -> TakenLeg
 // A leg that was sought, to be taken: "The leg is found or the book is refused with 10".
 fn take_found(cells: &[u32], found: LegSearch) -> Taken
     requires { ⌜ InCells (length (now cells)) found ⌝ }
-    ensures { λ r. ⌜ ((b : List ℕ) → Chained b (now (cells .entry)) → InCells ((legs b + 1) * 8) found → r ≡ takenBy b found) ⌝ }
+    ensures { λ r. ⌜ TakenFrom (now (cells .entry)) found r ⌝ }
 {
     let LegSearch::Found(number) = found else {
         return Taken::Refused(10);
@@ -213,7 +210,7 @@ pub fn take_leg(book: &[u8], s: Sections, cells: &[u32], parent: u32, link_idx: 
 // Names a leg at its link, if it is a starting leg.
 fn name_start(starts: &mut [u32], leg: Leg, number: u32)
     requires { ⌜ leg .«link_idx» < length (now starts) ⌝ }
-    ensures { λ _. ⌜ now (starts .exit) ≡ cond (eqb (leg .parent) 0) (set (now (starts .entry)) (leg .«link_idx») number) (now (starts .entry)) ⌝ }
+    ensures { λ _. ⌜ now (starts .exit) ≡ namedStart (now (starts .entry)) leg number ⌝ }
 {
     if leg.parent == 0 {
         starts[leg.link_idx as usize] = number;
@@ -235,12 +232,13 @@ fn name_starts(book: &[u8], s: Sections, starts: &mut [u32])
     }
 }
 
-// Names each starting leg at its link, in the marks behind the links' own: so the leg of an origin is found without a walk.
+// Names each starting leg at its link, in the marks behind the links' own: so the leg of an origin is found without
+// a walk.
 pub fn mark_starts(book: &[u8], s: Sections, marks: &mut [u32])
     requires { ⌜ Readable (now book) s ⌝ }
     requires { ⌜ 2 * links (now book) ≤ length (now marks) ⌝ }
     ensures starts { λ _. ⌜ Started (now (book .entry)) (now (marks .exit)) ⌝ }
-    ensures others { λ _. ⌜ SameBut (links (now (book .entry))) (2 * links (now (book .entry))) (now (marks .entry)) (now (marks .exit)) ⌝ }
+    ensures others { λ _. ⌜ SameButStarts (now (book .entry)) (now (marks .entry)) (now (marks .exit)) ⌝ }
 {
     let from = s.links;
     let to = 2 * s.links;

@@ -1,6 +1,6 @@
 -- The end of the search: the stack is empty, and the marks hold the answer.
 use mathlib.Core.Path.{_≡_, refl, sym, ap, _∙_, subst}
-use mathlib.Core.Bool.{Bool, true, false, _||_, cond, true≢false}
+use mathlib.Core.Bool.{Bool, true, false, _||_, cond, true≢false, or-true}
 use mathlib.Core.List.{List, [], _∷_}
 use Prim.Native.Nat.{ℕ, _+_, _*_, _%_, _<_}
 use native.Mathlib.Omega.{arith}
@@ -54,10 +54,6 @@ module _ {b m : List ℕ} {w : Walk} (v : Walking b m w) (h : w .top ≡ 0) wher
       empty : (s : List ℕ) → length s ≡ 0 → none s ≡ true
       empty [] d = refl
       empty (x ∷ s) d = absurd (omega arith)
-
-      or-true : (t : Bool) → (t || true) ≡ true
-      or-true true = refl
-      or-true false = refl
 
   pub walk-some : someBelow (destinations b) (λ i. eqb (destinationLink b i) 0) ≡ false → (w .kept ≡ 0 → ⊥) → Kept (w .kept) ≡ linkOptions b
   unfolding linkOptions row8

@@ -11,7 +11,8 @@ use lib.Seq.{getD-at}
 use Rattle.book_format.specs.Format.{origins, destinations, links, originLink}
 use Rattle.book_options.specs.Options.{member, originBelow, stacked, enter, search, optionsOf, keptOrigins}
 use Rattle.book_options.specs.Turns.{outsideSet, unmet}
-use Rattle.book_options.proofs.Laws.{either, is-outside}
+use Rattle.laws.proofs.Truth.{equal-or-not}
+use Rattle.book_options.proofs.Laws.{is-outside}
 use Rattle.book_options.proofs.Starts.{outside-empty, sum-ones}
 use Rattle.book_options.proofs.Walks.{origin-is, unmet-less, unmet-falls}
 
@@ -21,7 +22,7 @@ record Rows (b s kept : List ℕ) : Type 0 where
 
 module _ (b stack s kept : List ℕ) (v : Rows b s kept) (l : ℕ) where
   kept-more : (o : ℕ) → o < origins b → (k : ℕ) → k < length (kept ++ (o ∷ [])) → getD (kept ++ (o ∷ [])) k 0 < origins b
-  kept-more o h k g = go (either k (length kept))
+  kept-more o h k g = go (equal-or-not k (length kept))
     where
       go : (k ≡ length kept) ⊎ (k ≡ length kept → ⊥) → getD (kept ++ (o ∷ [])) k 0 < origins b
       go (inl e) = subst (λ (x : ℕ). x < origins b) (sym (getD-at kept o [] 0 k (sym e))) h

@@ -1,27 +1,19 @@
--- Laws of the set, of sums over it, of the stack, and of a store into the marks.
+-- Laws of the set, of the stack, and of a store into the marks.
 use mathlib.Core.Path.{_≡_, refl, sym, ap, _∙_, subst}
 use mathlib.Core.Logic.{_⊎_, inl, inr}
 use mathlib.Core.Bool.{Bool, true, false, _||_, cond}
 use mathlib.Core.List.{List, [], _∷_, _++_}
 use Prim.Native.Nat.{ℕ, zero, suc, _+_, _*_, _≤_, _<_}
-use native.Mathlib.Nat.{not-suc-le-zero}
 use native.Mathlib.Numerals.{add-one}
 use native.Mathlib.Omega.{arith}
-use borrow.Author.Tests.{eqb-true, eqb-false, eq-eqb, ne-eqb}
-use lib.Dec.{eqb}
+use borrow.Author.Tests.{eq-eqb, ne-eqb}
 use lib.ListN.{length, getD, set, length-append, List·getD-append}
-use lib.Seq.{getD-set-same, getD-set-other, getD-at}
-use Rattle.laws.specs.Below.{sumBelow}
+use lib.Seq.{getD-at}
+use Rattle.laws.proofs.Truth.{equal-or-not}
+use Rattle.laws.proofs.Lists.{stored-at, kept-at}
 use Rattle.book_format.specs.Format.{links, origins, destinations}
 use Rattle.book_options.specs.Options.{member, originBelow}
 use Rattle.book_options.specs.Turns.{stackAt, outsideSet, even, SearchIn}
-
-pub either : (a b : ℕ) → (a ≡ b) ⊎ (a ≡ b → ⊥)
-either a b = go (eqb a b) refl
-  where
-    go : (t : Bool) → eqb a b ≡ t → (a ≡ b) ⊎ (a ≡ b → ⊥)
-    go true e = inl (eqb-true a b e)
-    go false e = inr (eqb-false a b e)
 
 -- ---- the set
 
@@ -42,7 +34,7 @@ outside-most l s = go (member l s)
     go false = omega arith
 
 pub outside-less : (l x : ℕ) (s : List ℕ) → outsideSet (l ∷ s) x ≤ outsideSet s x
-outside-less l x s = go (either x l)
+outside-less l x s = go (equal-or-not x l)
   where
     go : (x ≡ l) ⊎ (x ≡ l → ⊥) → outsideSet (l ∷ s) x ≤ outsideSet s x
     go (inl e) = subst (λ (y : ℕ). outsideSet (l ∷ s) y ≤ outsideSet s y) (sym e) (omega (arith, outside-itself l s))
@@ -68,35 +60,6 @@ pub is-outside : (l : ℕ) (s : List ℕ) → member l s ≡ false → outsideSe
 unfolding outsideSet
 is-outside l s h = ap (λ (t : Bool). cond t 0 1) h
 
--- ---- sums
-
-pub sum-same : (n : ℕ) (f g : ℕ → ℕ) → ((i : ℕ) → i < n → f i ≡ g i) → sumBelow n f ≡ sumBelow n g
-unfolding sumBelow
-sum-same zero f g h = refl
-sum-same (suc n) f g h =
-    let a : sumBelow n f ≡ sumBelow n g = sum-same n f g (λ i l. h i (omega arith)) in
-    let e : f n ≡ g n = h n (omega arith) in
-    omega arith
-
-pub sum-most : (n : ℕ) (f g : ℕ → ℕ) → ((i : ℕ) → f i ≤ g i) → sumBelow n f ≤ sumBelow n g
-unfolding sumBelow
-sum-most zero f g h = omega arith
-sum-most (suc n) f g h = omega (arith, sum-most n f g h, h n)
-
--- where no number rises and one falls, so does the sum
-pub sum-falls : (n : ℕ) (f g : ℕ → ℕ) (j : ℕ) → ((i : ℕ) → f i ≤ g i) → j < n → f j < g j → sumBelow n f < sumBelow n g
-unfolding sumBelow
-sum-falls zero f g j h l d = absurd (not-suc-le-zero l)
-sum-falls (suc n) f g j h l d = go (either j n) (sum-falls n f g j h)
-  where
-    go : (j ≡ n) ⊎ (j ≡ n → ⊥) → (j < n → f j < g j → sumBelow n f < sumBelow n g) → sumBelow n f + f n < sumBelow n g + g n
-    go (inl e) ih =
-        let x : f n < g n = subst (λ (k : ℕ). f k < g k) e d in
-        omega (arith, sum-most n f g h)
-    go (inr e) ih =
-        let k : j < n = omega arith in
-        omega (arith, ih k d, h n)
-
 -- ---- the stack
 
 pub stack-same : (m m′ : List ℕ) (at n : ℕ) → ((i : ℕ) → i < n → getD m′ (at + i) 0 ≡ getD m (at + i) 0) → stackAt m′ at n ≡ stackAt m at n
@@ -111,14 +74,6 @@ pub stack-one : (m : List ℕ) (at n : ℕ) → stackAt m at (n + 1) ≡ getD m 
 unfolding stackAt
 stack-one m at n = ap (stackAt m at) (add-one n)
 
--- ---- stores
-
-pub kept-at : (m : List ℕ) (i j v : ℕ) → (j ≡ i → ⊥) → getD (set m i v) j 0 ≡ getD m j 0
-kept-at m i j v h = getD-set-other m i j v 0 h
-
-pub stored-at : (m : List ℕ) (i j v : ℕ) → j ≡ i → i < length m → getD (set m i v) j 0 ≡ v
-stored-at m i j v e h = ap (λ (k : ℕ). getD (set m i v) k 0) e ∙ getD-set-same m i v 0 h
-
 -- a link more on the stack
 pub stack-pushed : (m : List ℕ) (at n i x : ℕ) → i ≡ at + n → i < length m → stackAt (set m i x) at (n + 1) ≡ x ∷ stackAt m at n
 stack-pushed m at n i x e h =
@@ -130,7 +85,7 @@ module _ {b m : List ℕ} {top n : ℕ} {s kept : List ℕ} (v : SearchIn b m to
   pub holds-fewer : (t : ℕ) → t ≤ top → SearchIn b m t n s kept
   holds-fewer t h = record { within = λ i l. v .within i (omega arith); marks = v .marks; many = v .many; rows = v .rows }
 
-  -- an even mark is a link's outsideSet the set, and twice its origin's number
+  -- an even mark is that of a link outside the set, and twice its origin's number
   pub mark-even : (l : ℕ) → l < links b → even m l ≡ outsideSet s l
   unfolding even
   mark-even l h = omega (arith, v .marks l h, outside-most l s)
@@ -138,7 +93,7 @@ module _ {b m : List ℕ} {top n : ℕ} {s kept : List ℕ} (v : SearchIn b m to
   pub holds-enter : (l x : ℕ) → l < links b → l < length m → outsideSet s l ≡ 1 → x ≡ getD m l 0 + 1 → SearchIn b (set m l x) top n (l ∷ s) kept
   holds-enter l x h r o e = record {
     within = λ i g. subst (λ (k : ℕ). k < links b) (sym (kept-at m l (links b + i) x (λ (d : links b + i ≡ l). omega arith))) (v .within i g);
-    marks = λ k g. entered k g (either k l);
+    marks = λ k g. entered k g (equal-or-not k l);
     many = v .many;
     rows = λ k g. kept-at m l (2 * links b + destinations b + k) x (λ (d : 2 * links b + destinations b + k ≡ l). omega arith) ∙ v .rows k g;
   }
@@ -151,7 +106,7 @@ module _ {b m : List ℕ} {top n : ℕ} {s kept : List ℕ} (v : SearchIn b m to
 
   pub holds-push : (i x : ℕ) → i ≡ links b + top → i < length m → top < links b + destinations b → x < links b → SearchIn b (set m i x) (top + 1) n s kept
   holds-push i x e r h g = record {
-    within = λ k l. pushed k l (either k top);
+    within = λ k l. pushed k l (equal-or-not k top);
     marks = λ l d. ap (λ (y : ℕ). y + outsideSet s l) (kept-at m i l x (λ (f : l ≡ i). omega arith)) ∙ v .marks l d;
     many = v .many;
     rows = λ k l. kept-at m i (2 * links b + destinations b + k) x (λ (d : 2 * links b + destinations b + k ≡ i). omega arith) ∙ v .rows k l;
@@ -169,7 +124,7 @@ module _ {b m : List ℕ} {top n : ℕ} {s kept : List ℕ} (v : SearchIn b m to
     within = λ k l. subst (λ (y : ℕ). y < links b) (sym (kept-at m i (links b + k) x (λ (d : links b + k ≡ i). omega arith))) (v .within k l);
     marks = λ l d. ap (λ (y : ℕ). y + outsideSet s l) (kept-at m i l x (λ (f : l ≡ i). omega arith)) ∙ v .marks l d;
     many = ap (λ (y : ℕ). y + 1) (v .many) ∙ sym (length-append kept (x ∷ []));
-    rows = λ k l. row k l (either k n);
+    rows = λ k l. row k l (equal-or-not k n);
   }
     where
       row : (k : ℕ) → k < n + 1 → (k ≡ n) ⊎ (k ≡ n → ⊥) → getD (set m i x) (2 * links b + destinations b + k) 0 ≡ getD (kept ++ (x ∷ [])) k 0

@@ -18,7 +18,8 @@ use Rattle.book_format.specs.Rows.{row5}
 use Rattle.book_options.specs.Options.{member, originBelow, stacked, search, optionsOf}
 use Rattle.book_options.specs.Turns.{DestinationsStacked, Numbered, stackAt, outsideSet, unseenLinks, unmet, Walking}
 use Rattle.book_format.proofs.Given.{destination-named}
-use Rattle.book_options.proofs.Laws.{either, kept-at, stored-at}
+use Rattle.laws.proofs.Truth.{equal-or-not}
+use Rattle.laws.proofs.Lists.{kept-at, stored-at}
 
 -- ---- the destinations
 
@@ -33,7 +34,7 @@ pushed-none b m h e = record {
 pub pushed-more : {b m : List ℕ} {n : ℕ} → DestinationsStacked b n m → (i x : ℕ) → x ≡ destinationLink b n → (x ≡ 0 → ⊥) → i ≡ links b + n → i < length m → DestinationsStacked b (n + 1) (set m i x)
 pushed-more {b} {m} {n} p i x e z d h = record {
   real = none-more n (λ j. eqb (destinationLink b j) 0) (p .real) (ne-eqb (destinationLink b n) 0 (λ (o : destinationLink b n ≡ 0). z (e ∙ o)));
-  stack = λ k l. pushed k l (either k n);
+  stack = λ k l. pushed k l (equal-or-not k n);
   blank = λ l g. kept-at m i l x (λ (o : l ≡ i). omega arith) ∙ p .blank l g;
 }
   where
@@ -53,7 +54,7 @@ numbered-none b m h = record { marks = h; rest = λ i l. refl }
 pub numbered-more : {b d m : List ℕ} {n : ℕ} → Numbered b n d m → (l x : ℕ) → l ≡ originLink b n → x ≡ 2 * (n + 1) → l < links b → links b ≤ length m → Numbered b (n + 1) d (set m l x)
 unfolding originBelow
 numbered-more {b} {d} {m} {n} v l x e f h r = record {
-  marks = λ k g. numbered k g (either k l) ∙ ap (λ (y : ℕ). 2 * originBelow b y k) (sym (add-one n));
+  marks = λ k g. numbered k g (equal-or-not k l) ∙ ap (λ (y : ℕ). 2 * originBelow b y k) (sym (add-one n));
   rest = λ i g. kept-at m l i x (λ (o : i ≡ l). omega arith) ∙ v .rest i g;
 }
   where

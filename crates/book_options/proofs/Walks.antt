@@ -13,7 +13,9 @@ use Rattle.book_options.specs.Options.{member, originBelow, pushed, ente
 use Rattle.book_options.specs.Turns.{stackAt, outsideSet, SearchIn, unseenLinks, unmet, Walking, even, popsLeft, SearchTurned}
 use Rattle.book_options.specs.declared.Walk.{Walk}
 use Rattle.book_format.proofs.Given.{prev-named, prev-alt-named}
-use Rattle.book_options.proofs.Laws.{outside-itself, outside-most, outside-less, in-set, not-in-set, sum-same, sum-most, sum-falls, stack-one, stack-pushed, stack-same, kept-at, mark-even, holds-fewer, holds-enter, holds-push, holds-keep}
+use Rattle.laws.proofs.Lists.{kept-at}
+use Rattle.laws.proofs.Below.{sum-same, sum-most, sum-falls}
+use Rattle.book_options.proofs.Laws.{outside-itself, outside-most, outside-less, in-set, not-in-set, stack-one, stack-pushed, stack-same, mark-even, holds-fewer, holds-enter, holds-push, holds-keep}
 
 -- ---- the definition's turn
 

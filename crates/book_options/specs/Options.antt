@@ -1,6 +1,10 @@
--- `get_link_idx_options`, document 01 under "Options": which links lead to a destination, and which origins are kept, in the order in which they are met.
--- "Destination links go on a stack; each popped link not yet in the set enters it. An origin of that link moves to the end of the kept part by swapping; only if there is none
--- is a real (nonzero) previous pushed, and its alternative only after a real previous." Only the kept part's order is ever read, so the definition appends to it and swaps nothing.
+-- `get_link_idx_options`, document 01 under "Options": the set of the links that the search from the destinations meets,
+-- and which origins are kept, in the order in which they are met.
+-- "Destination links go on a stack; each popped link not yet in the set enters it. An origin of that link moves to the
+-- end of the kept part by swapping; only if there is none is a real (nonzero) previous pushed, and its alternative only
+-- after a real previous." So not every link from which a destination can be reached is in the set: nothing is pushed
+-- behind an origin (links 1 to 2 to 3, origins 1 and 2, destination 3: origin 1 is dropped), nor an alternative alone.
+-- Only the kept part's order is ever read, so the definition appends to it and swaps nothing.
 use mathlib.Core.Path.{_≡_}
 use mathlib.Core.Bool.{Bool, true, false, _||_, cond}
 use mathlib.Core.List.{List, [], _∷_, _++_}
@@ -29,9 +33,12 @@ stacked b (suc n) = destinationLink b n ∷ stacked b n
 
 -- "a real (nonzero) previous pushed, and its alternative only after a real previous"
 unfoldable pub pushed : List ℕ → ℕ → List ℕ → List ℕ
-pushed b l stack = cond (eqb (linkPrev b l) 0) stack (cond (eqb (linkPrevAlt b l) 0) (linkPrev b l ∷ stack) (linkPrevAlt b l ∷ linkPrev b l ∷ stack))
+pushed b l stack =
+    cond (eqb (linkPrev b l) 0) stack
+    (cond (eqb (linkPrevAlt b l) 0) (linkPrev b l ∷ stack)
+    (linkPrevAlt b l ∷ linkPrev b l ∷ stack))
 
--- A state of the search: the stack, its top first; the links that lead to a destination, the latest first; and the kept origins' rows, in order.
+-- A state of the search: the stack, its top first; the set, its latest link first; and the kept origins' rows, in order.
 pub record Search : Type 0 where
   pub stack : List ℕ
   pub set : List ℕ
@@ -43,7 +50,8 @@ enter b l true o stack set kept = record { stack = stack; set = set; kept = kept
 enter b l false zero stack set kept = record { stack = pushed b l stack; set = l ∷ set; kept = kept }
 enter b l false (suc o) stack set kept = record { stack = stack; set = l ∷ set; kept = kept ++ (o ∷ []) }
 
--- The loop over the stack, for so many pops. A link enters the set once and pushes at most two, so destinations + 2 * links pops empty the stack.
+-- The loop over the stack, for so many pops. A link enters the set once and pushes at most two, so destinations
+-- + 2 * links pops empty the stack.
 unfoldable pub search : ℕ → List ℕ → List ℕ → List ℕ → List ℕ → Search
 unfolding enter
 search zero b stack set kept = record { stack = stack; set = set; kept = kept }
@@ -56,7 +64,7 @@ unfoldable pub optionsOf : List ℕ → Search
 unfolding search
 optionsOf b = search (destinations b + 2 * links b) b (stacked b (destinations b)) [] []
 
--- whether a link leads to a destination
+-- whether a link is in the set
 unfoldable pub inSet : List ℕ → ℕ → Bool
 unfolding optionsOf
 inSet b l = member l (optionsOf b .set)
@@ -72,24 +80,26 @@ abbrev pub none : List ℕ → Bool
 none [] = true
 none (x ∷ xs) = false
 
+abbrev pub destinationZero : List ℕ → Bool
+destinationZero b = someBelow (destinations b) (λ i. eqb (destinationLink b i) 0)
+
 unfoldable pub row8 : List ℕ → Bool
-row8 b = someBelow (destinations b) (λ i. eqb (destinationLink b i) 0) || none (keptOrigins b)
+row8 b = destinationZero b || none (keptOrigins b)
 
 -- what the search answers, and document 01's number for it
-abbrev pub pick : Bool → LinkOptions → LinkOptions → LinkOptions
-pick true a b = a
-pick false a b = b
-
 unfoldable pub linkOptions : List ℕ → LinkOptions
 unfolding row8
-linkOptions b = pick (row8 b) NoPath (Kept (length (keptOrigins b)))
+linkOptions b = cond (row8 b) NoPath (Kept (length (keptOrigins b)))
 
 abbrev pub optionsNumber : LinkOptions → ℕ
 optionsNumber NoPath = 8
 optionsNumber (Kept n) = 0
 
--- What the marks then say. Each link has one mark, which is odd for a link of the set; the kept origins' rows stand behind the links' marks and the stack,
--- which has room for destinations + links.
+-- What the marks then say. Each link has one mark, which is odd for a link of the set; the kept origins' rows stand
+-- behind the links' marks and the stack, which has room for destinations + links.
+abbrev pub keptAt : List ℕ → ℕ
+keptAt b = 2 * links b + destinations b
+
 pub record OptionsIn (b marks : List ℕ) : Type 0 where
   pub set : (l : ℕ) → l < links b → eqb (getD marks l 0 % 2) 1 ≡ inSet b l
-  pub kept : (k : ℕ) → k < length (keptOrigins b) → getD marks (2 * links b + destinations b + k) 0 ≡ getD (keptOrigins b) k 0
+  pub kept : (k : ℕ) → k < length (keptOrigins b) → getD marks (keptAt b + k) 0 ≡ getD (keptOrigins b) k 0

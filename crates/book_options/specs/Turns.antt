@@ -16,17 +16,23 @@ pub record DestinationsStacked (b : List ℕ) (n : ℕ) (m : List ℕ) : Type 0 
   pub stack : (i : ℕ) → i < n → getD m (links b + i) 0 ≡ destinationLink b i
   pub blank : (l : ℕ) → l < links b → getD m l 0 ≡ 0
 
+abbrev pub AllStacked : List ℕ → List ℕ → Type 0
+AllStacked b m = DestinationsStacked b (destinations b) m
+
 -- The links' marks tell the first n origins; what stands behind them is what stood there in d.
 pub record Numbered (b : List ℕ) (n : ℕ) (d m : List ℕ) : Type 0 where
   pub marks : (l : ℕ) → l < links b → getD m l 0 ≡ 2 * originBelow b n l
   pub rest : (i : ℕ) → links b ≤ i → getD m i 0 ≡ getD d i 0
+
+abbrev pub AllNumbered : List ℕ → List ℕ → List ℕ → Type 0
+AllNumbered b d m = Numbered b (origins b) d m
 
 -- the n links of the stack, the top first
 unfoldable pub stackAt : List ℕ → ℕ → ℕ → List ℕ
 stackAt m at zero = []
 stackAt m at (suc n) = getD m (at + n) 0 ∷ stackAt m at n
 
--- 1 for a link outsideSet the set
+-- 1 for a link outside the set
 unfoldable pub outsideSet : List ℕ → ℕ → ℕ
 outsideSet set l = cond (member l set) 0 1
 
@@ -47,8 +53,8 @@ unfoldable pub unmet : List ℕ → List ℕ → ℕ
 unfolding outsideSet
 unmet b set = sumBelow (origins b) (λ i. outsideSet set (originLink b i))
 
--- The search goes on from a state that the marks hold, with pops enough for the stack and for what the unseenLinks links can push, with room for these,
--- and room for the origins that are not met yet.
+-- The search goes on from a state that the marks hold, with pops enough for the stack and for what the links outside
+-- the set can push, with room for these, and room for the origins that are not met yet.
 pub record Walking (b m : List ℕ) (w : Walk) : Type 0 where
   pub left : ℕ
   pub set : List ℕ

@@ -1,18 +1,17 @@
-// `get_link_idx_options`: the links that lead to a destination, and the origins kept (row 8). Contracts: specs/Options.antt, specs/Turns.antt.
+// `get_link_idx_options`: the set of the links that the search from the destinations meets, and the origins kept (row 8).
+// Contracts: specs/Options.antt, specs/Turns.antt.
 use book_format::Sections;
 ghost use mathlib.Core.Path.{_≡_};
 ghost use mathlib.Core.Bool.{true, false};
 ghost use Prim.Native.Nat.{ℕ, _+_, _*_, _≤_, _<_};
-ghost use lib.Dec.{eqb};
 ghost use lib.ListN.{length, getD};
-ghost use Rattle.laws.specs.Below.{someBelow};
 ghost use Rattle.space.specs.Space.{zeros};
-ghost use Rattle.book_format.specs.Format.{Sized, links, origins, destinations, destinationLink};
+ghost use Rattle.book_format.specs.Format.{Sized, links, origins, destinations};
 ghost use Rattle.book_format.specs.Rows.{badCount, row4, row5, row6};
-ghost use Rattle.book_options.specs.Options.{row8, linkOptions, OptionsIn};
-ghost use Rattle.book_options.specs.Turns.{DestinationsStacked, Numbered, Walking, SearchTurned};
+ghost use Rattle.book_options.specs.Options.{destinationZero, row8, linkOptions, OptionsIn};
+ghost use Rattle.book_options.specs.Turns.{AllStacked, AllNumbered, Walking, SearchTurned};
 
-// What the search found: how many origins are kept, or that no path leads from an origin to a destination.
+// What the search found: how many origins are kept, or that a destination is link 0 or no origin is kept (row 8).
 pub enum LinkOptions {
     Kept(usize),
     NoPath,
@@ -29,8 +28,8 @@ fn push_destinations(book: &[u8], s: Sections, marks: &mut [u32]) -> bool
     requires { ⌜ Sized (now book) s ⌝ }
     requires { ⌜ links (now book) + destinations (now book) ≤ length (now marks) ⌝ }
     requires { ⌜ now marks ≡ zeros (length (now marks)) ⌝ }
-    ensures zero { λ r. ⌜ (r ≡ false → someBelow (destinations (now (book .entry))) (λ i. eqb (destinationLink (now (book .entry)) i) 0) ≡ true) ⌝ }
-    ensures pushed { λ r. ⌜ (r ≡ true → DestinationsStacked (now (book .entry)) (destinations (now (book .entry))) (now (marks .exit))) ⌝ }
+    ensures zero { λ r. ⌜ (r ≡ false → destinationZero (now (book .entry)) ≡ true) ⌝ }
+    ensures pushed { λ r. ⌜ (r ≡ true → AllStacked (now (book .entry)) (now (marks .exit))) ⌝ }
 {
     let base = s.links;
     let n = s.destinations;
@@ -54,7 +53,7 @@ fn mark_origins(book: &[u8], s: Sections, marks: &mut [u32])
     requires { ⌜ row5 (now book) ≡ false ⌝ }
     requires { ⌜ links (now book) ≤ length (now marks) ⌝ }
     requires { ⌜ ((l : ℕ) → l < links (now book) → getD (now marks) l 0 ≡ 0) ⌝ }
-    ensures { λ _. ⌜ Numbered (now (book .entry)) (origins (now (book .entry))) (now (marks .entry)) (now (marks .exit)) ⌝ }
+    ensures { λ _. ⌜ AllNumbered (now (book .entry)) (now (marks .entry)) (now (marks .exit)) ⌝ }
 {
     let n = s.origins;
     let mut i = 0;

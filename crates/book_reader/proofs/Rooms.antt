@@ -1,22 +1,24 @@
 -- What row 3 leaves: the counts, and room in the lent work space. More work space than is ever asked for counts as 64,000,000 bytes.
 use mathlib.Core.Path.{_≡_, refl, sym, ap, _∙_, subst}
 use mathlib.Core.Bool.{Bool, true, false, not, _||_}
-use mathlib.Core.List.{List, [], _∷_}
+use mathlib.Core.List.{List, _∷_}
 use Prim.Native.Nat.{ℕ, zero, suc, _+_, _*_, _/_, _≤_, _<_, min}
 use native.Mathlib.Omega.{arith}
 use lib.Dec.{eqb, ltb}
-use borrow.Author.Tests.{ltb-false, ltb-true, lt-ltb, le-ltb, eqb-true, eqb-false}
+use lib.ListN.{length}
+use borrow.Author.Tests.{ltb-false, ltb-true, lt-ltb, le-ltb, eqb-true, eqb-false, not-false}
 use Rattle.laws.specs.Below.{someBelow, sumBelow}
-use Rattle.laws.proofs.Below.{none-left, none-right}
-use Rattle.space.specs.Space.{unitsOf, bytesOf}
+use Rattle.laws.specs.Refusals.{row, firstOf}
+use Rattle.laws.proofs.Truth.{none-left, none-right}
+use Rattle.space.specs.Space.{unitsOf, bytesOf, zeros}
 use Rattle.book_format.specs.declared.Sections.{Sections}
 use Rattle.book_format.specs.Format.{Sized, links, origins, destinations, legs, samples, legSamples}
-use Rattle.book_format.specs.Rows.{outsideLimits, badCount, workBytes, row1, row2, row3, row4, row5, row6, row7, lowest}
+use Rattle.book_format.specs.Rows.{outsideLimits, badCount, workBytes, row1, row2, row3}
 use Rattle.book_format.specs.Chains.{Counted}
 use Rattle.book_format.proofs.Given.{limits}
 use Rattle.book_format.proofs.Places.{sized-links}
-use Rattle.book_options.specs.Options.{row8}
-use Rattle.book_reader.specs.Reader.{readNumber}
+use Rattle.book_reader.specs.Reader.{rowsFrom4, readNumber}
+use Rattle.book_reader.specs.Stages.{Blank, allMarks}
 
 row3-is : (b : List ℕ) (p y : ℕ) → row3 b p y ≡ (badCount b || someBelow (legs b) (λ i. eqb (legSamples b i) 0) || not (eqb (sumBelow (legs b) (legSamples b)) (samples b)) || ltb y (workBytes b p))
 unfolding row3
@@ -32,30 +34,23 @@ counted-of b p y e =
     record {
       counts = none-left A B g;
       some = none-right A B g;
-      sums = eqb-true (sumBelow (legs b) (legSamples b)) (samples b) (un-not (eqb (sumBelow (legs b) (legSamples b)) (samples b)) (none-right (A || B) C h));
+      sums = eqb-true (sumBelow (legs b) (legSamples b)) (samples b) (not-false (eqb (sumBelow (legs b) (legSamples b)) (samples b)) (none-right (A || B) C h));
     }
-  where
-    un-not : (t : Bool) → not t ≡ false → t ≡ true
-    un-not true e = refl
-    un-not false e = sym e
 
 pub enough : (b : List ℕ) (p y : ℕ) → row3 b p y ≡ false → workBytes b p ≤ y
 enough b p y e =
     ltb-false y (workBytes b p)
     (none-right (badCount b || someBelow (legs b) (λ i. eqb (legSamples b i) 0) || not (eqb (sumBelow (legs b) (legSamples b)) (samples b))) (ltb y (workBytes b p)) (sym (row3-is b p y) ∙ e))
 
--- the lent slices have room for the chains and the marks
-pub record Roomy (b : List ℕ) (c m : ℕ) : Type 0 where
-  pub cells : (legs b + 1) * 8 ≤ c
-  pub marks : 2 * links b + destinations b + origins b ≤ m
-
-pub roomy-of : (b : List ℕ) (p u reals cells marks y : ℕ) → y ≡ min (64 * u) 64000000 → row3 b p y ≡ false → u ≡ unitsOf reals cells marks → Roomy b cells marks
+-- the lent slices, which are zero, have room for the chains and the marks
+pub blank-of : (b : List ℕ) (p u reals : ℕ) (cells marks : List ℕ) (y : ℕ) → y ≡ min (64 * u) 64000000 → row3 b p y ≡ false → u ≡ unitsOf reals (length cells) (length marks)
+    → cells ≡ zeros (length cells) → marks ≡ zeros (length marks) → Blank b cells marks (allMarks b)
 unfolding workBytes unitsOf
-roomy-of b p u reals cells marks y f e d =
+blank-of b p u reals cells marks y f e d g h =
     let w = enough b p y e in
-    let c : 8 * u ≤ cells = omega arith in
-    let m : 2 * u ≤ marks = omega arith in
-    record { cells = omega arith; marks = omega arith }
+    let c : 8 * u ≤ length cells = omega arith in
+    let m : 2 * u ≤ length marks = omega arith in
+    record { cells-room = omega arith; marks-room = omega arith; cells-zero = g; marks-zero = h }
 
 -- there is a link
 pub some-link : (b : List ℕ) (s : Sections) (p y : ℕ) → Sized b s → row3 b p y ≡ false → 0 < s .links
@@ -99,7 +94,7 @@ row3-capped b p y = row3-is b p (min y 64000000) ∙ go (badCount b) refl ∙ sy
 pub number-capped : (b : List ℕ) (p u reals cells marks y : ℕ) → u ≡ unitsOf reals cells marks → y ≡ min (64 * u) 64000000 → readNumber b p y ≡ readNumber b p (bytesOf reals cells marks)
 unfolding readNumber bytesOf
 number-capped b p u reals cells marks y d e =
-    ap (λ (x : Bool). lowest 1 (row1 b ∷ row2 b ∷ x ∷ row4 b ∷ row5 b ∷ row6 b ∷ row7 b ∷ row8 b ∷ []))
+    ap (λ (x : Bool). firstOf (row 1 (row1 b) ∷ row 2 (row2 b) ∷ row 3 x ∷ rowsFrom4 b))
     (ap (row3 b p) e ∙ row3-capped b p (64 * u) ∙ ap (λ (n : ℕ). row3 b p (64 * n)) d)
 
 -- the same by other names of the lengths

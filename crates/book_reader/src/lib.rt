@@ -3,18 +3,16 @@ use book_format::Measured;
 use book_format::Sections;
 use book_options::LinkOptions;
 ghost use mathlib.Core.Path.{_≡_};
-ghost use mathlib.Core.Bool.{false};
-ghost use mathlib.Core.List.{[], _∷_};
-ghost use Prim.Native.Nat.{_+_, _*_, _≤_, min};
+ghost use Prim.Native.Nat.{_*_, min};
 ghost use lib.ListN.{length};
-ghost use Rattle.laws.specs.Below.{someBelow};
-ghost use Rattle.space.specs.Space.{bytesOf, zeros, zeroFloats};
-ghost use Rattle.book_format.specs.Format.{Sized, links, origins, destinations, legs};
-ghost use Rattle.book_format.specs.Rows.{row6, row7, badLeg, lowest};
+ghost use Rattle.space.specs.Space.{bytesOf, zeros};
+ghost use Rattle.space.specs.Lent.{workAtEntry, workAtExit};
+ghost use Rattle.book_format.specs.Format.{Sized, links};
+ghost use Rattle.book_format.specs.Rows.{someBadLeg};
 ghost use Rattle.book_format.specs.Chains.{Readable};
-ghost use Rattle.book_options.specs.Options.{row8};
-ghost use Rattle.book_reader.specs.Reader.{readNumber, readingNumber, ReadInto};
-ghost use Rattle.book_reader.specs.Stages.{RowsPassed, ChainedOnly, TestedAs};
+ghost use Rattle.book_reader.specs.Reader.{readingNumber, BookRead, Checked};
+ghost use Rattle.book_reader.specs.Stages.{RowsPassed, Blank, allMarks};
+ghost use Rattle.book_reader.specs.Stages.{TestedAs, LegsTested, RepeatsTested, RestRead};
 
 // What reading found: where the sections stand and how many origins are kept, or the number of a refusal.
 pub enum Reading {
@@ -61,12 +59,8 @@ fn test_rows(book: &[u8], places: usize, bytes: usize) -> Tested
 // Row 7, where no single leg gives it. The legs are chained if it doesn't hold.
 fn test_legs(book: &[u8], s: Sections, cells: &mut [u32], marks: &mut [u32]) -> bool
     requires { ⌜ Readable (now book) s ⌝ }
-    requires { ⌜ (legs (now book) + 1) * 8 ≤ length (now cells) ⌝ }
-    requires { ⌜ links (now book) ≤ length (now marks) ⌝ }
-    requires { ⌜ now cells ≡ zeros (length (now cells)) ⌝ }
-    requires { ⌜ now marks ≡ zeros (length (now marks)) ⌝ }
-    ensures answer { λ r. ⌜ r ≡ row7 (now (book .entry)) ⌝ }
-    ensures chained { λ r. ⌜ (r ≡ false → ChainedOnly (now (book .entry)) (now (cells .exit))) ⌝ }
+    requires { ⌜ Blank (now book) (now cells) (now marks) (links (now book)) ⌝ }
+    ensures { λ r. ⌜ LegsTested (now (book .entry)) (now (cells .exit)) r ⌝ }
 {
     if book_legs::link_legs(book, s, cells) {
         return true;
@@ -77,14 +71,9 @@ fn test_legs(book: &[u8], s: Sections, cells: &mut [u32], marks: &mut [u32]) -> 
 // Rows 6 and 7 whole. The legs are chained where neither holds.
 fn test_repeats(book: &[u8], s: Sections, late: bool, cells: &mut [u32], marks: &mut [u32]) -> u32
     requires { ⌜ RowsPassed (now book) s ⌝ }
-    requires { ⌜ late ≡ someBelow (legs (now book)) (badLeg (now book)) ⌝ }
-    requires { ⌜ (legs (now book) + 1) * 8 ≤ length (now cells) ⌝ }
-    requires { ⌜ links (now book) ≤ length (now marks) ⌝ }
-    requires { ⌜ now cells ≡ zeros (length (now cells)) ⌝ }
-    requires { ⌜ now marks ≡ zeros (length (now marks)) ⌝ }
-    ensures number { λ r. ⌜ r ≡ lowest 6 (row6 (now (book .entry)) ∷ row7 (now (book .entry)) ∷ []) ⌝ }
-    ensures chained { λ r. ⌜ (r ≡ 0 → ChainedOnly (now (book .entry)) (now (cells .exit))) ⌝ }
-    ensures cleared { λ r. ⌜ (r ≡ 0 → now (marks .exit) ≡ zeros (length (now (marks .exit)))) ⌝ }
+    requires { ⌜ late ≡ someBadLeg (now book) ⌝ }
+    requires { ⌜ Blank (now book) (now cells) (now marks) (links (now book)) ⌝ }
+    ensures { λ r. ⌜ RepeatsTested (now (book .entry)) (now (cells .exit)) (now (marks .exit)) r ⌝ }
 {
     if book_repeats::origins_repeat(book, s, marks) {
         return 6;
@@ -100,16 +89,13 @@ fn test_repeats(book: &[u8], s: Sections, late: bool, cells: &mut [u32], marks: 
     0
 }
 
-// Rows 6 to 8. The repeats are marked in the links' own marks; the starting legs are named behind them, where the options' stack has been.
+// Rows 6 to 8. The repeats are marked in the links' own marks; the starting legs are named behind them, where the
+// options' stack has been.
 fn read_rest(book: &[u8], s: Sections, late: bool, cells: &mut [u32], marks: &mut [u32]) -> Reading
     requires { ⌜ RowsPassed (now book) s ⌝ }
-    requires { ⌜ late ≡ someBelow (legs (now book)) (badLeg (now book)) ⌝ }
-    requires { ⌜ (legs (now book) + 1) * 8 ≤ length (now cells) ⌝ }
-    requires { ⌜ 2 * links (now book) + destinations (now book) + origins (now book) ≤ length (now marks) ⌝ }
-    requires { ⌜ now cells ≡ zeros (length (now cells)) ⌝ }
-    requires { ⌜ now marks ≡ zeros (length (now marks)) ⌝ }
-    ensures number { λ r. ⌜ readingNumber r ≡ lowest 6 (row6 (now (book .entry)) ∷ row7 (now (book .entry)) ∷ row8 (now (book .entry)) ∷ []) ⌝ }
-    ensures ready { λ r. ⌜ ReadInto (now (book .entry)) (now (cells .exit)) (now (marks .exit)) r ⌝ }
+    requires { ⌜ late ≡ someBadLeg (now book) ⌝ }
+    requires { ⌜ Blank (now book) (now cells) (now marks) (allMarks (now book)) ⌝ }
+    ensures { λ r. ⌜ RestRead (now (book .entry)) (now (cells .exit)) (now (marks .exit)) r ⌝ }
 {
     let links = s.links;
     let own = &mut marks[..links];
@@ -128,7 +114,7 @@ fn read_rest(book: &[u8], s: Sections, late: bool, cells: &mut [u32], marks: &mu
 }
 
 // The bytes of work space. More than 64,000,000 are never asked for, and count as that many.
-fn work_bytes(units: usize) -> usize
+fn lent_bytes(units: usize) -> usize
     ensures { λ r. ⌜ r ≡ min (64 * units) 64000000 ⌝ }
 {
     if units < 1000000 {
@@ -148,10 +134,11 @@ pub fn read_book(
 ) -> Reading
     requires { ⌜ now cells ≡ zeros (length (now cells)) ⌝ }
     requires { ⌜ now marks ≡ zeros (length (now marks)) ⌝ }
-    ensures number { λ r. ⌜ readingNumber r ≡ readNumber (now (book .entry)) places (bytesOf reals (length (now (cells .entry))) (length (now (marks .entry)))) ⌝ }
-    ensures ready { λ r. ⌜ ReadInto (now (book .entry)) (now (cells .exit)) (now (marks .exit)) r ⌝ }
+    ensures { λ r. ⌜ BookRead (now (book .entry)) places
+        (bytesOf reals (length (now (cells .entry))) (length (now (marks .entry))))
+        (now (cells .exit)) (now (marks .exit)) r ⌝ }
 {
-    let bytes = work_bytes(space::units(reals, cells.len(), marks.len()));
+    let bytes = lent_bytes(space::units(reals, cells.len(), marks.len()));
     let t = test_rows(book, places, bytes);
     match t {
         Tested::Stopped(n) => Reading::Refused(n),
@@ -169,7 +156,8 @@ fn number_of(r: Reading) -> u32
     }
 }
 
-// The number that a book gets by rows 1 to 8, for a table of so many places and this work space, and 0 where none holds. The work space is zero afterwards.
+// The number that a book gets by rows 1 to 8, for a table of so many places and this work space, and 0 where none holds.
+// The work space is zero afterwards.
 pub fn check_book(
     book: &[u8],
     places: usize,
@@ -177,10 +165,7 @@ pub fn check_book(
     cells: &mut [u32],
     marks: &mut [u32],
 ) -> u32
-    ensures number { λ r. ⌜ r ≡ readNumber (now (book .entry)) places (bytesOf (length (now (reals .entry))) (length (now (cells .entry))) (length (now (marks .entry)))) ⌝ }
-    ensures reals { λ _. ⌜ now (reals .exit) ≡ zeroFloats (length (now (reals .entry))) ⌝ }
-    ensures cells { λ _. ⌜ now (cells .exit) ≡ zeros (length (now (cells .entry))) ⌝ }
-    ensures marks { λ _. ⌜ now (marks .exit) ≡ zeros (length (now (marks .entry))) ⌝ }
+    ensures { λ r. ⌜ Checked (now (book .entry)) places (workAtEntry reals cells marks) (workAtExit reals cells marks) r ⌝ }
 {
     space::clear_floats(reals);
     space::clear_numbers(cells);

@@ -10,6 +10,7 @@ use lib.Dec.{eqb, leb, ltb}
 use lib.ListN.{length, getD, set, length-set}
 use borrow.Author.Tests.{eq-eqb, eqb-true, eqb-false, leb-false, ltb-false}
 use Rattle.laws.specs.Below.{someBelow}
+use Rattle.laws.proofs.Truth.{both, equal-or-not}
 use Rattle.laws.proofs.Below.{none-at, none-all, some-at}
 use Rattle.space.specs.Space.{zeros}
 use Rattle.book_format.specs.declared.Sections.{Sections}
@@ -20,7 +21,7 @@ use Rattle.book_format.specs.Chains.{lastChild, Chained, Readable}
 use Rattle.book_format.proofs.Given.{leg-named, leg-above, leg-link}
 use Rattle.book_legs.proofs.Chains.{last-is}
 use Rattle.book_repeats.specs.Repeats.{Under, childRepeats}
-use Rattle.book_repeats.proofs.Marks.{equal-or-not, Marked, mark-none, mark-more, zero-under, under-more}
+use Rattle.book_repeats.proofs.Marks.{Marked, mark-none, mark-more, zero-under, under-more}
 
 -- ---- the last child of the first n legs
 
@@ -120,9 +121,6 @@ module _ {b m₀ m : List ℕ} {p j : ℕ} (w : Walk b m₀ m p j) (h : 0 < j) (
       both _ _ (eq-eqb (legParent b (j - 1)) (legParent b k) a) (eq-eqb (legLink b (j - 1)) (legLink b k) c) in
       let f : legRepeats b k ≡ true = some-at k (λ i. eqb (legParent b i) (legParent b k) && eqb (legLink b i) (legLink b k)) (j - 1) (omega (arith, x .passed)) q in
       sym (some-at (legs b) (childRepeats b p) k (x .within) (both _ _ (eq-eqb (legParent b k) p (x .parent)) f))
-    where
-      both : (s t : Bool) → s ≡ true → t ≡ true → (s && t) ≡ true
-      both s t u v = ap (λ (a : Bool). a && t) u ∙ v
 
   pub walk-on : (n : ℕ) → g .«link_idx» < length m → (getD m (g .«link_idx») 0 ≡ p + 1 → ⊥) → n ≡ lastChild b (j - 1) p → Walk b m₀ (set m (g .«link_idx») (p + 1)) p n
   walk-on n l t z = record {

@@ -6,23 +6,12 @@ use mathlib.Core.List.{List}
 use Prim.Native.Nat.{ℕ, zero, suc, _+_, _≤_, _<_}
 use native.Mathlib.Nat.{le-refl}
 use native.Mathlib.Omega.{arith}
-use lib.Dec.{eqb}
 use lib.ListN.{length, getD, set}
 use lib.Seq.{getD-set-same, getD-set-other}
-use borrow.Author.Tests.{eqb-true, eqb-false}
-use Rattle.laws.specs.Below.{someBelow}
+use Rattle.laws.proofs.Truth.{equal-or-not}
 use Rattle.space.specs.Space.{zeros}
 use Rattle.space.proofs.Zeros.{zero-at}
 use Rattle.book_repeats.specs.Repeats.{Under}
-
--- ---- tests
-
-pub equal-or-not : (m n : ℕ) → (m ≡ n) ⊎ (m ≡ n → ⊥)
-equal-or-not m n = go (eqb m n) refl
-  where
-    go : (t : Bool) → eqb m n ≡ t → (m ≡ n) ⊎ (m ≡ n → ⊥)
-    go true e = inl (eqb-true m n e)
-    go false e = inr (eqb-false m n e)
 
 -- ---- marks: a link has the stamp exactly where it was seen
 

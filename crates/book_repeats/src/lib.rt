@@ -1,4 +1,5 @@
-// Repeated origins (row 6) and repeated legs (row 7), found in one sweep each by a mark for every link. Contracts: book_format's specs/Rows.antt.
+// Repeated origins (row 6) and repeated legs (row 7), found in one sweep each by a mark for every link.
+// Contracts: book_format's specs/Rows.antt.
 use book_format::Sections;
 ghost use mathlib.Core.Path.{_≡_};
 ghost use mathlib.Core.Bool.{false};
@@ -6,8 +7,8 @@ ghost use Prim.Native.Nat.{_+_, _≤_, _<_};
 ghost use lib.ListN.{length};
 ghost use Rattle.laws.specs.Below.{someBelow};
 ghost use Rattle.space.specs.Space.{zeros};
-ghost use Rattle.book_format.specs.Format.{Sized, links, origins, legs};
-ghost use Rattle.book_format.specs.Rows.{row4, row5, originRepeats, legRepeats};
+ghost use Rattle.book_format.specs.Format.{Sized, links, legs};
+ghost use Rattle.book_format.specs.Rows.{row4, row5, someOriginRepeats, someLegRepeats};
 ghost use Rattle.book_format.specs.Chains.{Readable, Chained};
 ghost use Rattle.book_repeats.specs.Repeats.{Under, childRepeats};
 
@@ -18,7 +19,7 @@ pub fn origins_repeat(book: &[u8], s: Sections, marks: &mut [u32]) -> bool
     requires { ⌜ row5 (now book) ≡ false ⌝ }
     requires { ⌜ links (now book) ≤ length (now marks) ⌝ }
     requires { ⌜ now marks ≡ zeros (length (now marks)) ⌝ }
-    ensures { λ r. ⌜ r ≡ someBelow (origins (now (book .entry))) (originRepeats (now (book .entry))) ⌝ }
+    ensures { λ r. ⌜ r ≡ someOriginRepeats (now (book .entry)) ⌝ }
 {
     let mut i = 0;
     while i < s.origins {
@@ -33,7 +34,8 @@ pub fn origins_repeat(book: &[u8], s: Sections, marks: &mut [u32]) -> bool
     false
 }
 
-// Whether two children of leg number p have one link, 0 being the origins. They are walked from the last to the first, and each marks its link with p + 1.
+// Whether two children of leg number p have one link, 0 being the origins. They are walked from the last to the first,
+// and each marks its link with p + 1.
 fn children_repeat(book: &[u8], s: Sections, cells: &[u32], marks: &mut [u32], p: usize) -> bool
     requires { ⌜ Readable (now book) s ⌝ }
     requires { ⌜ Chained (now book) (now cells) ⌝ }
@@ -57,13 +59,14 @@ fn children_repeat(book: &[u8], s: Sections, cells: &[u32], marks: &mut [u32], p
     false
 }
 
-// Row 7: whether two legs have one parent and one link. A parent's number is below its child's, so below the count of legs.
+// Row 7: whether two legs have one parent and one link. A parent's number is below its child's, so below the count of
+// legs.
 pub fn legs_repeat(book: &[u8], s: Sections, cells: &[u32], marks: &mut [u32]) -> bool
     requires { ⌜ Readable (now book) s ⌝ }
     requires { ⌜ Chained (now book) (now cells) ⌝ }
     requires { ⌜ links (now book) ≤ length (now marks) ⌝ }
     requires { ⌜ now marks ≡ zeros (length (now marks)) ⌝ }
-    ensures { λ r. ⌜ r ≡ someBelow (legs (now (book .entry))) (legRepeats (now (book .entry))) ⌝ }
+    ensures { λ r. ⌜ r ≡ someLegRepeats (now (book .entry)) ⌝ }
 {
     let mut p = 0;
     while p < s.legs {

@@ -11,8 +11,8 @@ use Rattle.laws.specs.Below.{someBelow}
 use Rattle.floats.specs.Floats.{bookFloat}
 use Rattle.book_format.specs.declared.Sections.{Sections}
 use Rattle.book_format.specs.Format.{Sized, sectionsOf, origins, legs, originsAt, destinationsAt, legsAt, samplesAt, endOf, joinBits, departureBits, lengthBits, linkLength, originLink, destinationLink}
-use Rattle.book_format.specs.Rows.{noSuchLink, linkZero, badLink, badOriginValue, badOriginPlace, badLegIndex, badLeg, badSample, row4, row5, lowest}
-use Rattle.book_rows.specs.Elements.{lower, lowestBelow, numberOf, linkNumber, originNumber, destinationNumber, legNumber, sampleNumber, elements, elementNumber}
+use Rattle.book_format.specs.Rows.{noSuchLink, linkZero, badLink, badOriginValue, badOriginPlace, badLegIndex, badLeg, badSample, row4, row5}
+use Rattle.book_rows.specs.Elements.{lower, lowestBelow, numberOf, linkNumber, originNumber, destinationNumber, legNumber, sampleNumber, elements, elementNumber, singleNumber}
 use Rattle.book_rows.proofs.Lowest.{number-join, lowest-tests, splice-low, splice-high, lowest-splice}
 
 -- ---- a pattern n of the book, read as m and tested by t
@@ -101,6 +101,6 @@ module _ (b : List ℕ) where
   -- the lowest of the head's, link 0's and all rows' numbers
   pub lowest-all : {s : Sections} → Sized b s
       → lower (numberOf (not (bookFloat (joinBits b)) || not (bookFloat (departureBits b)) || not (bookFloat (lengthBits b))) (not (linkZero b)) false false) (lowestBelow (elements s) (elementNumber b s))
-      ≡ lowest 4 (row4 b ∷ row5 b ∷ someBelow (origins b) (badOriginPlace b) ∷ someBelow (legs b) (badLeg b) ∷ [])
-  unfolding sectionsOf row4 row5
+      ≡ singleNumber b
+  unfolding sectionsOf row4 row5 singleNumber
   lowest-all z = rw (z .is, sections b (sectionsOf b), samples-number, links-number, origins-number, destinations-number, legs-number) (tests _ _ _ _ _ _ _ _ _ _ _)

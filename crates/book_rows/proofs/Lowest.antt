@@ -1,15 +1,14 @@
--- The lowest of numbers of which 0 is none: `lower` is a commutative monoid, the numbers of two lists of tests join test by test, and so do those of all rows below n.
+-- The lowest of numbers of which 0 is none: `lower` is a commutative monoid, the numbers of two rows join test by test, and so do those of all rows below n.
 -- Assumes nothing.
 use mathlib.Core.Path.{_≡_, refl, sym, ap, _∙_}
-use mathlib.Core.Bool.{Bool, true, false, _||_}
-use mathlib.Core.List.{List, [], _∷_}
+use mathlib.Core.Bool.{Bool, true, false, _||_, cond}
 use Prim.Native.Nat.{ℕ, zero, suc, _+_, _-_, _≤_, _<_, min}
-use native.Mathlib.Nat.{zero-add, suc-add, min-comm, min-eq-left}
+use native.Mathlib.Nat.{zero-add, suc-add, min-comm}
 use native.Mathlib.Numerals.{add-one}
 use native.Mathlib.Omega.{arith}
 use borrow.Author.Tests.{lt-ltb, le-ltb}
 use Rattle.laws.specs.Below.{someBelow}
-use Rattle.book_format.specs.Rows.{lowest}
+use Rattle.laws.specs.Refusals.{firstOf}
 use Rattle.book_rows.specs.Elements.{lower, lowestBelow, numberOf, splice}
 
 -- ---- the lower of two
@@ -42,28 +41,24 @@ lower-min (suc a) (suc b) h g = omega arith
 
 -- ---- the numbers of tests
 
--- test by test, whether one of two lists' holds
-abbrev either : List Bool → List Bool → List Bool
-either [] ys = ys
-either (x ∷ xs) [] = x ∷ xs
-either (x ∷ xs) (y ∷ ys) = (x || y) ∷ either xs ys
+-- the lower of two numbers of rows, each the test's own or one behind it
+either : (n : ℕ) (x y : Bool) (a b c : ℕ) → lower n n ≡ n → lower n a ≡ n → lower n b ≡ n → lower a b ≡ c → lower (cond x n a) (cond y n b) ≡ cond (x || y) n c
+either n true true a b c s f g e = s
+either n true false a b c s f g e = g
+either n false true a b c s f g e = lower-comm a n ∙ f
+either n false false a b c s f g e = e
 
-keeps : (n m : ℕ) (xs : List Bool) → n ≤ m → lower (suc n) (lowest (suc m) xs) ≡ suc n
-unfolding lower lowest
-keeps n m [] h = refl
-keeps n m (true ∷ xs) h = ap suc (min-eq-left h)
-keeps n m (false ∷ xs) h = keeps n (suc m) xs (omega arith)
-
-join : (n : ℕ) (xs ys : List Bool) → lower (lowest (suc n) xs) (lowest (suc n) ys) ≡ lowest (suc n) (either xs ys)
-unfolding lower lowest
-join n [] ys = refl
-join n (x ∷ xs) [] = lower-none (lowest (suc n) (x ∷ xs))
-join n (true ∷ xs) (y ∷ ys) = keeps n n (y ∷ ys) (omega arith)
-join n (false ∷ xs) (true ∷ ys) = lower-comm (lowest (suc (suc n)) xs) (suc n) ∙ keeps n (suc n) xs (omega arith)
-join n (false ∷ xs) (false ∷ ys) = join (suc n) xs ys
+-- a number is lower than those of the tests behind it
+behind : (n m : ℕ) (x : Bool) (a : ℕ) → lower n m ≡ n → lower n a ≡ n → lower n (cond x m a) ≡ n
+behind n m true a e f = e
+behind n m false a e f = f
 
 pub number-join : (a b c d a′ b′ c′ d′ : Bool) → lower (numberOf a b c d) (numberOf a′ b′ c′ d′) ≡ numberOf (a || a′) (b || b′) (c || c′) (d || d′)
-number-join a b c d a′ b′ c′ d′ = join 3 (a ∷ b ∷ c ∷ d ∷ []) (a′ ∷ b′ ∷ c′ ∷ d′ ∷ [])
+unfolding lower firstOf
+number-join a b c d a′ b′ c′ d′ =
+    either 4 a a′ _ _ _ refl (behind 4 5 b _ refl (behind 4 6 c _ refl (behind 4 7 d 0 refl refl))) (behind 4 5 b′ _ refl (behind 4 6 c′ _ refl (behind 4 7 d′ 0 refl refl)))
+    (either 5 b b′ _ _ _ refl (behind 5 6 c _ refl (behind 5 7 d 0 refl refl)) (behind 5 6 c′ _ refl (behind 5 7 d′ 0 refl refl))
+    (either 6 c c′ _ _ _ refl (behind 6 7 d 0 refl refl) (behind 6 7 d′ 0 refl refl) (either 7 d d′ 0 0 0 refl refl refl refl)))
 
 -- ---- the numbers below n
 
@@ -73,7 +68,7 @@ lowest-more n f = ap (λ (m : ℕ). lowestBelow m f) (add-one n)
 
 pub lowest-tests : (n : ℕ) (p q r s : ℕ → Bool)
     → lowestBelow n (λ k. numberOf (p k) (q k) (r k) (s k)) ≡ numberOf (someBelow n p) (someBelow n q) (someBelow n r) (someBelow n s)
-unfolding lowestBelow someBelow lowest
+unfolding lowestBelow someBelow firstOf
 lowest-tests zero p q r s = refl
 lowest-tests (suc n) p q r s =
     ap (λ (x : ℕ). lower x (numberOf (p n) (q n) (r n) (s n))) (lowest-tests n p q r s)

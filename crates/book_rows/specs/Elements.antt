@@ -1,12 +1,15 @@
--- What a single row of a section says of rows 4 to 7: the lowest number that it gives, and the lowest over all rows of all sections. A number of 0 is none.
+-- What a single row of a section says of rows 4 to 7: the lowest number that it gives, and the lowest over all rows of
+-- all sections. A number of 0 is none.
 use mathlib.Core.Bool.{Bool, false, not, cond}
 use mathlib.Core.List.{List, [], _∷_}
 use Prim.Native.Nat.{ℕ, zero, suc, _+_, _-_, min}
 use lib.Dec.{ltb}
+use Rattle.laws.specs.Refusals.{row, firstOf}
 use Rattle.floats.specs.Floats.{bookFloat}
 use Rattle.book_format.specs.declared.Sections.{Sections}
 use Rattle.book_format.specs.Format.{linkLength, originLink, destinationLink}
-use Rattle.book_format.specs.Rows.{noSuchLink, badLink, badOriginValue, badOriginPlace, badLegIndex, badLeg, badSample, lowest}
+use Rattle.book_format.specs.Rows.{noSuchLink, badLink, badOriginValue, badOriginPlace, badLegIndex, badLeg, badSample}
+use Rattle.book_format.specs.Rows.{row4, row5, someBadPlace, someBadLeg}
 
 -- the lower of two numbers
 unfoldable pub lower : ℕ → ℕ → ℕ
@@ -23,7 +26,7 @@ lowestBelow (suc n) f = lower (lowestBelow n f) (f n)
 -- ---- the number of one row: tests for 4, 5, 6 and 7
 
 abbrev pub numberOf : Bool → Bool → Bool → Bool → ℕ
-numberOf four five six seven = lowest 4 (four ∷ five ∷ six ∷ seven ∷ [])
+numberOf four five six seven = firstOf (row 4 four ∷ row 5 five ∷ row 6 six ∷ row 7 seven ∷ [])
 
 unfoldable pub linkNumber : List ℕ → ℕ → ℕ
 linkNumber b i = numberOf (not (bookFloat (linkLength b i))) (badLink b i) false false
@@ -56,3 +59,8 @@ elementNumber b s =
     (splice (s .links) (linkNumber b)
     (splice (s .origins) (originNumber b)
     (splice (s .destinations) (destinationNumber b) (legNumber b))))
+
+-- ---- the whole book, as far as single rows tell: rows 4 and 5, and 6 and 7 without their repeats and samples
+
+unfoldable pub singleNumber : List ℕ → ℕ
+singleNumber b = numberOf (row4 b) (row5 b) (someBadPlace b) (someBadLeg b)

@@ -1,34 +1,29 @@
-// Row 3, and what rows 4 to 7 say of single rows of a section. Contracts: book_format's specs/Rows.antt, specs/Elements.antt.
+// Row 3, and what rows 4 to 7 say of single rows of a section.
+// Contracts: book_format's specs/Rows.antt, specs/Elements.antt.
 use book_format::Sections;
 ghost use mathlib.Core.Path.{_≡_};
 ghost use mathlib.Core.Bool.{true};
-ghost use mathlib.Core.List.{List, [], _∷_};
+ghost use mathlib.Core.List.{List};
 ghost use Prim.Native.Nat.{ℕ, _+_, _≤_, _<_, min};
 ghost use lib.Dec.{leb, eqb};
 ghost use Rattle.laws.specs.Below.{someBelow, sumBelow};
 ghost use Rattle.floats.specs.Floats.{bookFloat};
-ghost use Rattle.book_format.specs.Format.{Sized, origins, legs, linkLength, legSamples};
-ghost use Rattle.book_format.specs.Rows.{row3, row4, row5, outsideLimits, badCount, workBytes, linkZero, badLink, badOriginPlace, badLeg, lowest};
-ghost use Rattle.book_rows.specs.Elements.{lower, lowestBelow, numberOf, linkNumber, originNumber, destinationNumber, legNumber, sampleNumber, elements, elementNumber};
+ghost use Rattle.book_format.specs.Format.{Sized, legs, linkLength, legSamples};
+ghost use Rattle.book_format.specs.Rows.{row3, badCount, workBytes, linkZero, badLink};
+ghost use Rattle.book_rows.specs.Elements.{lower, lowestBelow, numberOf, elements, elementNumber, singleNumber};
+ghost use Rattle.book_rows.specs.Elements.{linkNumber, originNumber, destinationNumber, legNumber, sampleNumber};
 
 // ---- row 3
 
-// Whether a count is outsideLimits 1 to its limit.
-fn outside_limit(limit: usize, n: usize) -> bool
-    ensures { λ r. ⌜ r ≡ outsideLimits limit n ⌝ }
-{
-    (n == 0) | (limit < n)
-}
-
-// Whether some count is outsideLimits its limits.
+// Whether some count is outside its limits.
 fn counts_outside(s: Sections) -> bool
     ensures { λ r. ⌜ ((b : List ℕ) → Sized b s → r ≡ badCount b) ⌝ }
 {
-    outside_limit(65535, s.links)
-        | outside_limit(65535, s.legs)
-        | outside_limit(1000, s.origins)
-        | outside_limit(1000, s.destinations)
-        | outside_limit(1000000, s.samples)
+    book_format::is_outside(65535, s.links)
+        | book_format::is_outside(65535, s.legs)
+        | book_format::is_outside(1000, s.origins)
+        | book_format::is_outside(1000, s.destinations)
+        | book_format::is_outside(1000000, s.samples)
 }
 
 // The table places that work space is asked for.
@@ -277,7 +272,7 @@ fn link_zero(book: &[u8], s: Sections) -> bool
 pub fn lowest_row(book: &[u8], s: Sections) -> u32
     requires { ⌜ Sized (now book) s ⌝ }
     requires { ⌜ 0 < s .links ⌝ }
-    ensures { λ r. ⌜ r ≡ lowest 4 (row4 (now (book .entry)) ∷ row5 (now (book .entry)) ∷ someBelow (origins (now (book .entry))) (badOriginPlace (now (book .entry))) ∷ someBelow (legs (now (book .entry))) (badLeg (now (book .entry))) ∷ []) ⌝ }
+    ensures { λ r. ⌜ r ≡ singleNumber (now (book .entry)) ⌝ }
 {
     let head = book_format::head_patterns(book, s);
     let bad = !floats::is_book_float(head.join)

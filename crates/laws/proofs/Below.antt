@@ -7,29 +7,8 @@ use native.Mathlib.Nat.{le-refl, not-suc-le-zero, le-of-suc-le-suc, eq-or-lt-of-
 use native.Mathlib.Numerals.{add-one}
 use native.Mathlib.Omega.{arith}
 use Rattle.laws.specs.Below.{someBelow, sumBelow}
-
--- ---- what `||` says
-
-pub or-left : (a b : Bool) → a ≡ true → (a || b) ≡ true
-or-left true b e = refl
-or-left false b e = absurd (subst T e tt)
-  where
-    T : Bool → Type 0
-    T true = ⊥
-    T false = Unit
-
-pub or-right : (a b : Bool) → b ≡ true → (a || b) ≡ true
-or-right true b e = refl
-or-right false b e = e
-
-pub none-left : (a b : Bool) → (a || b) ≡ false → a ≡ false
-none-left true b e = e
-none-left false b e = refl
-
-pub none-right : (a b : Bool) → (a || b) ≡ false → b ≡ false
-none-right true true e = e
-none-right true false e = refl
-none-right false b e = e
+use Rattle.laws.proofs.Truth.{equal-or-not}
+pub use Rattle.laws.proofs.Truth.{or-left, or-right, none-left, none-right}
 
 -- ---- one number more
 
@@ -100,3 +79,32 @@ sum-part (suc n) m f h = go (eq-or-lt-of-le h) (sum-part n m f)
     go : (m ≡ suc n) ⊎ (m < suc n) → (m ≤ n → sumBelow m f ≤ sumBelow n f) → sumBelow m f ≤ sumBelow n f + f n
     go (inl e) ih = subst (λ (k : ℕ). sumBelow k f ≤ sumBelow n f + f n) (sym e) (omega arith)
     go (inr l) ih = let g = ih (le-of-suc-le-suc l) in omega arith
+
+-- ---- two sums
+
+pub sum-same : (n : ℕ) (f g : ℕ → ℕ) → ((i : ℕ) → i < n → f i ≡ g i) → sumBelow n f ≡ sumBelow n g
+unfolding sumBelow
+sum-same zero f g h = refl
+sum-same (suc n) f g h =
+    let a : sumBelow n f ≡ sumBelow n g = sum-same n f g (λ i l. h i (omega arith)) in
+    let e : f n ≡ g n = h n (omega arith) in
+    omega arith
+
+pub sum-most : (n : ℕ) (f g : ℕ → ℕ) → ((i : ℕ) → f i ≤ g i) → sumBelow n f ≤ sumBelow n g
+unfolding sumBelow
+sum-most zero f g h = omega arith
+sum-most (suc n) f g h = omega (arith, sum-most n f g h, h n)
+
+-- where no number rises and one falls, so does the sum
+pub sum-falls : (n : ℕ) (f g : ℕ → ℕ) (j : ℕ) → ((i : ℕ) → f i ≤ g i) → j < n → f j < g j → sumBelow n f < sumBelow n g
+unfolding sumBelow
+sum-falls zero f g j h l d = absurd (not-suc-le-zero l)
+sum-falls (suc n) f g j h l d = go (equal-or-not j n) (sum-falls n f g j h)
+  where
+    go : (j ≡ n) ⊎ (j ≡ n → ⊥) → (j < n → f j < g j → sumBelow n f < sumBelow n g) → sumBelow n f + f n < sumBelow n g + g n
+    go (inl e) ih =
+        let x : f n < g n = subst (λ (k : ℕ). f k < g k) e d in
+        omega (arith, sum-most n f g h)
+    go (inr e) ih =
+        let k : j < n = omega arith in
+        omega (arith, ih k d, h n)

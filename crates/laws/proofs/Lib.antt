@@ -1,2 +1,5 @@
+pub mod Truth
+pub mod Lists
 pub mod Below
 pub mod Answers
+pub mod Refusals

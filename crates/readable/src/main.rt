@@ -1,5 +1,5 @@
-// Reads a book from standard input and prints the number that it gets by rows 1 to 8, or that it is readable. The limits are those of the program `sheet`:
-// books of 65,536 bytes, 192 nodes, 65,536 bytes of work space.
+// Reads a book from standard input and prints the number that it gets by rows 1 to 8, or that it is readable.
+// The limits are those of the program `sheet`: books of 65,536 bytes, 192 nodes, 65,536 bytes of work space.
 use libc::STDIN_FILENO;
 use libc::STDOUT_FILENO;
 ghost use mathlib.Core.Path.{_≡_};

@@ -1,14 +1,15 @@
 -- `book_legs::link_legs` meets its contract: `Linking` is the loop's invariant.
-use mathlib.Core.Path.{_≡_, sym, ap, _∙_, subst}
+use mathlib.Core.Path.{_≡_, refl, sym, ap, _∙_, subst}
 use mathlib.Core.Bool.{true, false}
 use Prim.Native.Nat.{ℕ, _-_, _*_, _+_, _≤_, _<_}
 use native.Mathlib.Omega.{arith}
 use lib.ListN.{length}
+use Rattle.laws.proofs.Truth.{not-both}
 use Rattle.book_format.specs.Format.{legs}
 use Rattle.book_format.proofs.Places.{sized-legs}
 use Rattle.book_format.proofs.Given.{leg-parent, leg-samples}
 use Rattle.book_legs.proofs.Counts.{leg-in, leg-under, leg-within}
-use Rattle.book_legs.proofs.Linking.{Linking, linking-start, linking-length, room-of, linking-end, linking-found, linking-on, linking-done, not-both}
+use Rattle.book_legs.proofs.Linking.{Linking, linking-start, linking-length, room-of, linking-end, linking-found, linking-on, linking-done}
 use Rattle.book_legs.proofs.link_legs.Statement.{statement}
 use Rattle.book_legs.proofs.link_legs.Tie as tie
 
@@ -58,7 +59,7 @@ leg-fails-requires c κs =
 returns : tie.Need-returns Inv-loop μ-loop
 returns c = (
   linking-found _ _ (leg-under (c .before .before .before .before .before .before .before .before .before .before .pre .0) _ (c .before .before .before .before .before .if1 .taken)) (sym (c .before .leg-fails .ensures) ∙ c .if2 .taken),
-  λ (e : true ≡ false). not-both e,
+  λ (e : true ≡ false). not-both refl e,
 )
 
 add-first : tie.Need-add-first Inv-loop μ-loop

@@ -1,8 +1,9 @@
 -- `book_legs::sample_falls` meets its contract.
+use borrow.Author.Needs.{needs}
 use native.Mathlib.Omega.{arith}
 use Rattle.book_format.proofs.Given.{sample-good}
 use Rattle.book_format.proofs.Places.{sized-samples}
-use Rattle.book_legs.proofs.Samples.{sample-within, falls-later, falls-early}
+use Rattle.book_legs.proofs.Samples.{sample-within, falls-is}
 use Rattle.book_legs.proofs.sample_falls.Statement.{statement}
 use Rattle.book_legs.proofs.sample_falls.Tie as tie
 
@@ -20,14 +21,7 @@ sample-at-requires-2 c κs =
     (r .sized, (sample-within r _ (c .before .before .pre .1), sample-good _ (r .floats) _ (c .before .before .pre .1)))
 
 returns : tie.Need-returns
-returns c =
-    falls-later _ (c .before .before .before .before .before .before .before .before .args .k) (c .before .before .before .before .before .before .sample-at .result) (c .before .before .before .before .before .sample-at2 .result)
-    (c .before .before .before .before .before .before .sample-at .ensures) (c .before .before .before .before .before .sample-at2 .ensures) (c .before .before .if1 .taken)
-
-returns-2 : tie.Need-returns-2
-returns-2 c =
-    falls-early _ (c .before .before .before .before .before .before .args .k) (c .before .before .before .before .sample-at .result) (c .before .before .before .sample-at2 .result)
-    (c .before .before .before .before .sample-at .ensures) (c .before .before .before .sample-at2 .ensures) (c .if1 .left)
+returns c = falls-is _ _ _ _ _ (c .before .before .sample-at .ensures) (c .before .sample-at2 .ensures) (c .sample-falls .ensures)
 
 pub sample-falls-spec : {M : Type 1} → statement M
-sample-falls-spec = tie.close (tie.spec sample-at-requires add-sample-at sample-at-requires-2 returns returns-2)
+sample-falls-spec = tie.close (tie.spec sample-at-requires add-sample-at sample-at-requires-2 (λ c κs. search needs) returns)

@@ -4,14 +4,14 @@ use mathlib.Core.Path.{_≡_}
 use mathlib.Core.Bool.{true}
 use Rattle.floats.specs.Floats.{bookFloat}
 use Rattle.book_format.specs.Format.{linkLength}
-use Rattle.book_format.specs.Rows.{lowest}
+use Rattle.laws.specs.Refusals.{firstOf}
 use Rattle.book_rows.specs.Elements.{linkNumber}
 use Rattle.book_rows.proofs.Elements.{float-read}
 use Rattle.book_rows.proofs.link_row.Statement.{statement}
 use Rattle.book_rows.proofs.link_row.Tie as tie
 
 returns : tie.Need-returns
-unfolding linkNumber lowest
+unfolding linkNumber firstOf
 returns c = rw (← c .before .before .link-length .ensures, ← c .before .is-book-float .ensures, c .if1 .taken)
 
 -- the length is a book's float

@@ -4,7 +4,8 @@ use mathlib.Core.Path.{_≡_}
 use mathlib.Core.Bool.{true}
 use Rattle.floats.specs.Floats.{bookFloat}
 use Rattle.book_format.specs.Format.{originOffset, originAt}
-use Rattle.book_format.specs.Rows.{badOriginValue, badOriginPlace, lowest}
+use Rattle.laws.specs.Refusals.{firstOf}
+use Rattle.book_format.specs.Rows.{badOriginValue, badOriginPlace}
 use Rattle.book_format.proofs.Places.{sized-links}
 use Rattle.book_rows.specs.Elements.{originNumber}
 use Rattle.book_rows.proofs.Elements.{float-read}
@@ -12,7 +13,7 @@ use Rattle.book_rows.proofs.origin_row.Statement.{statement}
 use Rattle.book_rows.proofs.origin_row.Tie as tie
 
 returns : tie.Need-returns
-unfolding originNumber badOriginValue lowest
+unfolding originNumber badOriginValue firstOf
 returns c = rw (← c .before .before .origin-offset .ensures, ← c .before .is-book-float .ensures, c .if1 .taken)
 
 -- the offset is a book's float

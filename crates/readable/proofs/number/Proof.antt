@@ -8,7 +8,7 @@ use Rattle.readable.proofs.number.Tie as tie
 
 returns : tie.Need-returns
 unfolding bytesOf unitsOf
-returns c = c .before .before .before .check-book .ensures .0 ∙ number-moved _ _ _ _ _ 3072 8192 2048 refl refl refl
+returns c = c .before .before .before .check-book .ensures .number ∙ number-moved _ _ _ _ _ 3072 8192 2048 refl refl refl
 
 pub number-spec : {M : Type 1} → statement M
 number-spec = tie.close (tie.spec (λ c. search needs) (λ c. search needs) (λ c. search needs) (λ c κs. search needs) returns)
