@@ -1,3 +1,6 @@
+pub mod Accepts
+pub mod Networks
+pub mod Finished
 pub mod Stages
-pub mod Answers
 pub mod Demands
+pub mod Answers

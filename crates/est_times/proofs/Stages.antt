@@ -8,8 +8,7 @@ use lib.Dec.{T}
 use lib.ListN.{length, take}
 use lib.Seq.{length-take-le}
 use lib.Ieee.{Float, binary64, nanBits, ofBits}
-use Rattle.net_node.specs.Left.{placesOf}
-use Rattle.laws.specs.Answer.{Answer, refused, given}
+use Rattle.laws.specs.Answer.{Answer, refused, given, andThen}
 use Rattle.fields.specs.Fields.{u64At}
 use Rattle.floats.specs.Floats.{bookFloat}
 use Rattle.space.specs.Space.{bytesOf}
@@ -17,22 +16,22 @@ use Rattle.book_format.specs.Format.{departureBits}
 use Rattle.book_format.proofs.Floats.{book-no-nan}
 use Rattle.net_node.specs.declared.EstTime.{EstTime}
 use Rattle.net_node.specs.Table.{nodeAt, Room, Table, at}
+use Rattle.net_node.specs.Lent.{Sizes}
 use Rattle.grow_rules.specs.Growth.{Grown, departure}
 use Rattle.pass_rules.specs.Walks.{Inside}
-use Rattle.pass_rules.specs.Passes.{Timed, timedAs, passes}
-use Rattle.pass_rules.specs.Passes.{refused as untimed}
-use Rattle.pass_all.specs.Answers.{timedNumber, TimedInto}
-use Rattle.pass_all.proofs.Proper.{Proper, passes-proper}
+use Rattle.pass_rules.specs.Passes.{passes}
+use Rattle.pass_all.specs.Answers.{TimedAs}
 use Rattle.report.specs.declared.Report.{Report}
 use Rattle.grow_book.specs.declared.GrownBook.{GrownBook}
 use Rattle.grow_book.specs.declared.GrownBook.the-variants.{Whole, Stopped}
 use Rattle.grow_book.specs.Answers.{WholeAs, GrownAs}
-use Rattle.grow_for_tests.specs.Network.{network, grownNumber}
-use Rattle.grow_for_tests.proofs.Accepts.{head-there, departure-float, enough-of}
-use Rattle.grow_for_tests.proofs.Networks.{Sound, sound}
 use Rattle.est_times.specs.declared.Sheet.{Sheet}
 use Rattle.est_times.specs.declared.Sheet.the-variants.{Made, Refused}
-use Rattle.est_times.specs.Sheet.{Job, stopped, finished, jobTimed, jobOf, job, reportOf, answerAs, BuiltAs}
+use Rattle.est_times.specs.Network.{network}
+use Rattle.est_times.specs.Sheet.{Finished, finishedAs, timedFrom, job, reportOf}
+use Rattle.est_times.specs.Stages.{grownNumber, BuiltAs, answerAs}
+use Rattle.est_times.proofs.Accepts.{head-there, departure-float, enough-of}
+use Rattle.est_times.proofs.Networks.{Sound, sound}
 
 -- ---- the small functions
 
@@ -53,19 +52,22 @@ departure-is b k e = ap (ofBits binary64) e
 
 -- ---- the job by its stages
 
-job-is : (b : List ℕ) (f n bytes : ℕ) → job b f n bytes ≡ jobOf b (network b f n bytes)
+job-is : (b : List ℕ) (z : Sizes) → job b z ≡ andThen (network b z) (timedFrom b)
 unfolding job
-job-is b f n bytes = refl
+job-is b z = refl
 
-pub built-refused : (b : List ℕ) (f n bytes : ℕ) (fs : List Float) (us : List ℕ) (grown : GrownBook) → GrownAs (network b f n bytes) fs us grown → {k : ℕ} → grown ≡ Stopped k
-    → (number : ℕ) → number ≡ grownNumber grown → (gs : List Float) (vs : List ℕ) → BuiltAs (job b f n bytes) gs vs (Refused number)
-built-refused b f n bytes fs us grown g {k} e number d gs vs =
-    let h : network b f n bytes ≡ refused k = subst (GrownAs (network b f n bytes) fs us) e g in
-    subst (λ (j : Job). BuiltAs j gs vs (Refused number)) (sym (job-is b f n bytes ∙ ap (jobOf b) h)) (ap Refused (d ∙ ap grownNumber e))
+pub built-refused : (b : List ℕ) (z : Sizes) (fs : List Float) (us : List ℕ) (grown : GrownBook) → GrownAs (network b z) fs us grown → {k : ℕ} → grown ≡ Stopped k
+    → (number : ℕ) → number ≡ grownNumber grown → (t : Table) → BuiltAs (job b z) t (Refused number)
+built-refused b z fs us grown g {k} e number d t =
+    let h : network b z ≡ refused k = subst (GrownAs (network b z) fs us) e g in
+    subst (λ (j : Answer Finished). BuiltAs j t (Refused number)) (sym (job-is b z ∙ ap (λ (a : Answer Grown). andThen a (timedFrom b)) h)) (ap Refused (d ∙ ap grownNumber e))
 
-pub whole-told : (b : List ℕ) (f n bytes : ℕ) (fs : List Float) (us : List ℕ) (grown : GrownBook) → GrownAs (network b f n bytes) fs us grown → (r : Report) → grown ≡ Whole r
-    → WholeAs (network b f n bytes) fs us (r .nodes) (r .added) (r .splits) (r .joined) (r .finished)
-whole-told b f n bytes fs us grown g r e = subst (GrownAs (network b f n bytes) fs us) e g
+-- a network that is whole: what it is, with the counts of its report
+abbrev pub WholeOf : Answer Grown → List Float → List ℕ → Report → Type 0
+WholeOf a fs us r = WholeAs a fs us (r .nodes) (r .added) (r .splits) (r .joined) (r .finished)
+
+pub whole-told : (b : List ℕ) (z : Sizes) (fs : List Float) (us : List ℕ) (grown : GrownBook) → GrownAs (network b z) fs us grown → (r : Report) → grown ≡ Whole r → WholeOf (network b z) fs us r
+whole-told b z fs us grown g r e = subst (GrownAs (network b z) fs us) e g
 
 -- what the passes ask for, of slices of work space of these lengths
 pub record Ripe (b : List ℕ) (r c m : ℕ) (fs : List Float) (us : List ℕ) (n : ℕ) : Type 0 where
@@ -78,18 +80,19 @@ pub record Ripe (b : List ℕ) (r c m : ℕ) (fs : List Float) (us : List ℕ) (
   pub cells : n * 2 ≤ c
   pub marks : n ≤ m
 
-module _ (b : List ℕ) (f n r c m : ℕ) (fs : List Float) (us : List ℕ) (k added splits joined ended : ℕ) (w : WholeAs (network b f n (bytesOf r c m)) fs us k added splits joined ended) where
+module _ (b : List ℕ) (f n r c m : ℕ) (fs : List Float) (us : List ℕ) (report : Report)
+    (w : WholeOf (network b (record { floats = f; numbers = n; bytes = bytesOf r c m })) fs us report) where
   abbrev g : Grown
   g = w .network
 
-  grown-sound : Sound b f n (bytesOf r c m) g
-  grown-sound = sound b f n (bytesOf r c m) g (w .is)
+  grown-sound : Sound b (record { floats = f; numbers = n; bytes = bytesOf r c m }) g
+  grown-sound = sound b (record { floats = f; numbers = n; bytes = bytesOf r c m }) g (w .is)
 
   same-node : (i : ℕ) → nodeAt fs us i ≡ at (g .table) i
   unfolding at
   same-node i = ap (λ (xs : List Float). nodeAt xs us i) (sym (w .floats)) ∙ ap (λ (xs : List ℕ). nodeAt (g .table .floats) xs i) (sym (w .numbers))
 
-  pub ripe : Ripe b r c m fs us k
+  pub ripe : Ripe b r c m fs us (report .nodes)
   ripe =
       let s = grown-sound in
       let e = enough-of b f n r c m (s .passes) in
@@ -125,13 +128,13 @@ module _ (n c : ℕ) (cells : List ℕ) (h : n * 2 ≤ c) (e : length cells ≡ 
 
 -- ---- the passes' number
 
-timed-built : (g : Grown) (report : Report) (gs : List Float) (vs : List ℕ) (number : ℕ) (t : Timed) → Proper t → number ≡ timedNumber t → TimedInto t gs vs → report ≡ reportOf g → BuiltAs (jobTimed g t) gs vs (answerAs report number)
-timed-built g report gs vs number (untimed zero) p e i q = absurd (p refl)
-timed-built g report gs vs number (untimed (suc k)) p e i q = ap (answerAs report) e
-timed-built g report gs vs number (timedAs t) p e i q = (ap (answerAs report) e ∙ ap Made q, i)
+timed-built : (g : Grown) (report : Report) (left : Table) (number : ℕ) (t : Answer Table) → TimedAs t number left → report ≡ reportOf g
+    → BuiltAs (andThen t (λ (x : Table). given (finishedAs g x))) left (answerAs report number)
+timed-built g report left number (refused zero) h q = absurd (h .1 refl)
+timed-built g report left number (refused (suc k)) h q = ap (answerAs report) (h .0)
+timed-built g report left number (given t) h q = (ap (answerAs report) (h .0) ∙ ap Made q, h .1)
 
-module _ (b : List ℕ) (f n bytes : ℕ) (fs : List Float) (us : List ℕ) (report : Report) (w : WholeAs (network b f n bytes) fs us (report .nodes) (report .added) (report .splits) (report .joined) (report .finished))
-    (time : Float) (d : time ≡ departure b) where
+module _ (b : List ℕ) (z : Sizes) (fs : List Float) (us : List ℕ) (report : Report) (w : WholeOf (network b z) fs us report) (time : Float) (d : time ≡ departure b) where
   report-is : report ≡ reportOf (w .network)
   report-is = λ i. record { nodes = sym (w .nodes-are) i; added = sym (w .added-are) i; splits = sym (w .splits-are) i; joined = sym (w .joined-are) i; finished = sym (w .finished-are) i }
 
@@ -144,10 +147,10 @@ module _ (b : List ℕ) (f n bytes : ℕ) (fs : List Float) (us : List ℕ) (rep
       ∙ ap (λ (k : ℕ). passes (w .network .table) k time) (sym (w .nodes-are))
       ∙ ap (passes (w .network .table) (w .network .nodes)) d
 
-  pub built-whole : (number : ℕ) (gs : List Float) (vs : List ℕ) → number ≡ timedNumber (passes (record { floats = fs; numbers = us }) (report .nodes) time)
-      → TimedInto (passes (record { floats = fs; numbers = us }) (report .nodes) time) gs vs → (sheet : Sheet) → sheet ≡ answerAs report number → BuiltAs (job b f n bytes) gs vs sheet
-  built-whole number gs vs e i sheet q =
+  pub built-whole : (number : ℕ) (left : Table) → TimedAs (passes (record { floats = fs; numbers = us }) (report .nodes) time) number left
+      → (sheet : Sheet) → sheet ≡ answerAs report number → BuiltAs (job b z) left sheet
+  built-whole number left h sheet q =
       let p = passes (w .network .table) (w .network .nodes) (departure b) in
-      let h : BuiltAs (jobTimed (w .network) p) gs vs (answerAs report number) =
-      timed-built (w .network) report gs vs number p (passes-proper (w .network .table) (w .network .nodes) (departure b)) (e ∙ ap timedNumber passes-are) (subst (λ (t : Timed). TimedInto t gs vs) passes-are i) report-is in
-      subst (λ (j : Job). BuiltAs j gs vs sheet) (sym (job-is b f n bytes ∙ ap (jobOf b) (w .is))) (subst (BuiltAs (jobTimed (w .network) p) gs vs) (sym q) h)
+      let built : BuiltAs (timedFrom b (w .network)) left (answerAs report number) =
+          timed-built (w .network) report left number p (subst (λ (t : Answer Table). TimedAs t number left) passes-are h) report-is in
+      subst (λ (j : Answer Finished). BuiltAs j left sheet) (sym (job-is b z ∙ ap (λ (a : Answer Grown). andThen a (timedFrom b)) (w .is))) (subst (BuiltAs (timedFrom b (w .network)) left) (sym q) built)

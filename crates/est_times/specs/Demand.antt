@@ -3,16 +3,13 @@ use mathlib.Core.Path.{_≡_}
 use mathlib.Core.List.{List}
 use Prim.Native.Nat.{ℕ, _+_}
 use lib.ListN.{length}
-use lib.Ieee.{Float}
 use Rattle.laws.specs.Answer.{Answer, given}
-use Rattle.net_node.specs.Table.{nodeAt, Room, Table}
+use Rattle.net_node.specs.Table.{Room, Table, at}
 use Rattle.grow_rules.specs.Run.{Arc}
 use Rattle.grow_rules.specs.Growth.{Grown, grow}
 use Rattle.report.specs.declared.Report.{Report}
 use Rattle.arcs_growth.specs.Arcs.{arcsRead, SameArcs}
 use Rattle.arcs_growth.specs.Noted.{AllOfRuns}
-use Rattle.est_times.specs.declared.Sheet.{Sheet}
-use Rattle.est_times.specs.declared.Sheet.the-variants.{Made, Refused}
 
 -- "The growth rule is a definition over the book alone: the growth above on a table of its own, beside it a list": these arcs are its list, on whichever table of its own it is grown; and on some it is.
 pub record Noted (b : List ℕ) (arcs : List Arc) : Type 0 where
@@ -25,18 +22,14 @@ pub record Noted (b : List ℕ) (arcs : List Arc) : Type 0 where
   pub alone : (others : ℕ) (other : Table) (g : Grown) → Room (other .floats) (other .numbers) others → grow b others other ≡ given g → g .noted ≡ arcs
 
 -- Of a report and the lent table's nodes alone: what is read off the sheet.
-pub record Demand (b : List ℕ) (fs : List Float) (us : List ℕ) (r : Report) : Type 0 where
+pub record Demand (b : List ℕ) (t : Table) (r : Report) : Type 0 where
   pub noted : List Arc
   pub rule : Noted b noted
   -- the two lists hold the same arcs, each as often, both ends and every bit of time and distance
-  pub arcs : SameArcs noted (arcsRead (nodeAt fs us) (r .nodes))
+  pub arcs : SameArcs noted (arcsRead (at t) (r .nodes))
   -- each arc leads out with zeros, from the start to an origin's Arrive, or from one event of a run to the very next of that run with its own differences
-  pub of-runs : AllOfRuns b (nodeAt fs us) noted
+  pub of-runs : AllOfRuns b (at t) noted
   -- as many arcs as additions, joins and finishes
   pub counted : length noted ≡ r .added + r .joined + r .finished
   -- the start and each split begin a way, each join and each finish end one
   pub balanced : 1 + r .splits ≡ r .joined + r .finished
-
-abbrev pub DemandOf : List ℕ → List Float → List ℕ → Sheet → Type 0
-DemandOf b fs us (Made r) = Demand b fs us r
-DemandOf b fs us (Refused k) = Unit

@@ -1,2 +1,4 @@
-pub mod Sheet
+pub mod Network
 pub mod Demand
+pub mod Sheet
+pub mod Stages

@@ -1,74 +1,69 @@
--- The whole job, `make_est_times`: a book is read, its network grown, checked and jobTimed. Put together from the definitions of the crates below, with no new algorithm.
+-- The whole job, `make_est_times`: a book is read, its network grown, checked and timed. Put together from the definitions of the crates below, with no new algorithm.
 use mathlib.Core.Path.{_≡_}
-use mathlib.Core.List.{List, _++_}
-use Prim.Native.Nat.{ℕ, zero, suc, _-_, _*_}
-use lib.ListN.{take}
-use lib.Ieee.{Float}
-use Rattle.net_node.specs.Table.{Table}
-use Rattle.laws.specs.Answer.{Answer, refused, given}
-use Rattle.space.specs.Space.{zeros, zeroFloats}
-use Rattle.grow_rules.specs.Growth.{Grown, departure}
-use Rattle.pass_rules.specs.Passes.{Timed, timedAs, passes}
-use Rattle.pass_rules.specs.Passes.{refused as untimed}
+use mathlib.Core.List.{List}
+use Prim.Native.Nat.{ℕ, zero, suc}
+use lib.ListN.{length}
+use Rattle.laws.specs.Answer.{Answer, refused, given, andThen}
 use Rattle.report.specs.declared.Report.{Report}
-use Rattle.grow_for_tests.specs.Network.{network}
+use Rattle.space.specs.Lent.{Cleared}
+use Rattle.net_node.specs.Table.{Table}
+use Rattle.net_node.specs.Left.{Network, floatsLeft, numbersLeft}
+use Rattle.net_node.specs.Lent.{Slices, Sizes, sizesOf}
+use Rattle.grow_rules.specs.Growth.{Grown, departure}
+use Rattle.pass_rules.specs.Passes.{passes}
 use Rattle.est_times.specs.declared.Sheet.{Sheet}
 use Rattle.est_times.specs.declared.Sheet.the-variants.{Made, Refused}
+use Rattle.est_times.specs.Network.{network}
+use Rattle.est_times.specs.Demand.{Demand}
 
--- what becomes of a book: refused with a number, or grown so and jobTimed as this table
-pub data Job : Type 0 where
-  stopped : ℕ → Job
-  finished : Grown → Table → Job
+-- a book's network as it was grown, and its table as it was timed
+pub record Finished : Type 0 where
+  pub grown : Grown
+  pub timed : Table
 
-abbrev pub jobTimed : Grown → Timed → Job
-jobTimed g (untimed k) = stopped k
-jobTimed g (timedAs t) = finished g t
+abbrev pub finishedAs : Grown → Table → Finished
+finishedAs g t = record { grown = g; timed = t }
 
-abbrev pub jobOf : List ℕ → Answer Grown → Job
-jobOf b (refused k) = stopped k
-jobOf b (given g) = jobTimed g (passes (g .table) (g .nodes) (departure b))
+abbrev pub timedFrom : List ℕ → Grown → Answer Finished
+timedFrom b g = andThen (passes (g .table) (g .nodes) (departure b)) (λ (t : Table). given (finishedAs g t))
 
--- rows 1 to 13, then 14 to 16, for a table of so many floats and numbers and so many bytes of work space
-unfoldable pub job : List ℕ → ℕ → ℕ → ℕ → Job
-job b floats numbers bytes = jobOf b (network b floats numbers bytes)
+-- rows 1 to 13, then 14 to 16
+unfoldable pub job : List ℕ → Sizes → Answer Finished
+job b z = andThen (network b z) (timedFrom b)
 
 -- "a report of nodes, added (origins' nodes included), splits, joined, finished"
 abbrev pub reportOf : Grown → Report
 reportOf g = record { nodes = g .nodes; added = g .added; splits = g .splits; joined = g .joined; finished = g .finished }
 
-abbrev pub answered : Job → Sheet
-answered (stopped k) = Refused k
-answered (finished g t) = Made (reportOf g)
+abbrev pub answered : Answer Finished → Sheet
+answered (refused k) = Refused k
+answered (given f) = Made (reportOf (f .grown))
 
--- document 01's number for each answer
+-- the nodes that stay in the table
+abbrev pub sheetOf : Answer Finished → Answer Network
+sheetOf (refused k) = refused k
+sheetOf (given f) = given (record { table = f .timed; nodes = f .grown .nodes })
+
+-- document 01's number for each answer, and its report, which is zero on a refusal
 abbrev pub sheetNumber : Sheet → ℕ
 sheetNumber (Made r) = 0
 sheetNumber (Refused k) = k
 
--- the report's numbers, which are zero on a refusal
 abbrev pub reported : Sheet → Report
 reported (Made r) = r
 reported (Refused k) = record { nodes = 0; added = 0; splits = 0; joined = 0; finished = 0 }
 
--- the answer by the number that the passes give
-abbrev pub answerAs : Report → ℕ → Sheet
-answerAs r zero = Made r
-answerAs r (suc k) = Refused (suc k)
+-- ---- the promise of `make_est_times`
 
--- what the code of the whole answers, before the table is cleared behind the nodes
-abbrev pub BuiltAs : Job → List Float → List ℕ → Sheet → Type 0
-BuiltAs (stopped k) fs us r = r ≡ Refused k
-BuiltAs (finished g t) fs us r = (r ≡ Made (reportOf g)) × ((fs ≡ t .floats) × (us ≡ t .numbers))
+-- document 01 under "Arcs", of every accepted book
+abbrev pub DemandOf : List ℕ → Table → Sheet → Type 0
+DemandOf b t (Made r) = Demand b t r
+DemandOf b t (Refused k) = Unit
 
-abbrev pub sheetNodes : Sheet → ℕ
-sheetNodes (Made r) = r .nodes
-sheetNodes (Refused k) = 0
-
--- "nodes in the lent table (4 f64 and 6 u32 each, as many places as both slices fill, all else zero)"; "Refused: the number; every lent table and the report are zero"
-abbrev pub floatsAs : Job → ℕ → List Float
-floatsAs (stopped k) size = zeroFloats size
-floatsAs (finished g t) size = take (g .nodes * 4) (t .floats) ++ zeroFloats (size - g .nodes * 4)
-
-abbrev pub numbersAs : Job → ℕ → List ℕ
-numbersAs (stopped k) size = zeros size
-numbersAs (finished g t) size = take (g .nodes * 6) (t .numbers) ++ zeros (size - g .nodes * 6)
+-- For a book, what was lent at entry and what stands there at exit: the answer, both slices of the table, the work space, and demand 3, whatever table and work space held.
+pub record SheetMade (b : List ℕ) (lent left : Slices) (r : Sheet) : Type 0 where
+  pub answer : r ≡ answered (job b (sizesOf lent))
+  pub floats : left .table .floats ≡ floatsLeft (sheetOf (job b (sizesOf lent))) (length (lent .table .floats))
+  pub numbers : left .table .numbers ≡ numbersLeft (sheetOf (job b (sizesOf lent))) (length (lent .table .numbers))
+  pub work : Cleared (lent .work) (left .work)
+  pub demand : DemandOf b (left .table) r

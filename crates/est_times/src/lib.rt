@@ -1,4 +1,5 @@
-// Estimated times: a book to its sheet. Contracts: specs/Sheet.antt, specs/Demand.antt.
+// Estimated times: a book to its sheet. Contracts: specs/Sheet.antt, specs/Network.antt; of the inner functions specs/Stages.antt.
+use book_reader::Reading;
 use grow_book::GrownBook;
 use report::Report;
 ghost use mathlib.Core.Path.{_≡_};
@@ -7,16 +8,50 @@ ghost use Prim.Native.Nat.{_≤_};
 ghost use lib.ListN.{length};
 ghost use Rattle.floats.specs.Floats.{bookFloat};
 ghost use Rattle.book_format.specs.Format.{departureBits};
+ghost use Rattle.net_node.specs.Lent.{tableAtExit, lentAtEntry, lentAtExit, sizesOf};
 ghost use Rattle.grow_rules.specs.Growth.{departure};
-ghost use Rattle.grow_for_tests.specs.Network.{grownNumber};
-ghost use Rattle.space.specs.Space.{bytesOf, zeros, zeroFloats};
-ghost use Rattle.est_times.specs.Sheet.{job, answered, answerAs, BuiltAs, sheetNodes, floatsAs, numbersAs};
-ghost use Rattle.est_times.specs.Demand.{DemandOf};
+ghost use Rattle.grow_book.specs.Answers.{GrownAs};
+ghost use Rattle.est_times.specs.Network.{network};
+ghost use Rattle.est_times.specs.Sheet.{job, SheetMade};
+ghost use Rattle.est_times.specs.Stages.{Begun, grownNumber, BuiltAs, answerAs, sheetNodes};
 
 // The report of a sheet, or the number of a refusal.
 pub enum Sheet {
     Made(Report),
     Refused(u32),
+}
+
+// Makes zero what growth begins with: the table, the cells and the marks.
+pub fn clear_before(floats: &mut [f64], numbers: &mut [u32], cells: &mut [u32], marks: &mut [u32])
+    ensures { λ _. ⌜ Begun (now (floats .exit)) (now (numbers .exit)) (now (cells .exit)) (now (marks .exit)) ⌝ }
+{
+    space::clear_floats(floats);
+    space::clear_numbers(numbers);
+    space::clear_numbers(cells);
+    space::clear_numbers(marks);
+}
+
+// Reads a book and grows its network, rows 1 to 13.
+pub fn read_and_grow(
+    book: &[u8],
+    floats: &mut [f64],
+    numbers: &mut [u32],
+    reals: &mut [f64],
+    cells: &mut [u32],
+    marks: &mut [u32],
+) -> GrownBook
+    requires { ⌜ Begun (now floats) (now numbers) (now cells) (now marks) ⌝ }
+    ensures { λ r. ⌜ GrownAs (network (now (book .entry)) (sizesOf (lentAtEntry floats numbers reals cells marks)))
+        (now (floats .exit)) (now (numbers .exit)) r ⌝ }
+{
+    let places = net_node::places(floats.len(), numbers.len());
+    let reading = book_reader::read_book(book, places, reals.len(), cells, marks);
+    match reading {
+        Reading::Refused(k) => GrownBook::Stopped(k),
+        Reading::Accepted(s, kept) => {
+            grow_book::grow_book(book, s, kept, floats, numbers, reals, cells, marks)
+        }
+    }
 }
 
 // The number of a growth that was refused.
@@ -48,7 +83,7 @@ fn answer(report: Report, number: u32) -> Sheet
     Sheet::Refused(number)
 }
 
-// Reads a book, grows its network, checks it and times it, in a table, cells and marks that are zero.
+// Reads a book, grows its network, checks it and times it.
 fn build(
     book: &[u8],
     floats: &mut [f64],
@@ -57,13 +92,11 @@ fn build(
     cells: &mut [u32],
     marks: &mut [u32],
 ) -> Sheet
-    requires { ⌜ now floats ≡ zeroFloats (length (now floats)) ⌝ }
-    requires { ⌜ now numbers ≡ zeros (length (now numbers)) ⌝ }
-    requires { ⌜ now cells ≡ zeros (length (now cells)) ⌝ }
-    requires { ⌜ now marks ≡ zeros (length (now marks)) ⌝ }
-    ensures { λ r. ⌜ BuiltAs (job (now (book .entry)) (length (now (floats .entry))) (length (now (numbers .entry))) (bytesOf (length (now (reals .entry))) (length (now (cells .entry))) (length (now (marks .entry))))) (now (floats .exit)) (now (numbers .exit)) r ⌝ }
+    requires { ⌜ Begun (now floats) (now numbers) (now cells) (now marks) ⌝ }
+    ensures { λ r. ⌜ BuiltAs (job (now (book .entry)) (sizesOf (lentAtEntry floats numbers reals cells marks)))
+        (tableAtExit floats numbers) r ⌝ }
 {
-    let grown = grow_for_tests::read_and_grow(book, floats, numbers, reals, cells, marks);
+    let grown = read_and_grow(book, floats, numbers, reals, cells, marks);
     let GrownBook::Whole(report) = grown else {
         return Sheet::Refused(number_of(grown));
     };
@@ -85,7 +118,8 @@ fn nodes_of(sheet: Sheet) -> usize
     }
 }
 
-// Makes the sheet of a book in a lent table: every route with its splits and joins, timed. Whatever table and work space held, the table has the sheet then, or is zero, and the work space is zero.
+// Makes the sheet of a book in a lent table: every route with its splits and joins, timed. Whatever table and work space held,
+// the table has the sheet then, or is zero, and the work space is zero.
 pub fn make_est_times(
     book: &[u8],
     floats: &mut [f64],
@@ -94,18 +128,13 @@ pub fn make_est_times(
     cells: &mut [u32],
     marks: &mut [u32],
 ) -> Sheet
-    ensures answer { λ r. ⌜ r ≡ answered (job (now (book .entry)) (length (now (floats .entry))) (length (now (numbers .entry))) (bytesOf (length (now (reals .entry))) (length (now (cells .entry))) (length (now (marks .entry))))) ⌝ }
-    ensures floats { λ _. ⌜ now (floats .exit) ≡ floatsAs (job (now (book .entry)) (length (now (floats .entry))) (length (now (numbers .entry))) (bytesOf (length (now (reals .entry))) (length (now (cells .entry))) (length (now (marks .entry))))) (length (now (floats .entry))) ⌝ }
-    ensures numbers { λ _. ⌜ now (numbers .exit) ≡ numbersAs (job (now (book .entry)) (length (now (floats .entry))) (length (now (numbers .entry))) (bytesOf (length (now (reals .entry))) (length (now (cells .entry))) (length (now (marks .entry))))) (length (now (numbers .entry))) ⌝ }
-    ensures reals { λ _. ⌜ now (reals .exit) ≡ zeroFloats (length (now (reals .entry))) ⌝ }
-    ensures cells { λ _. ⌜ now (cells .exit) ≡ zeros (length (now (cells .entry))) ⌝ }
-    ensures marks { λ _. ⌜ now (marks .exit) ≡ zeros (length (now (marks .entry))) ⌝ }
-    ensures demand { λ r. ⌜ DemandOf (now (book .entry)) (now (floats .exit)) (now (numbers .exit)) r ⌝ }
+    ensures { λ r. ⌜ SheetMade (now (book .entry)) (lentAtEntry floats numbers reals cells marks)
+        (lentAtExit floats numbers reals cells marks) r ⌝ }
 {
-    grow_for_tests::clear_before(floats, numbers, cells, marks);
+    clear_before(floats, numbers, cells, marks);
     let sheet = build(book, floats, numbers, reals, cells, marks);
     let n = nodes_of(sheet);
     net_node::clear_behind(floats, numbers, n);
-    grow_for_tests::clear_work(reals, cells, marks);
+    space::clear_work(reals, cells, marks);
     sheet
 }

@@ -4,6 +4,7 @@ ghost use mathlib.Core.List.{_++_};
 ghost use Prim.Native.Nat.{_-_, min};
 ghost use lib.ListN.{length, take};
 ghost use Rattle.space.specs.Space.{unitsOf, zeros, zeroFloats};
+ghost use Rattle.space.specs.Lent.{workAtEntry, workAtExit, Cleared};
 
 // The smaller of two counts.
 pub fn smaller(a: usize, b: usize) -> usize
@@ -53,4 +54,13 @@ pub fn clear_floats(s: &mut [f64])
     ensures { λ _. ⌜ now (s .exit) ≡ zeroFloats (length (now (s .entry))) ⌝ }
 {
     clear_floats_from(s, 0)
+}
+
+// Makes the work space zero.
+pub fn clear_work(reals: &mut [f64], cells: &mut [u32], marks: &mut [u32])
+    ensures { λ _. ⌜ Cleared (workAtEntry reals cells marks) (workAtExit reals cells marks) ⌝ }
+{
+    clear_floats(reals);
+    clear_numbers(cells);
+    clear_numbers(marks);
 }

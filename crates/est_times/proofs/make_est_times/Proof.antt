@@ -1,57 +1,53 @@
--- `est_times::make_est_times` meets its contract.
-use mathlib.Core.Path.{_≡_, sym, ap, _∙_, refl}
+-- `est_times::make_est_times` meets its contract: proofs/Answers.antt, `sheet-made`.
+use mathlib.Core.Path.{_≡_, refl, sym, ap, _∙_}
 use native.Mathlib.Omega.{arith}
 use borrow.Author.Needs.{needs}
-use Rattle.space.proofs.Zeros.{zeros-again, zeros-as}
-use Rattle.grow_for_tests.proofs.Networks.{floats-again, floats-zero}
-use Rattle.est_times.proofs.Answers.{nodes-most, final-answer, final-floats, final-numbers}
-use Rattle.est_times.proofs.Demands.{final-demand}
+use Rattle.est_times.proofs.Answers.{nodes-most, sheet-made, cleared-as}
 use Rattle.est_times.proofs.make_est_times.Statement.{statement}
 use Rattle.est_times.proofs.make_est_times.Tie as tie
 
-build-requires : tie.Need-build-requires
-build-requires c κs = (
-  floats-again _ _ (c .before .before .before .before .before .before .before .before .before .before .before .before .before .clear-before .ensures .0),
-  (zeros-again _ _ (c .before .before .before .before .before .before .before .before .before .before .before .before .before .clear-before .ensures .1 .0), (zeros-again _ _ (c .before .before .before .before .before .before .before .before .before .before .before .before .before .clear-before .ensures .1 .1 .0), zeros-again _ _ (c .before .before .before .before .before .before .before .before .before .before .before .before .before .clear-before .ensures .1 .1 .1))),
-)
-
 clear-behind-requires : tie.Need-clear-behind-requires
-clear-behind-requires c κs = omega (arith, c .before .before .nodes-of .ensures, nodes-most _ _ _ _ _ _ (c .before .before .before .before .before .before .before .before .before .before .before .before .before .build .result) (c .before .before .before .before .before .before .before .before .before .before .before .before .before .build .ensures))
+clear-behind-requires c κs =
+    let built = c .before .before .before .before .before .before .before .before .before .before .before .before .before in
+    omega (arith, c .before .before .nodes-of .ensures, nodes-most _ _ _ (built .build .result) (built .build .ensures))
 
 same-length : tie.Need-same-length
-same-length c = omega (arith, c .before .before .before .before .before .before .before .before .before .before .before .before .before .before .clear-behind .kept, c .before .before .before .before .before .before .before .before .before .before .before .before .before .before .before .before .before .before .before .before .before .before .before .before .before .before .before .before .build .kept, c .before .before .before .before .before .before .before .before .before .before .before .before .before .before .before .before .before .before .before .before .before .before .before .before .before .before .before .before .before .before .before .before .before .before .before .before .before .before .before .before .before .before .clear-before .kept)
+same-length c =
+    let behind = c .before .before .before .before .before .before .before .before .before .before .before .before .before .before in
+    let built = behind .before .before .before .before .before .before .before .before .before .before .before .before .before .before in
+    let begun = built .before .before .before .before .before .before .before .before .before .before .before .before .before .before in
+    omega (arith, behind .clear-behind .kept, built .build .kept, begun .clear-before .kept)
 
 same-length-2 : tie.Need-same-length-2
-same-length-2 c = omega (arith, c .before .before .before .before .before .before .before .before .before .before .before .before .before .before .clear-behind .kept, c .before .before .before .before .before .before .before .before .before .before .before .before .before .before .before .before .before .before .before .before .before .before .before .before .before .before .before .before .build .kept, c .before .before .before .before .before .before .before .before .before .before .before .before .before .before .before .before .before .before .before .before .before .before .before .before .before .before .before .before .before .before .before .before .before .before .before .before .before .before .before .before .before .before .clear-before .kept)
+same-length-2 c =
+    let behind = c .before .before .before .before .before .before .before .before .before .before .before .before .before .before in
+    let built = behind .before .before .before .before .before .before .before .before .before .before .before .before .before .before in
+    let begun = built .before .before .before .before .before .before .before .before .before .before .before .before .before .before in
+    omega (arith, behind .clear-behind .kept, built .build .kept, begun .clear-before .kept)
 
 same-length-3 : tie.Need-same-length-3
-same-length-3 c = omega (arith, c .before .before .before .before .before .before .clear-work .kept, c .before .before .before .before .before .before .before .before .before .before .before .before .before .before .before .before .before .before .before .before .before .before .before .before .before .before .before .before .build .kept)
+same-length-3 c =
+    let cleared = c .before .before .before .before .before .before in
+    omega (arith, cleared .clear-work .kept, cleared .before .before .before .before .before .before .before .before .before .before .before .before .before .before .before .before .before .before .before .before .before .before .build .kept)
 
 returns : tie.Need-returns
 returns c =
-    let k = c .before .before .before .before .before .before .before .before .before .before .before .before .before .before .before .before .before .before .before .before .before .before .before .before .before .before .before .before .build .kept in (
-      final-answer _ _ _ _ _ _ _ _ (c .before .before .before .before .before .before .before .before .before .before .before .before .before .before .before .before .before .before .before .before .before .before .before .before .before .before .before .before .build .result) (c .before .before .before .before .before .before .before .before .before .before .before .before .before .before .before .before .before .before .before .before .before .before .before .before .before .before .before .before .build .ensures) _ _ _ _ _ (c .before .before .before .before .before .before .before .before .before .before .before .before .before .before .before .before .before .before .before .before .before .before .before .before .before .before .before .before .before .before .before .before .before .before .before .before .before .before .before .before .before .before .clear-before .kept .0) (c .before .before .before .before .before .before .before .before .before .before .before .before .before .before .before .before .before .before .before .before .before .before .before .before .before .before .before .before .before .before .before .before .before .before .before .before .before .before .before .before .before .before .clear-before .kept .1 .0) refl (c .before .before .before .before .before .before .before .before .before .before .before .before .before .before .before .before .before .before .before .before .before .before .before .before .before .before .before .before .before .before .before .before .before .before .before .before .before .before .before .before .before .before .clear-before .kept .1 .1 .0) (c .before .before .before .before .before .before .before .before .before .before .before .before .before .before .before .before .before .before .before .before .before .before .before .before .before .before .before .before .before .before .before .before .before .before .before .before .before .before .before .before .before .before .clear-before .kept .1 .1 .1 .0),
-      (
-        final-floats _ _ _ _ _ _ _ _ (c .before .before .before .before .before .before .before .before .before .before .before .before .before .before .before .before .before .before .before .before .before .before .before .before .before .before .before .before .build .result) (c .before .before .before .before .before .before .before .before .before .before .before .before .before .before .before .before .before .before .before .before .before .before .before .before .before .before .before .before .build .ensures) _ _ _ _ _ (c .before .before .before .before .before .before .before .before .before .before .before .before .before .before .before .before .before .before .before .before .before .before .before .before .before .before .before .before .before .before .before .before .before .before .before .before .before .before .before .before .before .before .clear-before .kept .0) (c .before .before .before .before .before .before .before .before .before .before .before .before .before .before .before .before .before .before .before .before .before .before .before .before .before .before .before .before .before .before .before .before .before .before .before .before .before .before .before .before .before .before .clear-before .kept .1 .0) refl (c .before .before .before .before .before .before .before .before .before .before .before .before .before .before .before .before .before .before .before .before .before .before .before .before .before .before .before .before .before .before .before .before .before .before .before .before .before .before .before .before .before .before .clear-before .kept .1 .1 .0) (c .before .before .before .before .before .before .before .before .before .before .before .before .before .before .before .before .before .before .before .before .before .before .before .before .before .before .before .before .before .before .before .before .before .before .before .before .before .before .before .before .before .before .clear-before .kept .1 .1 .1 .0) _ (c .before .before .before .before .before .before .before .before .before .before .before .before .before .before .before .before .before .nodes-of .ensures) _ (c .before .before .before .before .before .before .before .before .before .before .before .before .before .before .clear-behind .ensures .0) (omega (arith, k, c .before .before .before .before .before .before .before .before .before .before .before .before .before .before .before .before .before .before .before .before .before .before .before .before .before .before .before .before .before .before .before .before .before .before .before .before .before .before .before .before .before .before .clear-before .kept)),
-        (
-          final-numbers _ _ _ _ _ _ _ _ (c .before .before .before .before .before .before .before .before .before .before .before .before .before .before .before .before .before .before .before .before .before .before .before .before .before .before .before .before .build .result) (c .before .before .before .before .before .before .before .before .before .before .before .before .before .before .before .before .before .before .before .before .before .before .before .before .before .before .before .before .build .ensures) _ _ _ _ _ (c .before .before .before .before .before .before .before .before .before .before .before .before .before .before .before .before .before .before .before .before .before .before .before .before .before .before .before .before .before .before .before .before .before .before .before .before .before .before .before .before .before .before .clear-before .kept .0) (c .before .before .before .before .before .before .before .before .before .before .before .before .before .before .before .before .before .before .before .before .before .before .before .before .before .before .before .before .before .before .before .before .before .before .before .before .before .before .before .before .before .before .clear-before .kept .1 .0) refl (c .before .before .before .before .before .before .before .before .before .before .before .before .before .before .before .before .before .before .before .before .before .before .before .before .before .before .before .before .before .before .before .before .before .before .before .before .before .before .before .before .before .before .clear-before .kept .1 .1 .0) (c .before .before .before .before .before .before .before .before .before .before .before .before .before .before .before .before .before .before .before .before .before .before .before .before .before .before .before .before .before .before .before .before .before .before .before .before .before .before .before .before .before .before .clear-before .kept .1 .1 .1 .0) _ (c .before .before .before .before .before .before .before .before .before .before .before .before .before .before .before .before .before .nodes-of .ensures) _ (c .before .before .before .before .before .before .before .before .before .before .before .before .before .before .clear-behind .ensures .1) (omega (arith, k, c .before .before .before .before .before .before .before .before .before .before .before .before .before .before .before .before .before .before .before .before .before .before .before .before .before .before .before .before .before .before .before .before .before .before .before .before .before .before .before .before .before .before .clear-before .kept)),
-          (
-            floats-zero _ _ _ (c .before .before .before .before .before .before .clear-work .ensures .0) (omega (arith, k, c .before .before .before .before .before .before .before .before .before .before .before .before .before .before .before .before .before .before .before .before .before .before .before .before .before .before .before .before .before .before .before .before .before .before .before .before .before .before .before .before .before .before .clear-before .kept)),
-            (
-              zeros-as _ _ _ (c .before .before .before .before .before .before .clear-work .ensures .1 .0) (omega (arith, k, c .before .before .before .before .before .before .before .before .before .before .before .before .before .before .before .before .before .before .before .before .before .before .before .before .before .before .before .before .before .before .before .before .before .before .before .before .before .before .before .before .before .before .clear-before .kept)),
-              (zeros-as _ _ _ (c .before .before .before .before .before .before .clear-work .ensures .1 .1) (omega (arith, k, c .before .before .before .before .before .before .before .before .before .before .before .before .before .before .before .before .before .before .before .before .before .before .before .before .before .before .before .before .before .before .before .before .before .before .before .before .before .before .before .before .before .before .clear-before .kept)), final-demand _ _ _ _ _ _ (c .before .before .before .before .before .before .before .before .before .before .before .before .before .before .before .before .before .before .before .before .before .before .before .before .before .before .before .before .build .result) (c .before .before .before .before .before .before .before .before .before .before .before .before .before .before .before .before .before .before .before .before .before .before .before .before .before .before .before .before .build .ensures) (k .1 .0) (k .1 .1 .0) _ (c .before .before .before .before .before .before .before .before .before .before .before .before .before .before .before .before .before .nodes-of .ensures) _ _ (c .before .before .before .before .before .before .before .before .before .before .before .before .before .before .clear-behind .ensures .0) (c .before .before .before .before .before .before .before .before .before .before .before .before .before .before .clear-behind .ensures .1)),
-            ),
-          ),
-        ),
-      ),
-    )
+    let cleared = c .before .before .before .before .before .before in
+    let behind = cleared .before .before .before .before .before .before .before .before in
+    let nodes = behind .before .before .before in
+    let built = nodes .before .before .before .before .before .before .before .before .before .before .before in
+    let begun = built .before .before .before .before .before .before .before .before .before .before .before .before .before .before in
+    let k = built .build .kept in
+    let l = begun .clear-before .kept in
+    sheet-made _ _ _ _ _ (built .build .result) (record { floats = l .0; numbers = l .1 .0; reals = refl; cells = l .1 .1 .0; marks = l .1 .1 .1 .0 }) (built .build .ensures) (omega (arith, k, l)) (omega (arith, k, l)) _ (nodes .nodes-of .ensures)
+    (behind .clear-behind .ensures .0) (behind .clear-behind .ensures .1) (cleared-as (omega (arith, k, l)) (omega (arith, k, l)) (omega (arith, k, l)) (cleared .clear-work .ensures))
 
 pub make-est-times-spec : {M : Type 1} → statement M
 make-est-times-spec =
     tie.close
     (tie.spec
     (λ c κs. search needs)
-    build-requires
+    (λ c κs. c .before .before .before .before .before .before .before .before .before .before .before .before .before .clear-before .ensures)
     (λ c κs. search needs)
     clear-behind-requires
     (λ c κs. search needs)

@@ -6,34 +6,26 @@ use Prim.Native.Nat.{ℕ, zero, suc, _+_, _*_, _/_, _≤_, _<_, min}
 use native.Mathlib.Omega.{arith}
 use borrow.Author.Tests.{not-false}
 use lib.ListN.{length}
+use Rattle.net_node.specs.Table.{floatWidth, numberWidth}
 use Rattle.net_node.specs.Left.{placesOf}
 use Rattle.laws.specs.Below.{someBelow}
+use Rattle.laws.proofs.Refusals.{none-holds}
 use Rattle.laws.proofs.Below.{none-left, none-right}
 use Rattle.floats.specs.Floats.{bookFloat}
 use Rattle.space.specs.Space.{unitsOf, bytesOf}
 use Rattle.book_format.specs.declared.Sections.{Sections}
 use Rattle.book_format.specs.Format.{links, origins, destinations, legs, samples, linkLength, joinBits, departureBits, lengthBits}
-use Rattle.book_format.specs.Rows.{row1, row2, row3, row4, row5, row6, row7, workBytes, badOriginValue, badSample, badLeg, legRepeats, legFalls, legBegins, lowest}
+use Rattle.book_format.specs.Rows.{row1, row2, row3, row4, row5, row6, row7, workBytes, badOriginValue, badSample, badLeg, legRepeats, legFalls, legBegins}
 use Rattle.book_format.proofs.Theorems.{length-by-counts}
 use Rattle.book_options.specs.Options.{row8}
 use Rattle.book_reader.specs.declared.Reading.{Reading}
 use Rattle.book_reader.specs.declared.Reading.the-variants.{Accepted, Refused}
-use Rattle.book_reader.specs.Reader.{readNumber, readingNumber, Ready, ReadInto}
+use Rattle.book_reader.specs.Reader.{readRows, readNumber, readingNumber, Ready, ReadInto, BookRead}
 use Rattle.book_reader.proofs.Rooms.{enough}
 use Rattle.arcs_growth.specs.Read.{Read}
 use Rattle.arcs_growth.proofs.Books.{read-rows}
 
 -- ---- the rows
-
-abbrev NoneHolds : List Bool → Type 0
-NoneHolds [] = Unit
-NoneHolds (r ∷ rows) = (r ≡ false) × NoneHolds rows
-
-none-holds : (n : ℕ) (rows : List Bool) → lowest (suc n) rows ≡ 0 → NoneHolds rows
-unfolding lowest
-none-holds n [] e = tt
-none-holds n (true ∷ rows) e = absurd (omega arith)
-none-holds n (false ∷ rows) e = (refl, none-holds (suc n) rows e)
 
 pub record Passes (b : List ℕ) (places bytes : ℕ) : Type 0 where
   pub one : row1 b ≡ false
@@ -47,8 +39,16 @@ pub record Passes (b : List ℕ) (places bytes : ℕ) : Type 0 where
 pub passes-of : (b : List ℕ) (places bytes : ℕ) → readNumber b places bytes ≡ 0 → Passes b places bytes
 unfolding readNumber
 passes-of b places bytes e =
-    let h = none-holds 0 (row1 b ∷ row2 b ∷ row3 b places bytes ∷ row4 b ∷ row5 b ∷ row6 b ∷ row7 b ∷ row8 b ∷ []) e in
-    record { one = h .0; two = h .1 .0; three = h .1 .1 .0; four = h .1 .1 .1 .0; five = h .1 .1 .1 .1 .0; seven = h .1 .1 .1 .1 .1 .1 .0; eight = h .1 .1 .1 .1 .1 .1 .1 .0 }
+    let h = none-holds (readRows b places bytes) refl e in
+    record {
+      one = h .0;
+      two = h .1 .0;
+      three = h .1 .1 .0;
+      four = h .1 .1 .1 .0;
+      five = h .1 .1 .1 .1 .0;
+      seven = h .1 .1 .1 .1 .1 .1 .0;
+      eight = h .1 .1 .1 .1 .1 .1 .1 .0;
+    }
 
 -- growth can read it
 pub read-of : {b : List ℕ} {places bytes : ℕ} → Passes b places bytes → Read b
@@ -99,7 +99,7 @@ pub places-most : (f n : ℕ) → placesOf f n ≤ 65535
 unfolding placesOf
 places-most f n = omega arith
 
-pub places-fit : (f n : ℕ) → (placesOf f n * 4 ≤ f) × (placesOf f n * 6 ≤ n)
+pub places-fit : (f n : ℕ) → (placesOf f n * floatWidth ≤ f) × (placesOf f n * numberWidth ≤ n)
 unfolding placesOf
 places-fit f n = (omega arith, omega arith)
 
@@ -109,15 +109,19 @@ enough-of b f n r c m p = enough-units b (placesOf f n) (unitsOf r c m) r c m (p
 
 -- ---- the reader's answer, once its case is known
 
-module _ (b : List ℕ) (cells marks : List ℕ) (n : ℕ) (r : Reading) (number : readingNumber r ≡ n) (into : ReadInto b cells marks r) where
+module _ (b : List ℕ) (places bytes : ℕ) (cells marks : List ℕ) (r : Reading) (read : BookRead b places bytes cells marks r) where
   pub accepted-ready : {s : Sections} {k : ℕ} → r ≡ Accepted s k → Ready b s k cells marks
-  accepted-ready e = subst (ReadInto b cells marks) e into
+  accepted-ready e = subst (ReadInto b cells marks) e (read .into)
 
-  pub accepted-zero : {s : Sections} {k : ℕ} → r ≡ Accepted s k → n ≡ 0
-  accepted-zero e = sym number ∙ ap readingNumber e
+  pub accepted-zero : {s : Sections} {k : ℕ} → r ≡ Accepted s k → readNumber b places bytes ≡ 0
+  accepted-zero e = sym (read .number) ∙ ap readingNumber e
 
-  pub refused-number : {k : ℕ} → r ≡ Refused k → n ≡ k
-  refused-number e = sym number ∙ ap readingNumber e
+  pub refused-number : {k : ℕ} → r ≡ Refused k → readNumber b places bytes ≡ k
+  refused-number e = sym (read .number) ∙ ap readingNumber e
 
   pub refused-some : {k : ℕ} → r ≡ Refused k → k ≡ 0 → ⊥
-  refused-some e = subst (ReadInto b cells marks) e into
+  refused-some e = subst (ReadInto b cells marks) e (read .into)
+
+-- the reader was told how many places there are
+pub read-as : {b : List ℕ} {places more bytes : ℕ} {cells marks : List ℕ} {r : Reading} → places ≡ more → BookRead b places bytes cells marks r → BookRead b more bytes cells marks r
+read-as {b} {places} {more} {bytes} {cells} {marks} {r} e = subst (λ (k : ℕ). BookRead b k bytes cells marks r) e
