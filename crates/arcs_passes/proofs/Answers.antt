@@ -1,26 +1,17 @@
--- Answers of which something holds: a failure holds, an answer has the property. One law for each way in which a pass combines answers, and for taking the best entry out of a queue.
-use mathlib.Core.Path.{_≡_, refl, subst}
+-- What holds of a pass's answers: behind an assertion, and of the best entry out of a queue.
+use mathlib.Core.Path.{_≡_, refl}
 use mathlib.Core.Bool.{Bool, true, false, cond}
 use mathlib.Core.List.{List, [], _∷_}
 use Prim.Native.Nat.{ℕ}
 use Rattle.pass_queue.specs.declared.Entry.{Entry}
 use Rattle.pass_queue.specs.Queue.{before, better, best, others}
-use Rattle.pass_rules.specs.Net.{Answer, fails, given, andThen, asserting}
-
-abbrev pub Holds : {A : Type 0} → (A → Type 0) → Answer A → Type 0
-Holds P fails = Unit
-Holds P (given a) = P a
-
-pub holds-then : {A B : Type 0} (P : A → Type 0) (Q : B → Type 0) (x : Answer A) (f : A → Answer B) → Holds P x → ((a : A) → P a → Holds Q (f a)) → Holds Q (andThen x f)
-holds-then P Q fails f h g = tt
-holds-then P Q (given a) f h g = g a h
+use Rattle.laws.specs.Answer.{Answer}
+use Rattle.laws.proofs.Answers.{Holds}
+use Rattle.pass_rules.specs.Net.{asserting}
 
 pub holds-if : {A : Type 0} (P : A → Type 0) (b : Bool) (x : Answer A) → (b ≡ true → Holds P x) → Holds P (asserting b x)
 holds-if P true x h = h refl
 holds-if P false x h = tt
-
-pub holds-given : {A : Type 0} (P : A → Type 0) (x : Answer A) (a : A) → Holds P x → x ≡ given a → P a
-holds-given P x a h e = subst (Holds P) e h
 
 -- ---- queues
 

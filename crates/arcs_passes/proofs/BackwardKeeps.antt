@@ -14,14 +14,16 @@ use Rattle.laws.proofs.Below.{none-right}
 use Rattle.net_node.specs.declared.EstTime.{EstTime}
 use Rattle.pass_queue.specs.declared.Entry.{Entry}
 use Rattle.pass_queue.specs.Queue.{best, others}
-use Rattle.pass_rules.specs.Net.{given, andThen, asserting, Pass}
+use Rattle.laws.specs.Answer.{given, andThen}
+use Rattle.laws.proofs.Answers.{Holds, holds-then, holds-given}
+use Rattle.pass_rules.specs.Net.{asserting, Pass}
 use Rattle.pass_rules.specs.Backward.{queued, enqueue, passed, At, relinkWalk, relinked, alternatedBy, stepOn, step, stopsAt, stopIf, strand, addedIf, settledBy, settle, turn, turns, lastTwo, backward}
 use Rattle.arcs_growth.specs.Arcs.{isBase}
 use Rattle.arcs_growth.specs.Shape.{isReceiver, Shape}
 use Rattle.arcs_passes.proofs.Roles.{never, receiver-inside}
 use Rattle.arcs_passes.proofs.Frames.{base-same, receiver-same}
 use Rattle.arcs_passes.proofs.Ways.{upward, event-receives}
-use Rattle.arcs_passes.proofs.Answers.{Holds, holds-then, holds-if, holds-given, Every, best-holds, others-hold}
+use Rattle.arcs_passes.proofs.Answers.{holds-if, Every, best-holds, others-hold}
 use Rattle.arcs_passes.proofs.BackwardRelinks.{Akin, walk-holds, Kept, kept-itself, kept-timed, kept-split}
 
 module _ (node : ℕ → EstTime) (n places : ℕ) (l : n ≤ places) where

@@ -11,7 +11,9 @@ use lib.Ieee.{Float}
 use Rattle.net_node.proofs.Tables.{RoomIn}
 use Rattle.net_node.specs.Table.{Table, at, isFake, setTime}
 use Rattle.net_node.specs.declared.EstTime.{EstTime}
-use Rattle.pass_rules.specs.Net.{Answer, fails, given, Pass}
+use Rattle.laws.specs.Answer.{Answer, refused, given}
+use Rattle.laws.proofs.Answers.{Holds, holds-so}
+use Rattle.pass_rules.specs.Net.{Pass}
 use Rattle.pass_rules.specs.Backward.{isPassable, walkedOn, relinkWalk, swapSplit, swappedIf}
 use Rattle.arcs_growth.specs.Arcs.{isBase, sourceOf, arcsRead, SameArcs, timesIn}
 use Rattle.arcs_growth.specs.Shape.{isReceiver, Shape}
@@ -22,7 +24,6 @@ use Rattle.arcs_passes.proofs.Swapped.{Swapped, swapped-shape}
 use Rattle.arcs_passes.proofs.Arcs.{Held, heldOf, goal-swapped, read-same, source-swapped-read}
 use Rattle.arcs_passes.proofs.Sets.{sets, sets-at, sets-other}
 use Rattle.arcs_passes.proofs.Stores.{view-itself, time-set, next-set, prev-set, held-set, times-swapped, both-swapped}
-use Rattle.arcs_passes.proofs.Answers.{Holds}
 
 -- ---- the walk
 
@@ -51,18 +52,14 @@ module _ (p : Pass) (n : ℕ) (s : Shape (at (p .table)) n) where
   unfolding relinkWalk
   walk-holds zero i b h = go (isPassable p i)
     where
-      go : (c : Bool) → Holds (Akin net n i) (walkedOn c i fails)
+      go : (c : Bool) → Holds (Akin net n i) (walkedOn c i (refused 15))
       go true = tt
       go false = record { base = b; inside = h; source = refl }
   walk-holds (suc k) i b h = go (isPassable p i) refl (walk-holds k (net i .«idx_prev»))
     where
-      further : Akin net n i (net i .«idx_prev») → (x : Answer ℕ) → Holds (Akin net n (net i .«idx_prev»)) x → Holds (Akin net n i) x
-      further a fails g = tt
-      further a (given j) g = record { base = g .base; inside = g .inside; source = g .source ∙ a .source }
-
       go : (c : Bool) → isPassable p i ≡ c → (isBase net n (net i .«idx_prev») ≡ true → net i .«idx_prev» < n → Holds (Akin net n (net i .«idx_prev»)) (relinkWalk k p (net i .«idx_prev»)))
           → Holds (Akin net n i) (walkedOn c i (relinkWalk k p (net i .«idx_prev»)))
-      go true e ih = let a = passed-up i b e in further a (relinkWalk k p (net i .«idx_prev»)) (ih (a .base) (a .inside))
+      go true e ih = let a = passed-up i b e in holds-so (Akin net n (net i .«idx_prev»)) (Akin net n i) (relinkWalk k p (net i .«idx_prev»)) (ih (a .base) (a .inside)) (λ (j : ℕ) (g : Akin net n (net i .«idx_prev») j). record { base = g .base; inside = g .inside; source = g .source ∙ a .source })
       go false e ih = record { base = b; inside = h; source = refl }
 
 -- ---- what the pass keeps of a network: room, the shape, frames, and each arc as often as it is there

@@ -14,7 +14,9 @@ use Rattle.laws.proofs.Below.{none-right}
 use Rattle.net_node.specs.declared.EstTime.{EstTime}
 use Rattle.pass_queue.specs.declared.Entry.{Entry}
 use Rattle.pass_queue.specs.Queue.{best, others}
-use Rattle.pass_rules.specs.Net.{given, andThen, asserting, Pass}
+use Rattle.laws.specs.Answer.{given, andThen}
+use Rattle.laws.proofs.Answers.{Holds, holds-then, holds-given}
+use Rattle.pass_rules.specs.Net.{asserting, Pass}
 use Rattle.pass_rules.specs.Forward.{timeNext, queued, enqueue, timed, At, relinkWalk, relinked, alternatedBy, stepOn, step, stopsAt, stopIf, strand, addedIf, settledBy, settle, turn, turns, firstTwo, forward}
 use Rattle.arcs_growth.specs.Arcs.{isBase, arcsRead}
 use Rattle.arcs_growth.specs.Shape.{isReceiver, Shape}
@@ -22,7 +24,7 @@ use Rattle.arcs_passes.proofs.Roles.{never, base-start, base-event, bas
 use Rattle.arcs_passes.proofs.Frames.{fake-same, base-same, receiver-same}
 use Rattle.arcs_passes.proofs.Ways.{onward}
 use Rattle.arcs_passes.proofs.Arcs.{read-same}
-use Rattle.arcs_passes.proofs.Answers.{Holds, holds-then, holds-if, holds-given, Every, best-holds, others-hold}
+use Rattle.arcs_passes.proofs.Answers.{holds-if, Every, best-holds, others-hold}
 use Rattle.arcs_passes.proofs.ForwardRelinks.{Alike, walk-holds, Forth, forth-itself, forth-timed, forth-joined}
 
 module _ (node : ℕ → EstTime) (n places : ℕ) (l : n ≤ places) where

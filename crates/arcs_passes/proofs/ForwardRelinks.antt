@@ -10,7 +10,9 @@ use lib.Ieee.{Float}
 use Rattle.net_node.proofs.Tables.{RoomIn}
 use Rattle.net_node.specs.Table.{Table, at, isFake, setTime}
 use Rattle.net_node.specs.declared.EstTime.{EstTime}
-use Rattle.pass_rules.specs.Net.{Answer, fails, given, Pass}
+use Rattle.laws.specs.Answer.{Answer, refused, given}
+use Rattle.laws.proofs.Answers.{Holds, holds-so}
+use Rattle.pass_rules.specs.Net.{Pass}
 use Rattle.pass_rules.specs.Forward.{isPassable, walkedOn, relinkWalk, swapJoin, swappedIf}
 use Rattle.arcs_growth.specs.Arcs.{isBase, goalOf}
 use Rattle.arcs_growth.specs.Shape.{isReceiver, Shape}
@@ -20,7 +22,6 @@ use Rattle.arcs_passes.proofs.Ways.{onward, goal-on}
 use Rattle.arcs_passes.proofs.Swapped.{Swapped, swapped-shape}
 use Rattle.arcs_passes.proofs.Arcs.{heldOf, EachArc, goal-swapped}
 use Rattle.arcs_passes.proofs.Stores.{view-itself, time-set, next-set, prev-set, times-swapped, both-swapped}
-use Rattle.arcs_passes.proofs.Answers.{Holds}
 
 -- ---- the walk
 
@@ -50,18 +51,14 @@ module _ (p : Pass) (n : ℕ) (s : Shape (at (p .table)) n) where
   unfolding relinkWalk
   walk-holds zero i r = go (isPassable p n i)
     where
-      go : (b : Bool) → Holds (Alike net n i) (walkedOn b i fails)
+      go : (b : Bool) → Holds (Alike net n i) (walkedOn b i (refused 15))
       go true = tt
       go false = record { receives = r; goal = refl }
   walk-holds (suc k) i r = go (isPassable p n i) refl (walk-holds k (net i .«idx_next»))
     where
-      further : Alike net n i (net i .«idx_next») → (x : Answer ℕ) → Holds (Alike net n (net i .«idx_next»)) x → Holds (Alike net n i) x
-      further a fails h = tt
-      further a (given j) h = record { receives = h .receives; goal = h .goal ∙ a .goal }
-
       go : (b : Bool) → isPassable p n i ≡ b → (isReceiver net n (net i .«idx_next») ≡ true → Holds (Alike net n (net i .«idx_next»)) (relinkWalk k p n (net i .«idx_next»)))
           → Holds (Alike net n i) (walkedOn b i (relinkWalk k p n (net i .«idx_next»)))
-      go true e ih = let a = passed-on i r e in further a (relinkWalk k p n (net i .«idx_next»)) (ih (a .receives))
+      go true e ih = let a = passed-on i r e in holds-so (Alike net n (net i .«idx_next»)) (Alike net n i) (relinkWalk k p n (net i .«idx_next»)) (ih (a .receives)) (λ (j : ℕ) (h : Alike net n (net i .«idx_next») j). record { receives = h .receives; goal = h .goal ∙ a .goal })
       go false e ih = record { receives = r; goal = refl }
 
 -- ---- what the pass keeps of a network: room, the shape, frames, and each base's arc

@@ -12,10 +12,12 @@ use Rattle.net_node.specs.Table.{Table, at}
 use Rattle.laws.proofs.Below.{none-at}
 use Rattle.net_node.specs.declared.EstTime.{EstTime}
 use Rattle.pass_rules.specs.Checks.{prevHolds, nextHolds, fakeHolds, prevLeads, nextLeads, notBothAlternates, nodeHolds, row14}
-use Rattle.pass_rules.specs.Net.{Answer, fails, given, Pass}
+use Rattle.laws.specs.Answer.{Answer, refused, given, andThen}
+use Rattle.laws.proofs.Answers.{Holds, holds-given}
+use Rattle.pass_rules.specs.Net.{Pass}
 use Rattle.pass_rules.specs.Forward.{forward}
 use Rattle.pass_rules.specs.Backward.{backward}
-use Rattle.pass_rules.specs.Passes.{Timed, refused, timedAs, someLeft, allZero, checkedAs, afterBackward, afterForward, passes}
+use Rattle.pass_rules.specs.Passes.{someLeft, allZero, checkedAs, afterBackward, afterForward, passes}
 use Rattle.arcs_growth.specs.Arcs.{isBase, isAlternative, arcsRead, SameArcs, timesIn}
 use Rattle.arcs_growth.specs.Shape.{isReceiver, Shape}
 use Rattle.arcs_passes.proofs.Roles.{either, and-left, and-right, or-is, same-or-not, base-start, base-alternative, is-receiver, end-receives-not}
@@ -70,12 +72,7 @@ module _ (node : ℕ → EstTime) (n : ℕ) (s : Shape node n) where
 
 -- ---- both passes
 
--- of an answer
-abbrev TimedHolds : (Table → Type 0) → Timed → Type 0
-TimedHolds P (refused k) = Unit
-TimedHolds P (timedAs t) = P t
-
-checked-holds : (P : Table → Type 0) (b : Bool) (k : ℕ) (x : Timed) → (b ≡ false → TimedHolds P x) → TimedHolds P (checkedAs b k x)
+checked-holds : (P : Table → Type 0) (b : Bool) (k : ℕ) (x : Answer Table) → (b ≡ false → Holds P x) → Holds P (checkedAs b k x)
 checked-holds P true k x h = tt
 checked-holds P false k x h = h refl
 
@@ -84,11 +81,11 @@ module _ (t : Table) (n places : ℕ) (l : n ≤ places) (r : RoomIn t places) (
   backward-arcs p e q = backward-keeps t n places l r s p (second-last-receives (at t) n s e) q .arcs
 
   after-backward : (p : Pass) → Forth (at t) n places (p .table) → arcsRead (at (p .table)) n ≡ arcsRead (at t) n → row14 (at t) n ≡ false → (x : Answer Pass) → backward (p .table) n ≡ x
-      → TimedHolds (Kept (at t) n places) (afterBackward n x)
-  after-backward p f a e fails q = tt
+      → Holds (Kept (at t) n places) (andThen x (afterBackward n))
+  after-backward p f a e (refused m) q = tt
   after-backward p f a e (given b) q =
-      checked-holds (Kept (at t) n places) (someLeft (b .done) n) 15 (checkedAs (allZero (b .table) n) 16 (timedAs (b .table)))
-      (λ o. checked-holds (Kept (at t) n places) (allZero (b .table) n) 16 (timedAs (b .table)) (λ z. kept))
+      checked-holds (Kept (at t) n places) (someLeft (b .done) n) 15 (checkedAs (allZero (b .table) n) 16 (given (b .table)))
+      (λ o. checked-holds (Kept (at t) n places) (allZero (b .table) n) 16 (given (b .table)) (λ z. kept))
     where
       back : Kept (at (p .table)) n places (b .table)
       back = backward-keeps (p .table) n places l (f .room) (f .shape) b (receiver-same (at t) (at (p .table)) (f .frames) n (n - 2) ∙ second-last-receives (at t) n s e) q
@@ -96,21 +93,21 @@ module _ (t : Table) (n places : ℕ) (l : n ≤ places) (r : RoomIn t places) (
       kept : Kept (at t) n places (b .table)
       kept = record { room = back .room; shape = back .shape; frames = λ x. back .frames x ∙ f .frames x; arcs = λ c. ap (timesIn c) (sym a) ∙ back .arcs c }
 
-  after-forward : (departure : Float) → row14 (at t) n ≡ false → (x : Answer Pass) → forward t n departure ≡ x → TimedHolds (Kept (at t) n places) (afterForward n x)
-  after-forward departure e fails q = tt
+  after-forward : (departure : Float) → row14 (at t) n ≡ false → (x : Answer Pass) → forward t n departure ≡ x → Holds (Kept (at t) n places) (andThen x (afterForward n))
+  after-forward departure e (refused m) q = tt
   after-forward departure e (given p) q =
-      checked-holds (Kept (at t) n places) (someLeft (p .done) n) 15 (afterBackward n (backward (p .table) n))
+      checked-holds (Kept (at t) n places) (someLeft (p .done) n) 15 (andThen (backward (p .table) n) (afterBackward n))
       (λ o. after-backward p (forward-keeps t n places l r s departure p q) (forward-arcs t n places l r s departure p q) e (backward (p .table) n) refl)
 
   -- both passes keep room, the shape, every event and alternative, and the arcs
-  pub passes-keep : (departure : Float) (u : Table) → passes t n departure ≡ timedAs u → Kept (at t) n places u
+  pub passes-keep : (departure : Float) (u : Table) → passes t n departure ≡ given u → Kept (at t) n places u
   unfolding passes
   passes-keep departure u e =
-      subst (TimedHolds (Kept (at t) n places)) e
-      (checked-holds (Kept (at t) n places) (row14 (at t) n) 14 (afterForward n (forward t n departure)) (λ o. after-forward departure o (forward t n departure) refl))
+      holds-given (Kept (at t) n places) (passes t n departure) u
+      (checked-holds (Kept (at t) n places) (row14 (at t) n) 14 (andThen (forward t n departure) (afterForward n)) (λ o. after-forward departure o (forward t n departure) refl)) e
 
-  pub passes-arcs : (departure : Float) (u : Table) → passes t n departure ≡ timedAs u → SameArcs (arcsRead (at t) n) (arcsRead (at u) n)
+  pub passes-arcs : (departure : Float) (u : Table) → passes t n departure ≡ given u → SameArcs (arcsRead (at t) n) (arcsRead (at u) n)
   passes-arcs departure u e = passes-keep departure u e .arcs
 
-  pub passes-events : (departure : Float) (u : Table) → passes t n departure ≡ timedAs u → (i : ℕ) → at u i .«link_event» ≡ at t i .«link_event»
+  pub passes-events : (departure : Float) (u : Table) → passes t n departure ≡ given u → (i : ℕ) → at u i .«link_event» ≡ at t i .«link_event»
   passes-events departure u e = event-same (at t) (at u) (passes-keep departure u e .frames)

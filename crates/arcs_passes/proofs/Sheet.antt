@@ -15,7 +15,7 @@ use Rattle.book_options.specs.Options.{row8}
 use Rattle.net_node.specs.declared.EstTime.{EstTime}
 use Rattle.grow_rules.specs.Run.{Arc}
 use Rattle.grow_rules.specs.Growth.{Grown, grow}
-use Rattle.pass_rules.specs.Passes.{Timed, timedAs, passes}
+use Rattle.pass_rules.specs.Passes.{passes}
 use Rattle.arcs_growth.specs.Arcs.{arcsRead, timesIn, SameArcs}
 use Rattle.arcs_growth.specs.Noted.{AllOfRuns, EndsInside}
 use Rattle.arcs_growth.specs.Shape.{Shape}
@@ -44,7 +44,7 @@ pub of-runs-all : (b : List ℕ) (n : ℕ) (node node′ : ℕ → EstTime) → 
 of-runs-all b n node node′ e [] d h = tt
 of-runs-all b n node node′ e (a ∷ rest) d h = (of-run-still b n node node′ e a (d .0 .0) (d .0 .1) (h .0), of-runs-all b n node node′ e rest (d .1) (h .1))
 
-module _ (b : List ℕ) (places : ℕ) (t : Table) (g : Grown) (read : Read b) (room : RoomIn t places) (grown : grow b places t ≡ given g) (departure : Float) (u : Table) (timed : passes (g .table) (g .nodes) departure ≡ timedAs u) where
+module _ (b : List ℕ) (places : ℕ) (t : Table) (g : Grown) (read : Read b) (room : RoomIn t places) (grown : grow b places t ≡ given g) (departure : Float) (u : Table) (timed : passes (g .table) (g .nodes) departure ≡ given u) where
   grows : GrownWell b places g
   grows = well b places t g read room grown
 
@@ -61,7 +61,7 @@ module _ (b : List ℕ) (places : ℕ) (t : Table) (g : Grown) (read : Read b) (
 
 -- the same of a book that rows 5, 7 and 8 let through
 pub sheet-rows : (b : List ℕ) (places : ℕ) (t : Table) (g : Grown) → row5 b ≡ false → someBelow (legs b) (badLeg b) ≡ false → row8 b ≡ false → RoomIn t places → grow b places t ≡ given g
-    → (departure : Float) (u : Table) → passes (g .table) (g .nodes) departure ≡ timedAs u → SheetWell b places g u
+    → (departure : Float) (u : Table) → passes (g .table) (g .nodes) departure ≡ given u → SheetWell b places g u
 sheet-rows b places t g five seven eight room grown departure u timed = sheet-well b places t g (read-rows b five seven eight) room grown departure u timed
 
 -- What a table's nodes say that agree with the finished sheet's in the first nodes: the lent table, in which all else is zero.

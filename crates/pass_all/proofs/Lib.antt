@@ -1,3 +1,2 @@
 pub mod Sweeps
 pub mod Stages
-pub mod Proper

@@ -1,8 +1,9 @@
 -- `passes`, a stage at a time: what it is behind each test of the code, and what each stage leaves for the next.
 use mathlib.Core.Path.{_≡_, refl, sym, ap, _∙_, subst}
+use mathlib.Core.Logic.{_≢_}
 use mathlib.Core.Bool.{Bool, true, false, not}
 use mathlib.Core.List.{List}
-use Prim.Native.Nat.{ℕ, _+_, _*_, _≤_, _<_}
+use Prim.Native.Nat.{ℕ, suc, _+_, _*_, _≤_, _<_}
 use native.Mathlib.Omega.{arith}
 use borrow.Author.Tests.{not-true, not-false}
 use lib.Dec.{ltb}
@@ -12,26 +13,26 @@ use Rattle.space.specs.Space.{zeros}
 use Rattle.space.proofs.Zeros.{zero-at}
 use Rattle.net_node.specs.Table.{nodeAt, Room, Table, at}
 use Rattle.pass_rules.specs.Checks.{row14}
-use Rattle.pass_rules.specs.Net.{Answer, fails, given, Pass}
+use Rattle.laws.specs.Answer.{Answer, refused, given, andThen}
+use Rattle.pass_rules.specs.Net.{Pass}
 use Rattle.pass_rules.specs.Forward.{forward}
 use Rattle.pass_rules.specs.Backward.{backward}
 use Rattle.pass_rules.specs.Walks.{Inside, doneIn}
-use Rattle.pass_rules.specs.Passes.{Timed, refused, timedAs, someLeft, allZero, checkedAs, afterForward, afterBackward, passes}
+use Rattle.pass_rules.specs.Passes.{someLeft, allZero, checkedAs, afterForward, afterBackward, passes}
 use Rattle.pass_state.specs.Held.{Ends, EndsAs}
-use Rattle.pass_all.specs.Answers.{timedNumber, TimedInto, sixteenIf}
+use Rattle.pass_all.specs.Answers.{TimedAs, sixteenIf}
 
 -- ---- the answers
 
--- what `run_passes` promises of a number and the table's lists
-abbrev pub Told : Timed → ℕ → List Float → List ℕ → Type 0
-Told t r fs us = (r ≡ timedNumber t) × TimedInto t fs us
+nonzero : (k : ℕ) → suc k ≢ 0
+nonzero k e = omega arith
 
-refused-told : (t : Timed) (k : ℕ) (fs : List Float) (us : List ℕ) → t ≡ refused k → Told t k fs us
-refused-told t k fs us e = subst (λ (x : Timed). Told x k fs us) (sym e) (refl, tt)
+refused-as : (t : Answer Table) (k : ℕ) (left : Table) → k ≢ 0 → t ≡ refused k → TimedAs t k left
+refused-as t k left h e = subst (λ (x : Answer Table). TimedAs x k left) (sym e) (refl, h)
 
-zero-told : (z : Bool) (fs : List Float) (us : List ℕ) → Told (checkedAs z 16 (timedAs (record { floats = fs; numbers = us }))) (sixteenIf z) fs us
-zero-told true fs us = (refl, tt)
-zero-told false fs us = (refl, (refl, refl))
+zero-as : (z : Bool) (left : Table) → TimedAs (checkedAs z 16 (given left)) (sixteenIf z) left
+zero-as true left = (refl, nonzero 15)
+zero-as false left = (refl, refl)
 
 -- ---- a pass that came to its end
 
@@ -39,7 +40,7 @@ module _ (answer : Answer Pass) (n base : ℕ) (start : List ℕ) (fs : List Flo
   pub ended : (r : Bool) → EndsAs answer n base start fs us cells r → not r ≡ false → Ends answer n base start fs us cells
   ended r a e = subst (EndsAs answer n base start fs us cells) (not-false r e) a
 
-  pub failed : (r : Bool) → EndsAs answer n base start fs us cells r → not r ≡ true → answer ≡ fails
+  pub failed : (r : Bool) → EndsAs answer n base start fs us cells r → not r ≡ true → answer ≡ refused 15
   failed r a e = subst (EndsAs answer n base start fs us cells) (not-true r e) a
 
 pub room-kept : (fs gs : List Float) (us vs : List ℕ) (n : ℕ) → Room fs us n → length gs ≡ length fs → length vs ≡ length us → Room gs vs n
@@ -61,68 +62,63 @@ none-flagged-yet {n = n} {start = start} d z i = ap (ltb 0) (d .elsewhere (n + i
 
 -- ---- backward
 
-module _ (fs : List Float) (us : List ℕ) (n : ℕ) where
-  abbrev back : Timed
-  back = afterBackward n (backward (record { floats = fs; numbers = us }) n)
+module _ (t : Table) (n : ℕ) where
+  abbrev back : Answer Table
+  back = andThen (backward t n) (afterBackward n)
 
-  pub told-backward : (gs : List Float) (vs : List ℕ) → backward (record { floats = fs; numbers = us }) n ≡ fails → Told back 15 gs vs
-  told-backward gs vs h = refused-told back 15 gs vs (ap (afterBackward n) h)
+  pub told-backward : (left : Table) → backward t n ≡ refused 15 → TimedAs back 15 left
+  told-backward left h = refused-as back 15 left (nonzero 14) (ap (λ (x : Answer Pass). andThen x (afterBackward n)) h)
 
   -- the pass came to its end
-  module _ {start cells : List ℕ} {gs : List Float} {vs : List ℕ} (q : Ends (backward (record { floats = fs; numbers = us }) n) n n start gs vs cells) where
-    abbrev behind : Timed
-    behind = checkedAs (allZero (record { floats = gs; numbers = vs }) n) 16 (timedAs (record { floats = gs; numbers = vs }))
+  module _ {start cells : List ℕ} (left : Table) (q : Ends (backward t n) n n start (left .floats) (left .numbers) cells) where
+    abbrev behind : Table → Answer Table
+    behind x = checkedAs (allZero x n) 16 (given x)
 
-    passed-is : (s t : Bool) → s ≡ someLeft (doneIn cells n) n → s ≡ t → back ≡ checkedAs t 15 behind
-    passed-is s t e d =
-        ap (afterBackward n) (q .is)
-        ∙ ap (λ (done : ℕ → Bool). checkedAs (someLeft done n) 15 (checkedAs (allZero (q .pass .table) n) 16 (timedAs (q .pass .table)))) (q .done)
-        ∙ ap (λ (x : Table). checkedAs (someLeft (doneIn cells n) n) 15 (checkedAs (allZero x n) 16 (timedAs x))) (q .table)
-        ∙ ap (λ (x : Bool). checkedAs x 15 behind) (sym e ∙ d)
+    passed-is : (s d : Bool) → s ≡ someLeft (doneIn cells n) n → s ≡ d → back ≡ checkedAs d 15 (behind left)
+    passed-is s d e f =
+        ap (λ (x : Answer Pass). andThen x (afterBackward n)) (q .is)
+        ∙ ap (λ (done : ℕ → Bool). checkedAs (someLeft done n) 15 (behind (q .pass .table))) (q .done)
+        ∙ ap (λ (x : Table). checkedAs (someLeft (doneIn cells n) n) 15 (behind x)) (q .table)
+        ∙ ap (λ (x : Bool). checkedAs x 15 (behind left)) (sym e ∙ f)
 
-    pub told-unpassed : (s : Bool) → s ≡ someLeft (doneIn cells n) n → s ≡ true → Told back 15 gs vs
-    told-unpassed s e d = refused-told back 15 gs vs (passed-is s true e d)
+    pub told-unpassed : (s : Bool) → s ≡ someLeft (doneIn cells n) n → s ≡ true → TimedAs back 15 left
+    told-unpassed s e d = refused-as back 15 left (nonzero 14) (passed-is s true e d)
 
-    pub told-times : (s : Bool) → s ≡ someLeft (doneIn cells n) n → s ≡ false → (z : Bool) → ((ws : List ℕ) → z ≡ allZero (record { floats = gs; numbers = ws }) n) → (r : ℕ) → r ≡ sixteenIf z → Told back r gs vs
+    pub told-times : (s : Bool) → s ≡ someLeft (doneIn cells n) n → s ≡ false → (z : Bool) → z ≡ allZero left n → (r : ℕ) → r ≡ sixteenIf z → TimedAs back r left
     told-times s e d z f r h =
-        subst (λ (k : ℕ). Told back k gs vs) (sym h)
-        (subst (λ (t : Timed). Told t (sixteenIf z) gs vs)
-        (sym (passed-is s false e d ∙ ap (λ (x : Bool). checkedAs x 16 (timedAs (record { floats = gs; numbers = vs }))) (sym (f vs))))
-        (zero-told z gs vs))
+        subst (λ (k : ℕ). TimedAs back k left) (sym h)
+        (subst (λ (x : Answer Table). TimedAs x (sixteenIf z) left) (sym (passed-is s false e d ∙ ap (λ (x : Bool). checkedAs x 16 (given left)) (sym f))) (zero-as z left))
 
 -- ---- the checks, and forward
 
-module _ (fs : List Float) (us : List ℕ) (n : ℕ) (departure : Float) where
-  abbrev lent : Table
-  lent = record { floats = fs; numbers = us }
+module _ (t : Table) (n : ℕ) (departure : Float) where
+  abbrev whole : Answer Table
+  whole = passes t n departure
 
-  abbrev whole : Timed
-  whole = passes lent n departure
-
-  checks-is : (b t : Bool) → b ≡ row14 (nodeAt fs us) n → b ≡ t → whole ≡ checkedAs t 14 (afterForward n (forward lent n departure))
+  checks-is : (b d : Bool) → b ≡ row14 (nodeAt (t .floats) (t .numbers)) n → b ≡ d → whole ≡ checkedAs d 14 (andThen (forward t n departure) (afterForward n))
   unfolding passes at
-  checks-is b t e d = ap (λ (x : Bool). checkedAs x 14 (afterForward n (forward lent n departure))) (sym e ∙ d)
+  checks-is b d e f = ap (λ (x : Bool). checkedAs x 14 (andThen (forward t n departure) (afterForward n))) (sym e ∙ f)
 
-  pub told-14 : (gs : List Float) (vs : List ℕ) (b : Bool) → b ≡ row14 (nodeAt fs us) n → b ≡ true → Told whole 14 gs vs
-  told-14 gs vs b e d = refused-told whole 14 gs vs (checks-is b true e d)
+  pub told-14 : (left : Table) (b : Bool) → b ≡ row14 (nodeAt (t .floats) (t .numbers)) n → b ≡ true → TimedAs whole 14 left
+  told-14 left b e d = refused-as whole 14 left (nonzero 13) (checks-is b true e d)
 
   -- the checks hold
-  module _ (b : Bool) (e : b ≡ row14 (nodeAt fs us) n) (d : b ≡ false) where
-    pub told-forward : (gs : List Float) (vs : List ℕ) → forward lent n departure ≡ fails → Told whole 15 gs vs
-    told-forward gs vs h = refused-told whole 15 gs vs (checks-is b false e d ∙ ap (afterForward n) h)
+  module _ (b : Bool) (e : b ≡ row14 (nodeAt (t .floats) (t .numbers)) n) (d : b ≡ false) where
+    pub told-forward : (left : Table) → forward t n departure ≡ refused 15 → TimedAs whole 15 left
+    told-forward left h = refused-as whole 15 left (nonzero 14) (checks-is b false e d ∙ ap (λ (x : Answer Pass). andThen x (afterForward n)) h)
 
     -- the pass came to its end
-    module _ {start cells : List ℕ} {gs : List Float} {vs : List ℕ} (q : Ends (forward lent n departure) n 0 start gs vs cells) where
-      timed-is : (s t : Bool) → s ≡ someLeft (doneIn cells 0) n → s ≡ t → whole ≡ checkedAs t 15 (back gs vs n)
-      timed-is s t f g =
+    module _ {start cells : List ℕ} (left : Table) (q : Ends (forward t n departure) n 0 start (left .floats) (left .numbers) cells) where
+      timed-is : (s f : Bool) → s ≡ someLeft (doneIn cells 0) n → s ≡ f → whole ≡ checkedAs f 15 (back left n)
+      timed-is s f g h =
           checks-is b false e d
-          ∙ ap (afterForward n) (q .is)
-          ∙ ap (λ (done : ℕ → Bool). checkedAs (someLeft done n) 15 (afterBackward n (backward (q .pass .table) n))) (q .done)
-          ∙ ap (λ (x : Table). checkedAs (someLeft (doneIn cells 0) n) 15 (afterBackward n (backward x n))) (q .table)
-          ∙ ap (λ (x : Bool). checkedAs x 15 (back gs vs n)) (sym f ∙ g)
+          ∙ ap (λ (x : Answer Pass). andThen x (afterForward n)) (q .is)
+          ∙ ap (λ (done : ℕ → Bool). checkedAs (someLeft done n) 15 (back (q .pass .table) n)) (q .done)
+          ∙ ap (λ (x : Table). checkedAs (someLeft (doneIn cells 0) n) 15 (back x n)) (q .table)
+          ∙ ap (λ (x : Bool). checkedAs x 15 (back left n)) (sym g ∙ h)
 
-      pub told-untimed : (s : Bool) → s ≡ someLeft (doneIn cells 0) n → s ≡ true → Told whole 15 gs vs
-      told-untimed s f g = refused-told whole 15 gs vs (timed-is s true f g)
+      pub told-untimed : (s : Bool) → s ≡ someLeft (doneIn cells 0) n → s ≡ true → TimedAs whole 15 left
+      told-untimed s f g = refused-as whole 15 left (nonzero 14) (timed-is s true f g)
 
-      pub told-whole : (s : Bool) → s ≡ someLeft (doneIn cells 0) n → s ≡ false → (r : ℕ) (hs : List Float) (ws : List ℕ) → Told (back gs vs n) r hs ws → Told whole r hs ws
-      told-whole s f g r hs ws = subst (λ (t : Timed). Told t r hs ws) (sym (timed-is s false f g))
+      pub told-whole : (s : Bool) → s ≡ someLeft (doneIn cells 0) n → s ≡ false → (r : ℕ) (then : Table) → TimedAs (back left n) r then → TimedAs whole r then
+      told-whole s f g r then = subst (λ (x : Answer Table). TimedAs x r then) (sym (timed-is s false f g))

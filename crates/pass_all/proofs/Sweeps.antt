@@ -2,13 +2,14 @@
 use mathlib.Core.Path.{_≡_, refl, sym, ap, _∙_}
 use mathlib.Core.Bool.{Bool, true, false, not, _||_}
 use mathlib.Core.List.{List}
-use Prim.Native.Nat.{ℕ, _+_, _*_, _≤_, _<_}
+use Prim.Native.Nat.{ℕ, _+_, _≤_, _<_}
 use native.Mathlib.Omega.{arith}
 use lib.Dec.{ltb}
 use lib.ListN.{getD}
-use lib.Ieee.{Float, nan, binary64, eq, ofBits}
+use lib.Ieee.{binary64, eq, ofBits}
 use Rattle.laws.specs.Below.{someBelow}
 use Rattle.laws.proofs.Below.{some-at, some-more, none-more}
+use Rattle.net_node.specs.declared.EstTime.{EstTime}
 use Rattle.net_node.specs.Table.{nodeAt, Table, at}
 use Rattle.pass_rules.specs.Walks.{doneIn}
 use Rattle.pass_rules.specs.Passes.{someLeft, allZero}
@@ -51,25 +52,27 @@ module _ (cells : List ℕ) (base : ℕ) where
 
 -- ---- row 16: a time that is not 0 or -0
 
-unfoldable pub notZero : List Float → ℕ → Bool
-notZero fs i = not (eq (getD fs (i * 4) nan) (ofBits binary64 0))
+unfoldable pub notZero : Table → ℕ → Bool
+notZero t i = not (eq (at t i .«time_sched») (ofBits binary64 0))
 
-module _ (fs : List Float) (n : ℕ) where
-  zero-is : (us : List ℕ) → allZero (record { floats = fs; numbers = us }) n ≡ not (someBelow n (notZero fs))
-  unfolding allZero at nodeAt notZero
-  zero-is us = refl
+module _ (t : Table) (n : ℕ) where
+  zero-is : allZero t n ≡ not (someBelow n (notZero t))
+  unfolding allZero notZero
+  zero-is = refl
 
-  pub zero-start : NoneYet (notZero fs) n 0
-  zero-start = none-start (notZero fs) n
+  pub zero-start : NoneYet (notZero t) n 0
+  zero-start = none-start (notZero t) n
 
-  module _ (i : ℕ) (v : NoneYet (notZero fs) n i) where
-    pub zero-hit : i < n → not (eq (getD fs (i * 4) nan) (ofBits binary64 0)) ≡ true → (us : List ℕ) → false ≡ allZero (record { floats = fs; numbers = us }) n
-    unfolding notZero
-    zero-hit h d us = sym (zero-is us ∙ ap not (some-at n (notZero fs) i h d))
+  module _ (i : ℕ) (v : NoneYet (notZero t) n i) where
+    zero-here : (x : EstTime) (b : Bool) → x ≡ nodeAt (t .floats) (t .numbers) i → not (eq (x .«time_sched») (ofBits binary64 0)) ≡ b → notZero t i ≡ b
+    unfolding notZero at
+    zero-here x b e d = ap (λ (y : EstTime). not (eq (y .«time_sched») (ofBits binary64 0))) (sym e) ∙ d
 
-    pub zero-on : i < n → not (eq (getD fs (i * 4) nan) (ofBits binary64 0)) ≡ false → NoneYet (notZero fs) n (i + 1)
-    unfolding notZero
-    zero-on h d = none-on (notZero fs) n i v h d
+    pub zero-hit : i < n → (x : EstTime) → x ≡ nodeAt (t .floats) (t .numbers) i → not (eq (x .«time_sched») (ofBits binary64 0)) ≡ true → false ≡ allZero t n
+    zero-hit h x e d = sym (zero-is ∙ ap not (some-at n (notZero t) i h (zero-here x true e d)))
 
-    pub zero-end : n ≤ i → (us : List ℕ) → true ≡ allZero (record { floats = fs; numbers = us }) n
-    zero-end h us = sym (zero-is us ∙ ap not (none-end (notZero fs) n i v h))
+    pub zero-on : i < n → (x : EstTime) → x ≡ nodeAt (t .floats) (t .numbers) i → not (eq (x .«time_sched») (ofBits binary64 0)) ≡ false → NoneYet (notZero t) n (i + 1)
+    zero-on h x e d = none-on (notZero t) n i v h (zero-here x false e d)
+
+    pub zero-end : n ≤ i → true ≡ allZero t n
+    zero-end h = sym (zero-is ∙ ap not (none-end (notZero t) n i v h))

@@ -1,15 +1,16 @@
 // The checks and both time passes over a network: rows 14 to 16. Contracts: pass_rules' specs/Passes.antt, specs/Answers.antt.
 ghost use mathlib.Core.Path.{_≡_};
 ghost use mathlib.Core.Bool.{false};
-ghost use mathlib.Core.List.{List};
 ghost use Prim.Native.Nat.{ℕ, _+_, _*_, _≤_};
 ghost use lib.ListN.{length};
+ghost use Rattle.laws.specs.Answer.{andThen};
 ghost use Rattle.space.specs.Space.{zeros};
 ghost use Rattle.net_node.specs.Table.{nodeAt, Room, Table};
+ghost use Rattle.net_node.specs.Lent.{tableAtEntry, tableAtExit};
 ghost use Rattle.pass_rules.specs.Walks.{Inside, doneIn};
 ghost use Rattle.pass_rules.specs.Backward.{backward};
 ghost use Rattle.pass_rules.specs.Passes.{someLeft, allZero, afterBackward, passes};
-ghost use Rattle.pass_all.specs.Answers.{timedNumber, TimedInto, sixteenIf};
+ghost use Rattle.pass_all.specs.Answers.{TimedAs, sixteenIf};
 
 // Row 15: whether a pass has left a node out. A node is done whose cell is set. All cells are looked at, whatever is found: that is faster than stopping.
 fn some_left(cells: &[u32], done_at: usize, n: usize) -> bool
@@ -26,13 +27,14 @@ fn some_left(cells: &[u32], done_at: usize, n: usize) -> bool
 }
 
 // Row 16: whether all times are 0 or -0.
-fn all_zero(floats: &[f64], n: usize) -> bool
-    requires { ⌜ n * 4 ≤ length (now floats) ⌝ }
-    ensures { λ r. ⌜ ((us : List ℕ) → r ≡ allZero (record { floats = now (floats .entry); numbers = us }) n) ⌝ }
+fn all_zero(floats: &[f64], numbers: &[u32], n: usize) -> bool
+    requires { ⌜ Room (now floats) (now numbers) n ⌝ }
+    ensures { λ r. ⌜ r ≡ allZero (tableAtEntry floats numbers) n ⌝ }
 {
     let mut i = 0;
     while i < n {
-        if !(floats[i * 4] == 0.0) {
+        let node = net_node::load(floats, numbers, i);
+        if !(node.time_sched == 0.0) {
             return false;
         }
         i += 1;
@@ -63,8 +65,7 @@ fn pass_backward(
     requires { ⌜ n * 2 ≤ length (now cells) ⌝ }
     requires { ⌜ n ≤ length (now marks) ⌝ }
     requires { ⌜ ((i : ℕ) → doneIn (now cells) n i ≡ false) ⌝ }
-    ensures number { λ r. ⌜ r ≡ timedNumber (afterBackward n (backward (record { floats = now (floats .entry); numbers = now (numbers .entry) }) n)) ⌝ }
-    ensures table { λ _. ⌜ TimedInto (afterBackward n (backward (record { floats = now (floats .entry); numbers = now (numbers .entry) }) n)) (now (floats .exit)) (now (numbers .exit)) ⌝ }
+    ensures { λ r. ⌜ TimedAs (andThen (backward (tableAtEntry floats numbers) n) (afterBackward n)) r (tableAtExit floats numbers) ⌝ }
 {
     if !pass_backward::update_times_backward(floats, numbers, n, cells, n, reals, marks) {
         return 15;
@@ -72,7 +73,7 @@ fn pass_backward(
     if some_left(cells, n, n) {
         return 15;
     }
-    sixteen_if(all_zero(floats, n))
+    sixteen_if(all_zero(floats, numbers, n))
 }
 
 // Checks a network of n nodes and times it: 0, or the number of a refusal. The queues lie in `reals` and `marks`, the flags of both passes in `cells`, which are zero before.
@@ -92,8 +93,7 @@ pub fn run_passes(
     requires { ⌜ n * 2 ≤ length (now cells) ⌝ }
     requires { ⌜ n ≤ length (now marks) ⌝ }
     requires { ⌜ now cells ≡ zeros (length (now cells)) ⌝ }
-    ensures number { λ r. ⌜ r ≡ timedNumber (passes (record { floats = now (floats .entry); numbers = now (numbers .entry) }) n departure) ⌝ }
-    ensures table { λ _. ⌜ TimedInto (passes (record { floats = now (floats .entry); numbers = now (numbers .entry) }) n departure) (now (floats .exit)) (now (numbers .exit)) ⌝ }
+    ensures { λ r. ⌜ TimedAs (passes (tableAtEntry floats numbers) n departure) r (tableAtExit floats numbers) ⌝ }
 {
     if pass_rules::checks_fail(floats, numbers, n) {
         return 14;

@@ -10,7 +10,8 @@ use lib.Ieee.{Float, binary64, sub, isNan}
 use Rattle.net_node.specs.declared.EstTime.{EstTime}
 use Rattle.net_node.specs.Table.{nodeAt, at, setTime}
 use Rattle.pass_queue.specs.declared.Entry.{Entry}
-use Rattle.pass_rules.specs.Net.{Answer, Pass}
+use Rattle.laws.specs.Answer.{Answer}
+use Rattle.pass_rules.specs.Net.{Pass}
 use Rattle.pass_rules.specs.Backward.{queued, enqueue, passed, alternatedBy}
 use Rattle.pass_state.specs.declared.Passed.{Passed}
 use Rattle.pass_state.specs.declared.Passed.the-variants.{Queued}

@@ -11,7 +11,8 @@ use Rattle.net_node.specs.declared.EstTime.{EstTime}
 use Rattle.net_node.specs.Table.{nodeAt, at, isFake, setTime}
 use Rattle.pass_queue.specs.declared.Entry.{Entry}
 use Rattle.pass_queue.specs.Queue.{best, others}
-use Rattle.pass_rules.specs.Net.{Answer, fails, given, andThen, asserting, Pass, alsoDone}
+use Rattle.laws.specs.Answer.{Answer, refused, given, andThen}
+use Rattle.pass_rules.specs.Net.{asserting, Pass, alsoDone}
 use Rattle.pass_rules.specs.Walks.{passOf}
 use Rattle.pass_rules.specs.Backward.{At, queued, enqueue, passed, isPassable, walkedOn, relinkWalk, swapSplit, swappedIf, relinked, alternatedBy, stepOn, step, stopsAt, stopIf, strand, addedIf, settledBy, settle, turn, turns}
 use Rattle.pass_state.specs.declared.Passed.{Passed}
@@ -80,7 +81,7 @@ pub time-less : (fs : List Float) (us : List ℕ) (less : Float) (i : ℕ) (x : 
 unfolding at
 time-less fs us less i x e = ap (λ (y : EstTime). sub binary64 (y .«time_sched») less) e
 
-pub strand-none : (a : At) → strand 0 a ≡ fails
+pub strand-none : (a : At) → strand 0 a ≡ refused 15
 unfolding strand
 strand-none a = refl
 

@@ -3,7 +3,8 @@ use mathlib.Core.Bool.{not}
 use Prim.Native.Nat.{ℕ}
 use lib.Ieee.{Float}
 use Rattle.net_node.specs.Table.{at}
-use Rattle.pass_rules.specs.Net.{Answer, given, andThen, asserting, Pass}
+use Rattle.laws.specs.Answer.{Answer, given, andThen}
+use Rattle.pass_rules.specs.Net.{asserting, Pass}
 use Rattle.pass_rules.specs.Backward.{At, relinkWalk, relinked}
 
 -- a pass that stands on a node, looks at the one before it, and takes so much off

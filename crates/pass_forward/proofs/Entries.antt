@@ -9,7 +9,8 @@ use lib.ListN.{length, set}
 use lib.Ieee.{Float, binary64, add, ofBits, isNan}
 use Rattle.net_node.specs.declared.EstTime.{EstTime}
 use Rattle.net_node.specs.Table.{nodeAt, Table, at, setTime}
-use Rattle.pass_rules.specs.Net.{Answer, Pass}
+use Rattle.laws.specs.Answer.{Answer}
+use Rattle.pass_rules.specs.Net.{Pass}
 use Rattle.pass_rules.specs.Forward.{timeNext, queued, enqueue, timed, alternatedBy}
 use Rattle.pass_state.specs.declared.Passed.{Passed}
 use Rattle.pass_state.specs.declared.Passed.the-variants.{Queued}

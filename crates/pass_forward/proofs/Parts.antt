@@ -10,7 +10,8 @@ use Rattle.net_node.specs.declared.EstTime.{EstTime}
 use Rattle.net_node.specs.Table.{nodeAt, at, isFake, setTime}
 use Rattle.pass_queue.specs.declared.Entry.{Entry}
 use Rattle.pass_queue.specs.Queue.{best, others}
-use Rattle.pass_rules.specs.Net.{Answer, fails, given, andThen, asserting, Pass}
+use Rattle.laws.specs.Answer.{Answer, refused, given, andThen}
+use Rattle.pass_rules.specs.Net.{asserting, Pass}
 use Rattle.pass_rules.specs.Walks.{passOf}
 use Rattle.pass_rules.specs.Forward.{At, timeNext, queued, timed, isPassable, walkedOn, relinkWalk, swapJoin, swappedIf, relinked, alternatedBy, stepOn, step, stopsAt, stopIf, strand, addedIf, settledBy, settle, turn, turns}
 use Rattle.pass_state.specs.Held.{PassIn}
@@ -72,7 +73,7 @@ stepper n = record {
   is = step-is;
 }
 
-pub strand-none : (a : At) → strand 0 a ≡ fails
+pub strand-none : (a : At) → strand 0 a ≡ refused 15
 unfolding strand
 strand-none a = refl
 

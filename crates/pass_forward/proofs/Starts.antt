@@ -8,7 +8,8 @@ use lib.ListN.{length, set}
 use lib.Ieee.{Float, binary64, ofBits, isNan}
 use Rattle.net_node.specs.Table.{nodeAt, Room, setTime}
 use Rattle.pass_queue.specs.declared.Entry.{Entry}
-use Rattle.pass_rules.specs.Net.{fails, asserting, Pass, alsoDone}
+use Rattle.laws.specs.Answer.{refused}
+use Rattle.pass_rules.specs.Net.{asserting, Pass, alsoDone}
 use Rattle.pass_rules.specs.Walks.{Inside, doneIn}
 use Rattle.pass_rules.specs.Forward.{turns, firstTwo, forward}
 use Rattle.pass_state.specs.declared.Passed.{Passed}
@@ -32,7 +33,7 @@ first-two done e = λ t k. go k t
 
 module _ (fs : List Float) (us cells : List ℕ) (n base : ℕ) (departure : Float) {ts ts′ : List Float} {ns ns′ : List ℕ} (r : Passed) (q : EnqueuedAs false ts ns ts′ ns′ 0 (firstOf departure) r) where
   -- the departure is no number
-  pub start-fails : r ≡ Fails → forward (tableOf fs us) n departure ≡ fails
+  pub start-fails : r ≡ Fails → forward (tableOf fs us) n departure ≡ refused 15
   unfolding forward
   start-fails e =
       let t : isNan departure ≡ true = sym (zero-number departure) ∙ subst (EnqueuedAs false ts ns ts′ ns′ 0 (firstOf departure)) e q .told in

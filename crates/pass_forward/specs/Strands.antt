@@ -4,7 +4,8 @@ use Prim.Native.Nat.{ℕ}
 use lib.Ieee.{binary64, ofBits}
 use Rattle.net_node.specs.Table.{Table, at}
 use Rattle.pass_queue.specs.declared.Entry.{Entry}
-use Rattle.pass_rules.specs.Net.{Answer, given, andThen, asserting, Pass}
+use Rattle.laws.specs.Answer.{Answer, given, andThen}
+use Rattle.pass_rules.specs.Net.{asserting, Pass}
 use Rattle.pass_rules.specs.Forward.{At, timeNext, relinkWalk, relinked}
 
 -- a pass that stands on a node and looks at the one after it

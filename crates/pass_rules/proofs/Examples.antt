@@ -6,7 +6,7 @@ use Prim.Native.Nat.{ℕ, zero, suc}
 use lib.Ieee.{Float, binary64, ofBits, toBits, add, sub, lt, le, eq, round, sum, isNan, neg, below, level}
 use Rattle.net_node.specs.declared.EstTime.{EstTime}
 use Rattle.net_node.specs.Table.{kindNumber, Table, at, setTime, setNext, setPrev, setArc}
-use Rattle.pass_rules.specs.Passes.{Timed, refused, timedAs}
+use Rattle.laws.specs.Answer.{Answer, refused, given}
 use Rattle.laws.specs.Below.{someBelow}
 use Rattle.net_node.specs.Table.{nodeAt}
 use Rattle.pass_queue.specs.Queue.{byBits, beforeForward, beforeBackward, before, best, others}
@@ -23,9 +23,9 @@ abbrev rows : ℕ → Table → ℕ → List ℕ
 rows zero t i = []
 rows (suc k) t i = row (at t i) (rows k t (suc i))
 
-abbrev summary : ℕ → Timed → List ℕ
+abbrev summary : ℕ → Answer Table → List ℕ
 summary n (refused m) = m ∷ []
-summary n (timedAs t) = rows n t 0
+summary n (given t) = rows n t 0
 
 abbrev floatsOf : List ℕ → List Float
 floatsOf [] = []

@@ -9,7 +9,8 @@ use lib.ListN.{getD}
 use lib.Ieee.{Float}
 use Rattle.net_node.specs.declared.EstTime.{EstTime}
 use Rattle.net_node.specs.Table.{nodeAt, Table, at, fakeKind}
-use Rattle.pass_rules.specs.Net.{Answer, fails, given, Pass}
+use Rattle.laws.specs.Answer.{Answer, refused, given}
+use Rattle.pass_rules.specs.Net.{Pass}
 use Rattle.pass_rules.specs.Walks.{Inside, doneIn, passOf, ahead, endOf, passable, relinkWalk}
 use Rattle.pass_rules.specs.Forward as Forward
 use Rattle.pass_rules.specs.Backward as Backward
@@ -25,7 +26,7 @@ module _ (p : Pass) (n i : ℕ) where
   walk-stops false zero e = rw e
   walk-stops false (suc k) e = rw e
 
-  walk-ends : (d : Bool) → passable d p n i ≡ true → relinkWalk d 0 p n i ≡ fails
+  walk-ends : (d : Bool) → passable d p n i ≡ true → relinkWalk d 0 p n i ≡ refused 15
   unfolding Forward.relinkWalk Backward.relinkWalk
   walk-ends true e = rw e
   walk-ends false e = rw e
@@ -85,7 +86,7 @@ module _ (walk : ℕ → ℕ → Answer ℕ) (n start : ℕ) where
     pub walking-found : walk (n - count) i ≡ given i → (walk n start ≡ given i) × (i < n)
     walking-found e = (sym (v .answer) ∙ e, v .within)
 
-    pub walking-endless : n ≤ count → walk 0 i ≡ fails → walk n start ≡ fails
+    pub walking-endless : n ≤ count → walk 0 i ≡ refused 15 → walk n start ≡ refused 15
     walking-endless h e = let z : n - count ≡ 0 = omega arith in sym (v .answer) ∙ ap (λ (k : ℕ). walk k i) z ∙ e
 
     pub walking-on : count < n → (j : ℕ) → j < n → walk (suc (n - (count + 1))) i ≡ walk (n - (count + 1)) j → Walking walk n start j (count + 1)
@@ -103,7 +104,7 @@ module _ (d : Bool) (fs : List Float) (us cells : List ℕ) (base n start i coun
   pub walk-found : r ≡ false → (walkOf d fs us cells base n n start ≡ given i) × (i < n)
   walk-found h = walking-found (walkOf d fs us cells base n) n start i count v (walk-stops (passOf (tableOf fs us) (doneIn cells base)) n i d (n - count) (sym e ∙ h))
 
-  pub walk-endless : r ≡ true → n ≤ count → walkOf d fs us cells base n n start ≡ fails
+  pub walk-endless : r ≡ true → n ≤ count → walkOf d fs us cells base n n start ≡ refused 15
   walk-endless h g = walking-endless (walkOf d fs us cells base n) n start i count v g (walk-ends (passOf (tableOf fs us) (doneIn cells base)) n i d (sym e ∙ h))
 
   pub walk-on : r ≡ true → count < n → Inside (nodeAt fs us) n → (x : EstTime) → x ≡ nodeAt fs us i → (j : ℕ) → j ≡ ahead d x → Walking (walkOf d fs us cells base n) n start j (count + 1)

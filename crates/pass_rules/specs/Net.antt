@@ -3,22 +3,14 @@ use mathlib.Core.Bool.{Bool, true, false, _||_}
 use mathlib.Core.List.{List}
 use Prim.Native.Nat.{ℕ}
 use lib.Dec.{eqb}
+use Rattle.laws.specs.Answer.{Answer, refused}
 use Rattle.net_node.specs.Table.{Table}
 use Rattle.pass_queue.specs.declared.Entry.{Entry}
 
--- an answer that may be refusal 15
-pub data Answer (A : Type 0) : Type 0 where
-  fails : Answer A
-  given : A → Answer A
-
-abbrev pub andThen : {A B : Type 0} → Answer A → (A → Answer B) → Answer B
-andThen fails f = fails
-andThen (given a) f = f a
-
--- an assertion of a pass
+-- Row 15: "a pass's assertion fails"
 abbrev pub asserting : {A : Type 0} → Bool → Answer A → Answer A
 asserting true a = a
-asserting false a = fails
+asserting false a = refused 15
 
 -- The table, which nodes are done (timed or passed), and the queue.
 pub record Pass : Type 0 where

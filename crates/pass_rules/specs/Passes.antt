@@ -5,14 +5,10 @@ use lib.Ieee.{Float, binary64, eq, ofBits}
 use Rattle.net_node.specs.Table.{Table, at}
 use Rattle.laws.specs.Below.{someBelow}
 use Rattle.pass_rules.specs.Checks.{row14}
-use Rattle.pass_rules.specs.Net.{Answer, fails, given, Pass}
+use Rattle.laws.specs.Answer.{Answer, refused, given, andThen}
+use Rattle.pass_rules.specs.Net.{Pass}
 use Rattle.pass_rules.specs.Forward.{forward}
 use Rattle.pass_rules.specs.Backward.{backward}
-
--- what the passes give: a refusal's number, or the timed table
-pub data Timed : Type 0 where
-  refused : ℕ → Timed
-  timedAs : Table → Timed
 
 -- Row 15: "a node never timed or never passed"
 unfoldable pub someLeft : (ℕ → Bool) → ℕ → Bool
@@ -22,18 +18,19 @@ someLeft done n = someBelow n (λ i. not (done i))
 unfoldable pub allZero : Table → ℕ → Bool
 allZero t n = not (someBelow n (λ i. not (eq (at t i .«time_sched») (ofBits binary64 0))))
 
-abbrev pub checkedAs : Bool → ℕ → Timed → Timed
-checkedAs true n later = refused n
-checkedAs false n later = later
+-- a row that refuses, where it holds; and what is made where it doesn't
+abbrev pub checkedAs : Bool → ℕ → Answer Table → Answer Table
+checkedAs true row later = refused row
+checkedAs false row later = later
 
-abbrev pub afterBackward : ℕ → Answer Pass → Timed
-afterBackward n fails = refused 15
-afterBackward n (given p) = checkedAs (someLeft (p .done) n) 15 (checkedAs (allZero (p .table) n) 16 (timedAs (p .table)))
+-- what is left to do behind a pass that came to its end
+abbrev pub afterBackward : ℕ → Pass → Answer Table
+afterBackward n p = checkedAs (someLeft (p .done) n) 15 (checkedAs (allZero (p .table) n) 16 (given (p .table)))
 
-abbrev pub afterForward : ℕ → Answer Pass → Timed
-afterForward n fails = refused 15
-afterForward n (given p) = checkedAs (someLeft (p .done) n) 15 (afterBackward n (backward (p .table) n))
+abbrev pub afterForward : ℕ → Pass → Answer Table
+afterForward n p = checkedAs (someLeft (p .done) n) 15 (andThen (backward (p .table) n) (afterBackward n))
 
-unfoldable pub passes : Table → ℕ → Float → Timed
+-- Rows 14 to 16: a refusal's number, or the timed table
+unfoldable pub passes : Table → ℕ → Float → Answer Table
 unfolding someLeft allZero
-passes t n departure = checkedAs (row14 (at t) n) 14 (afterForward n (forward t n departure))
+passes t n departure = checkedAs (row14 (at t) n) 14 (andThen (forward t n departure) (afterForward n))

@@ -13,7 +13,8 @@ use Rattle.net_node.specs.Table.{nodeAt, Room, Table, at, setTime}
 use Rattle.pass_queue.specs.declared.Entry.{Entry}
 use Rattle.pass_queue.specs.Queue.{best, others, Each, Holds}
 use Rattle.pass_queue.proofs.Kept.{each-kept, holds-none}
-use Rattle.pass_rules.specs.Net.{Answer, given, Pass, alsoDone}
+use Rattle.laws.specs.Answer.{Answer, given}
+use Rattle.pass_rules.specs.Net.{Pass, alsoDone}
 use Rattle.pass_rules.specs.Walks.{Inside, doneIn}
 use Rattle.pass_rules.specs.Backward.{queued}
 use Rattle.pass_state.specs.declared.Passed.{Passed}

@@ -7,7 +7,8 @@ use native.Mathlib.Omega.{arith}
 use lib.Ieee.{Float}
 use Rattle.pass_rules.specs.declared.Walked.{Walked}
 use Rattle.pass_rules.specs.declared.Walked.the-variants.{Found, Endless}
-use Rattle.pass_rules.specs.Net.{Answer, fails, given, andThen, asserting, Pass}
+use Rattle.laws.specs.Answer.{Answer, refused, given, andThen}
+use Rattle.pass_rules.specs.Net.{asserting, Pass}
 use Rattle.pass_state.specs.declared.Passed.{Passed}
 use Rattle.pass_state.specs.declared.Passed.the-variants.{Fails}
 use Rattle.pass_state.specs.declared.Stands.{Stands}
@@ -92,5 +93,5 @@ pub then-inside : {A B : Type 0} (a b : Bool) (w : Answer ℕ) (f : ℕ → A) (
     → asserting a (asserting b (andThen w (λ (k : ℕ). g (f k)))) ≡ andThen (asserting a (asserting b (andThen w (λ (k : ℕ). given (f k))))) g
 then-inside false b w f g = refl
 then-inside true false w f g = refl
-then-inside true true fails f g = refl
+then-inside true true (refused m) f g = refl
 then-inside true true (given k) f g = refl

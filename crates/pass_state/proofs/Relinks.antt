@@ -12,7 +12,8 @@ use Rattle.net_node.specs.declared.EstTime.{EstTime}
 use Rattle.net_node.specs.Table.{nodeAt, Table, at}
 use Rattle.pass_rules.specs.declared.Walked.{Walked}
 use Rattle.pass_rules.specs.declared.Walked.the-variants.{Found, Endless}
-use Rattle.pass_rules.specs.Net.{Answer, fails, given, andThen, asserting, Pass}
+use Rattle.laws.specs.Answer.{Answer, refused, given, andThen}
+use Rattle.pass_rules.specs.Net.{asserting, Pass}
 use Rattle.pass_rules.specs.Walks.{doneIn, passOf, WalkAs}
 use Rattle.pass_state.specs.Held.{left, PassIn, FindsBy}
 use Rattle.pass_state.proofs.Links.{Linked, Names, names-in}
@@ -51,7 +52,7 @@ module _ {n : ℕ} (w : Relinker n) {backward : Bool} {base : ℕ} {start : List
       ∙ ap (λ (z : Bool). soughtBy w p curr next z (p .done next) (w .walk p next)) (done-in v curr d e)
 
   -- the node is not done
-  pub relink-undone : d ≡ false → relinkBy w p curr ≡ fails
+  pub relink-undone : d ≡ false → relinkBy w p curr ≡ refused 15
   relink-undone t = relink-by ∙ ap (λ (z : Bool). soughtBy w p curr next z (p .done next) (w .walk p next)) t
 
   module _ (t : d ≡ true) (b : Bool) (f : b ≡ doneIn cells base (w .link x)) where
@@ -60,7 +61,7 @@ module _ {n : ℕ} (w : Relinker n) {backward : Bool} {base : ℕ} {start : List
         relink-by ∙ ap (λ (z : Bool). soughtBy w p curr next z (p .done next) (w .walk p next)) t ∙ ap (λ (z : Bool). soughtBy w p curr next true z (w .walk p next)) (done-in v next b f ∙ o)
 
     -- the neighbour is
-    pub relink-done : b ≡ true → relinkBy w p curr ≡ fails
+    pub relink-done : b ≡ true → relinkBy w p curr ≡ refused 15
     relink-done o = relink-next true o
 
     module _ (o : b ≡ false) (r : Walked) (g : WalkAs (w .walk (passOf (tableOf fs us) (doneIn cells base)) (w .link x)) n r) where
@@ -71,8 +72,8 @@ module _ {n : ℕ} (w : Relinker n) {backward : Bool} {base : ℕ} {start : List
       relink-walk a q = relink-next false o ∙ ap (soughtBy w p curr next true false) (walked ∙ q)
 
       -- the walk doesn't end
-      pub relink-endless : r ≡ Endless → relinkBy w p curr ≡ fails
-      relink-endless q = relink-walk fails (subst (WalkAs (w .walk (passOf (tableOf fs us) (doneIn cells base)) next) n) q g)
+      pub relink-endless : r ≡ Endless → relinkBy w p curr ≡ refused 15
+      relink-endless q = relink-walk (refused 15) (subst (WalkAs (w .walk (passOf (tableOf fs us) (doneIn cells base)) next) n) q g)
 
       module _ (found : ℕ) (q : r ≡ Found found) where
         ended : (w .walk (passOf (tableOf fs us) (doneIn cells base)) next ≡ given found) × (found < n)

@@ -12,7 +12,8 @@ use lib.Ieee.{Float, isNan}
 use Rattle.net_node.specs.declared.EstTime.{EstTime}
 use Rattle.net_node.specs.Table.{nodeAt, at, fakeKind, isFake}
 use Rattle.pass_queue.specs.declared.Entry.{Entry}
-use Rattle.pass_rules.specs.Net.{Answer, given, asserting, Pass}
+use Rattle.laws.specs.Answer.{Answer, given}
+use Rattle.pass_rules.specs.Net.{asserting, Pass}
 use Rattle.pass_rules.specs.Backward.{queued}
 use Rattle.pass_rules.specs.Walks.{doneIn}
 use Rattle.pass_state.specs.declared.Passed.{Passed}

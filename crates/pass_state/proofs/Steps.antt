@@ -10,7 +10,8 @@ use mathlib.Core.Bool.{_||_}
 use Rattle.net_node.specs.declared.EstTime.{EstTime}
 use Rattle.net_node.specs.Table.{nodeAt, Table, at, setTime}
 use Rattle.pass_queue.specs.declared.Entry.{Entry}
-use Rattle.pass_rules.specs.Net.{Answer, fails, given, andThen, asserting, Pass}
+use Rattle.laws.specs.Answer.{Answer, refused, given, andThen}
+use Rattle.pass_rules.specs.Net.{asserting, Pass}
 use Rattle.pass_rules.specs.Backward.{queued}
 use Rattle.pass_rules.specs.Walks.{doneIn}
 use Rattle.pass_state.specs.declared.Passed.{Passed}
@@ -49,7 +50,7 @@ module _ {n : ℕ} (w : Stepper n) {backward : Bool} {base : ℕ} {start : List 
 
   -- the alternative can't be queued
   pub step-unqueued : r ≡ Fails → StandsAs (w .step (w .form curr next p)) (w .form) backward n base start gs vs flags us′ vs′ (n - 2) (left (p .done) n) Nowhere
-  step-unqueued e = record { told = step-after fails (subst (PassAs (w .alternated p curr) backward n base start gs vs flags us′ vs′ (n - 1) (left (p .done) n + 1)) e g .told) }
+  step-unqueued e = record { told = step-after (refused 15) (subst (PassAs (w .alternated p curr) backward n base start gs vs flags us′ vs′ (n - 1) (left (p .done) n + 1)) e g .told) }
 
   module _ (count : ℕ) (e : r ≡ Queued count) (d : Bool) (f : d ≡ doneIn flags base next) where
     queued-as : Gives (w .alternated p curr) (λ q. q) backward n base start gs vs flags us′ vs′ count (n - 1) (left (p .done) n + 1)

@@ -10,7 +10,8 @@ use lib.ListN.{length}
 use lib.Ieee.{Float}
 use Rattle.net_node.specs.declared.EstTime.{EstTime}
 use Rattle.net_node.specs.Table.{nodeAt, at, fakeKind, isFake}
-use Rattle.pass_rules.specs.Net.{Answer, fails, given, andThen, Pass}
+use Rattle.laws.specs.Answer.{Answer, refused, given, andThen}
+use Rattle.pass_rules.specs.Net.{Pass}
 use Rattle.pass_rules.specs.Walks.{doneIn}
 use Rattle.pass_state.specs.declared.Stands.{Stands}
 use Rattle.pass_state.specs.declared.Stands.the-variants.{On, Nowhere}
@@ -36,7 +37,7 @@ pub record Walker : Type 1 where
   pub stopped : (a : A) (f : A → Answer A) → stopIf true a f ≡ given a
   pub on : (a : A) (f : A → Answer A) → stopIf false a f ≡ f a
   pub strand : ℕ → A → Answer A
-  pub none : (a : A) → strand 0 a ≡ fails
+  pub none : (a : A) → strand 0 a ≡ refused 15
   pub more : (k : ℕ) (a : A) → strand (suc k) a ≡ andThen (step a) (λ (b : A). stopIf (stops b) b (strand k))
 
 module _ (w : Walker) (k : ℕ) (a : w .A) where
@@ -103,9 +104,9 @@ module _ (w : Walker) {backward : Bool} {n base most : ℕ} {fs₀ : List Float}
       let g : StandsAs (w .step (w .form here ahead (k .pass))) (w .form) backward n base start gs vs flags us′ vs′ most (left (k .pass .done) n) Nowhere = subst (StandsAs (w .step (w .form here ahead (k .pass))) (w .form) backward n base start gs vs flags us′ vs′ most (left (k .pass .done) n)) q (e (k .pass) start (k .holds)) in
       record { told = k .is ∙ go (k .fuel) (w .form here ahead (k .pass)) (g .told) }
     where
-      go : (f : ℕ) (a : w .A) → w .step a ≡ fails → w .strand f a ≡ fails
+      go : (f : ℕ) (a : w .A) → w .step a ≡ refused 15 → w .strand f a ≡ refused 15
       go zero a h = w .none a
-      go (suc f) a h = after-step w f a fails h
+      go (suc f) a h = after-step w f a (refused 15) h
 
   module _ (i k more : ℕ) (q : r ≡ On i k more) where
     given-by : (p : Pass) (start : List ℕ) → PassIn backward n base start fs us cells ts ns count most p

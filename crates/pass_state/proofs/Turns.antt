@@ -9,7 +9,8 @@ use lib.ListN.{length}
 use lib.Ieee.{Float}
 use Rattle.pass_queue.specs.declared.Entry.{Entry}
 use Rattle.pass_queue.specs.Queue.{best, others, Holds}
-use Rattle.pass_rules.specs.Net.{Answer, fails, given, andThen, Pass}
+use Rattle.laws.specs.Answer.{Answer, refused, given, andThen}
+use Rattle.pass_rules.specs.Net.{Pass}
 use Rattle.pass_rules.specs.Walks.{doneIn}
 use Rattle.pass_state.specs.declared.Passed.{Passed}
 use Rattle.pass_state.specs.declared.Passed.the-variants.{Queued, Fails}
@@ -74,13 +75,13 @@ module _ (w : Turner) {n base : ℕ} {fs₀ : List Float} {us₀ cells₀ : List
     module _ {gs : List Float} {vs flags : List ℕ} {us′ : List Float} {vs′ : List ℕ} (r : Passed)
         (a : (p : Pass) (start : List ℕ) → PassIn (w .backward) n base start fs us cells ts′ ns′ (count - 1) (n - 2) p → PassAs (w .turn p e) (w .backward) n base start gs vs flags us′ vs′ (n - 1) (left (p .done) n) r) where
       -- a turn fails
-      pub turning-falls : r ≡ Fails → (p : Pass) (start : List ℕ) → PassIn (w .backward) n base start fs₀ us₀ cells₀ ts₀ ns₀ count₀ (n - 1) p → w .turns n p ≡ fails
+      pub turning-falls : r ≡ Fails → (p : Pass) (start : List ℕ) → PassIn (w .backward) n base start fs₀ us₀ cells₀ ts₀ ns₀ count₀ (n - 1) p → w .turns n p ≡ refused 15
       turning-falls q p start v =
           let m = s .sought p start v in
           let t = taken-out (m .holds) in
           let k = queueing (m .pass) (others (w .backward) (t .first) (t .rest)) in
           let g : PassAs (w .turn k e) (w .backward) n base start gs vs flags us′ vs′ (n - 1) (left (k .done) n) Fails = subst (PassAs (w .turn k e) (w .backward) n base start gs vs flags us′ vs′ (n - 1) (left (k .done) n)) q (a k start (t .holds)) in
-          m .is ∙ after-turn w (m .fuel) (m .pass) (t .first) (t .rest) (t .list) fails (ap (w .turn k) (sym (t .taken)) ∙ g .told)
+          m .is ∙ after-turn w (m .fuel) (m .pass) (t .first) (t .rest) (t .list) (refused 15) (ap (w .turn k) (sym (t .taken)) ∙ g .told)
 
       module _ (more : ℕ) (q : r ≡ Queued more) where
         given-by : (p : Pass) (start : List ℕ) → PassIn (w .backward) n base start fs us cells ts′ ns′ (count - 1) (n - 2) p → PassAs (w .turn p e) (w .backward) n base start gs vs flags us′ vs′ (n - 1) (left (p .done) n) (Queued more)

@@ -9,7 +9,8 @@ use lib.Ieee.{Float, isNan}
 use Rattle.net_node.specs.Table.{nodeAt, Room}
 use Rattle.pass_queue.specs.declared.Entry.{Entry}
 use Rattle.pass_queue.specs.Queue.{Holds, Each}
-use Rattle.pass_rules.specs.Net.{Answer, fails, given, Pass}
+use Rattle.laws.specs.Answer.{Answer, refused, given}
+use Rattle.pass_rules.specs.Net.{Pass}
 use Rattle.pass_rules.specs.Walks.{Inside, doneIn}
 use Rattle.pass_rules.specs.declared.Walked.{Walked}
 use Rattle.pass_rules.specs.declared.Walked.the-variants.{Found, Endless}
@@ -57,7 +58,7 @@ pub record Gives {A : Type 0} (answer : Answer A) (at : Pass → A) (backward : 
 -- a pass, or that an assertion fails
 abbrev pub PassBy : Answer Pass → Bool → ℕ → ℕ → List ℕ → List Float → List ℕ → List ℕ → List Float → List ℕ → ℕ → ℕ → Passed → Type 0
 PassBy answer backward n done-at start fs us cells ts ns most bound (Queued count) = Gives answer (λ p. p) backward n done-at start fs us cells ts ns count most bound
-PassBy answer backward n done-at start fs us cells ts ns most bound Fails = answer ≡ fails
+PassBy answer backward n done-at start fs us cells ts ns most bound Fails = answer ≡ refused 15
 
 pub record PassAs (answer : Answer Pass) (backward : Bool) (n done-at : ℕ) (start : List ℕ) (fs : List Float) (us cells : List ℕ) (ts : List Float) (ns : List ℕ) (most bound : ℕ) (r : Passed) : Type 0 where
   pub told : PassBy answer backward n done-at start fs us cells ts ns most bound r
@@ -65,7 +66,7 @@ pub record PassAs (answer : Answer Pass) (backward : Bool) (n done-at : ℕ) (st
 -- a walk stands on one node and looks at another
 abbrev pub StandsBy : {A : Type 0} → Answer A → (ℕ → ℕ → Pass → A) → Bool → ℕ → ℕ → List ℕ → List Float → List ℕ → List ℕ → List Float → List ℕ → ℕ → ℕ → Stands → Type 0
 StandsBy answer at backward n done-at start fs us cells ts ns most bound (On curr to count) = Gives answer (at curr to) backward n done-at start fs us cells ts ns count most bound × ((curr < n) × (to < n))
-StandsBy answer at backward n done-at start fs us cells ts ns most bound Nowhere = answer ≡ fails
+StandsBy answer at backward n done-at start fs us cells ts ns most bound Nowhere = answer ≡ refused 15
 
 pub record StandsAs {A : Type 0} (answer : Answer A) (at : ℕ → ℕ → Pass → A) (backward : Bool) (n done-at : ℕ) (start : List ℕ) (fs : List Float) (us cells : List ℕ) (ts : List Float) (ns : List ℕ) (most bound : ℕ) (r : Stands) : Type 0 where
   pub told : StandsBy answer at backward n done-at start fs us cells ts ns most bound r
@@ -73,7 +74,7 @@ pub record StandsAs {A : Type 0} (answer : Answer A) (at : ℕ → ℕ → Pass 
 -- a walk looks at the node that a relink walk found
 abbrev pub FindsBy : {A : Type 0} → Answer A → (ℕ → Pass → A) → Bool → ℕ → ℕ → List ℕ → List Float → List ℕ → List ℕ → List Float → List ℕ → ℕ → ℕ → ℕ → Walked → Type 0
 FindsBy answer at backward n done-at start fs us cells ts ns count most bound (Found i) = Gives answer (at i) backward n done-at start fs us cells ts ns count most bound × (i < n)
-FindsBy answer at backward n done-at start fs us cells ts ns count most bound Endless = answer ≡ fails
+FindsBy answer at backward n done-at start fs us cells ts ns count most bound Endless = answer ≡ refused 15
 
 -- an entry is queued, if its time and its sub are numbers
 abbrev pub EnqueuedBy : Bool → List Float → List ℕ → List Float → List ℕ → ℕ → Entry → Passed → Type 0
@@ -97,4 +98,4 @@ pub record Ends (answer : Answer Pass) (n done-at : ℕ) (start : List ℕ) (fs 
 -- true: it came to its end
 abbrev pub EndsAs : Answer Pass → ℕ → ℕ → List ℕ → List Float → List ℕ → List ℕ → Bool → Type 0
 EndsAs answer n done-at start fs us cells true = Ends answer n done-at start fs us cells
-EndsAs answer n done-at start fs us cells false = answer ≡ fails
+EndsAs answer n done-at start fs us cells false = answer ≡ refused 15

@@ -1,52 +1,45 @@
 -- The answer that a number is, and what it leaves of the table.
 use mathlib.Core.Path.{_≡_, refl, sym, ap, _∙_, subst}
-use mathlib.Core.Bool.{Bool, true, false}
-use mathlib.Core.List.{List, _++_}
-use Prim.Native.Nat.{ℕ, zero, suc, _+_, _-_, _*_, _/_, _≤_, _<_, min}
+use mathlib.Core.Logic.{_≢_}
+use Prim.Native.Nat.{ℕ, zero, suc, _*_, _≤_}
 use native.Mathlib.Nat.{sub-zero}
 use native.Mathlib.Omega.{arith}
-use lib.ListN.{length, take}
+use lib.ListN.{length}
 use lib.Ieee.{Float}
+use Rattle.laws.specs.Answer.{Answer, refused, given, andThen}
 use Rattle.net_node.specs.Table.{Table}
+use Rattle.net_node.specs.Left.{nodesIn, floatsKept, numbersKept, floatsLeft, numbersLeft}
+use Rattle.net_node.specs.Lent.{Slices}
 use Rattle.space.specs.Space.{unitsOf, bytesOf, zeros, zeroFloats}
-use Rattle.pass_rules.specs.Passes.{Timed, refused, timedAs, passes}
-use Rattle.pass_all.specs.Answers.{timedNumber, TimedInto}
-use Rattle.pass_all.proofs.Proper.{Proper, passes-proper}
+use Rattle.space.specs.Lent.{bytesIn, Cleared}
+use Rattle.pass_rules.specs.Passes.{passes}
+use Rattle.pass_all.specs.Answers.{TimedAs}
 use Rattle.pass_table.specs.declared.TimedTable.{TimedTable}
 use Rattle.pass_table.specs.declared.TimedTable.the-variants.{Whole, Refused}
-use Rattle.pass_table.specs.TableEntry.{nodesIn, unless, tableTimes, timedAnswer, tableNumber, tableNodes, floatsAs, numbersAs}
+use Rattle.pass_table.specs.TableEntry.{unless, tableTimes, wholly, timesOf, timedAnswer, tableNumber, tableNodes, TimesUpdated}
 use Rattle.pass_table.specs.Parts.{firstNumber, keptNodes, answerAs}
 use Rattle.pass_table.proofs.FirstRows.{most-nodes}
 
 -- ---- the small functions
 
-pub kept-refused : (number n : ℕ) → (number ≡ 0 → ⊥) → 0 ≡ keptNodes number n
+pub kept-refused : (number n : ℕ) → number ≢ 0 → 0 ≡ keptNodes number n
 kept-refused zero n h = absurd (h refl)
 kept-refused (suc k) n h = refl
 
 pub answer-whole : (number n : ℕ) → number ≡ 0 → Whole n ≡ answerAs number n
 answer-whole number n e = sym (ap (λ (k : ℕ). answerAs k n) e)
 
-pub answer-refused : (number n : ℕ) → (number ≡ 0 → ⊥) → Refused number ≡ answerAs number n
+pub answer-refused : (number n : ℕ) → number ≢ 0 → Refused number ≡ answerAs number n
 answer-refused zero n h = absurd (h refl)
 answer-refused (suc k) n h = refl
 
-pub kept-most : (number n : ℕ) → keptNodes number n ≤ n
-kept-most zero n = omega arith
-kept-most (suc k) n = omega arith
+nonzero : (k : ℕ) → suc k ≢ 0
+nonzero k e = omega arith
 
 -- ---- rows 3 to 5, then the passes
 
--- a number and the table's lists, as a definition has them
-abbrev pub Told : Timed → ℕ → List Float → List ℕ → Type 0
-Told t r fs us = (r ≡ timedNumber t) × TimedInto t fs us
-
-module _ (fs : List Float) (us : List ℕ) (departure : Float) (n units rs cs ms number : ℕ) (e : n ≡ nodesIn (record { floats = fs; numbers = us })) (f : units ≡ unitsOf rs cs ms)
-    (g : number ≡ firstNumber (record { floats = fs; numbers = us }) n departure (64 * units)) where
-  abbrev lent : Table
-  lent = record { floats = fs; numbers = us }
-
-  abbrev times : Timed
+module _ (lent : Table) (departure : Float) (n units rs cs ms number : ℕ) (e : n ≡ nodesIn lent) (f : units ≡ unitsOf rs cs ms) (g : number ≡ firstNumber lent n departure (64 * units)) where
+  abbrev times : Answer Table
   times = tableTimes lent departure (bytesOf rs cs ms)
 
   times-is : times ≡ unless number (passes lent n departure)
@@ -56,98 +49,86 @@ module _ (fs : List Float) (us : List ℕ) (departure : Float) (n units rs cs ms
       ∙ ap (λ (k : ℕ). unless (firstNumber lent n departure (64 * k)) (passes lent n departure)) (sym f)
       ∙ ap (λ (k : ℕ). unless k (passes lent n departure)) (sym g)
 
-  pub told-first : (gs : List Float) (vs : List ℕ) → (number ≡ 0 → ⊥) → Told times number gs vs
-  told-first gs vs h = subst (λ (t : Timed). Told t number gs vs) (sym times-is) (go number h)
+  pub told-first : (left : Table) → number ≢ 0 → TimedAs times number left
+  told-first left h = subst (λ (t : Answer Table). TimedAs t number left) (sym times-is) (go number h)
     where
-      go : (k : ℕ) → (k ≡ 0 → ⊥) → Told (unless k (passes lent n departure)) k gs vs
+      go : (k : ℕ) → k ≢ 0 → TimedAs (unless k (passes lent n departure)) k left
       go zero h = absurd (h refl)
-      go (suc k) h = (refl, tt)
+      go (suc k) h = (refl, h)
 
-  pub told-passes : (r : ℕ) (gs : List Float) (vs : List ℕ) → number ≡ 0 → Told (passes lent n departure) r gs vs → Told times r gs vs
-  told-passes r gs vs z = subst (λ (t : Timed). Told t r gs vs) (sym (times-is ∙ ap (λ (k : ℕ). unless k (passes lent n departure)) z))
+  pub told-passes : (r : ℕ) (left : Table) → number ≡ 0 → TimedAs (passes lent n departure) r left → TimedAs times r left
+  told-passes r left z = subst (λ (t : Answer Table). TimedAs t r left) (sym (times-is ∙ ap (λ (k : ℕ). unless k (passes lent n departure)) z))
 
--- ---- no refusal has the number 0
-
-nonzero : (k : ℕ) → suc k ≡ 0 → ⊥
-nonzero k e = omega arith
-
-times-proper : (t : Table) (departure : Float) (bytes : ℕ) → Proper (tableTimes t departure bytes)
+-- what is not refused is small enough
+pub kept-fits : (lent : Table) (departure : Float) (bytes n number : ℕ) → n ≡ nodesIn lent → (left : Table) → TimedAs (tableTimes lent departure bytes) number left → (kept : ℕ) → kept ≡ keptNodes number n → kept ≤ 65535
 unfolding tableTimes firstNumber
-times-proper t departure bytes = go (firstNumber t (nodesIn t) departure bytes) (passes t (nodesIn t) departure) (passes-proper t (nodesIn t) departure)
+kept-fits lent departure bytes n number e left told kept k = subst (λ (x : ℕ). x ≤ 65535) (sym k) (go number (firstNumber lent (nodesIn lent) departure bytes) refl told)
   where
-    go : (k : ℕ) (later : Timed) → Proper later → Proper (unless k later)
-    go zero later p = p
-    go (suc k) later p = nonzero k
+    go : (r j : ℕ) → firstNumber lent (nodesIn lent) departure bytes ≡ j → TimedAs (unless j (passes lent (nodesIn lent) departure)) r left → keptNodes r n ≤ 65535
+    go (suc r) j f g = omega arith
+    go zero zero f g = let h = most-nodes lent (nodesIn lent) departure bytes f in omega arith
+    go zero (suc j) f g = absurd (nonzero j (sym (g .0)))
 
 -- ---- the whole answer
 
-answer-as : (t : Timed) (n : ℕ) → Proper t → answerAs (timedNumber t) n ≡ timedAnswer t n
-answer-as (refused zero) n p = absurd (p refl)
-answer-as (refused (suc k)) n p = refl
-answer-as (timedAs t) n p = refl
+kept-none : (number n k : ℕ) → number ≡ k → k ≢ 0 → keptNodes number n ≡ 0
+kept-none number n k e h = ap (λ (x : ℕ). keptNodes x n) e ∙ sym (kept-refused k n h)
 
-floats-as : (t : Timed) (n : ℕ) (gs : List Float) (us : List ℕ) → Proper t → TimedInto t gs us → take (keptNodes (timedNumber t) n * 4) gs ++ zeroFloats (length gs - keptNodes (timedNumber t) n * 4) ≡ floatsAs t n (length gs)
-floats-as (refused zero) n gs us p i = absurd (p refl)
-floats-as (refused (suc k)) n gs us p i = ap zeroFloats (sub-zero (length gs))
-floats-as (timedAs t) n gs us p i = ap (λ (s : List Float). take (n * 4) s ++ zeroFloats (length gs - n * 4)) (i .0)
+module _ (n number : ℕ) (left : Table) where
+  answer-as : (a : Answer Table) → TimedAs a number left → answerAs number n ≡ timedAnswer (andThen a (wholly n))
+  answer-as (refused k) p = ap (λ (x : ℕ). answerAs x n) (p .0) ∙ sym (answer-refused k n (p .1))
+  answer-as (given t) p = ap (λ (x : ℕ). answerAs x n) (p .0)
 
-numbers-as : (t : Timed) (n : ℕ) (gs : List Float) (us : List ℕ) → Proper t → TimedInto t gs us → take (keptNodes (timedNumber t) n * 6) us ++ zeros (length us - keptNodes (timedNumber t) n * 6) ≡ numbersAs t n (length us)
-numbers-as (refused zero) n gs us p i = absurd (p refl)
-numbers-as (refused (suc k)) n gs us p i = ap zeros (sub-zero (length us))
-numbers-as (timedAs t) n gs us p i = ap (λ (s : List ℕ). take (n * 6) s ++ zeros (length us - n * 6)) (i .1)
+  floats-as : (size : ℕ) (a : Answer Table) → TimedAs a number left → floatsKept (keptNodes number n) (left .floats) size ≡ floatsLeft (andThen a (wholly n)) size
+  floats-as size (refused k) p = ap (λ (x : ℕ). floatsKept x (left .floats) size) (kept-none number n k (p .0) (p .1)) ∙ ap zeroFloats (sub-zero size)
+  floats-as size (given t) p = ap (λ (x : ℕ). floatsKept (keptNodes x n) (left .floats) size) (p .0) ∙ ap (λ (x : Table). floatsKept n (x .floats) size) (p .1)
 
--- both slices as they are lent, and the lengths of the work space
-module _ (fs : List Float) (us : List ℕ) (departure : Float) (n rs cs ms number : ℕ) (e : n ≡ min (length fs / 4) (length us / 6)) (gs : List Float) (vs : List ℕ)
-    (told : Told (tableTimes (record { floats = fs; numbers = us }) departure (bytesOf rs cs ms)) number gs vs) where
-  abbrev table : Table
-  table = record { floats = fs; numbers = us }
+  numbers-as : (size : ℕ) (a : Answer Table) → TimedAs a number left → numbersKept (keptNodes number n) (left .numbers) size ≡ numbersLeft (andThen a (wholly n)) size
+  numbers-as size (refused k) p = ap (λ (x : ℕ). numbersKept x (left .numbers) size) (kept-none number n k (p .0) (p .1)) ∙ ap zeros (sub-zero size)
+  numbers-as size (given t) p = ap (λ (x : ℕ). numbersKept (keptNodes x n) (left .numbers) size) (p .0) ∙ ap (λ (x : Table). numbersKept n (x .numbers) size) (p .1)
 
-  abbrev timed : Timed
-  timed = tableTimes table departure (bytesOf rs cs ms)
-
-  nodes-are : n ≡ nodesIn table
-  unfolding nodesIn
-  nodes-are = e
-
-  proper : Proper timed
-  proper = times-proper table departure (bytesOf rs cs ms)
-
-  pub final-answer : (r : TimedTable) → r ≡ answerAs number n → r ≡ timedAnswer timed (nodesIn table)
-  final-answer r h = h ∙ ap (λ (k : ℕ). answerAs k n) (told .0) ∙ answer-as timed n proper ∙ ap (timedAnswer timed) nodes-are
-
-  module _ (kept : ℕ) (k : kept ≡ keptNodes number n) where
-    kept-is : kept ≡ keptNodes (timedNumber timed) n
-    kept-is = k ∙ ap (λ (x : ℕ). keptNodes x n) (told .0)
-
-    pub final-floats : (hs : List Float) → length gs ≡ length fs → hs ≡ take (kept * 4) gs ++ zeroFloats (length gs - kept * 4) → hs ≡ floatsAs timed (nodesIn table) (length fs)
-    final-floats hs l h =
-        h
-        ∙ ap (λ (x : ℕ). take (x * 4) gs ++ zeroFloats (length gs - x * 4)) kept-is
-        ∙ floats-as timed n gs vs proper (told .1)
-        ∙ ap (λ (x : ℕ). floatsAs timed x (length gs)) nodes-are
-        ∙ ap (floatsAs timed (nodesIn table)) l
-
-    pub final-numbers : (ws : List ℕ) → length vs ≡ length us → ws ≡ take (kept * 6) vs ++ zeros (length vs - kept * 6) → ws ≡ numbersAs timed (nodesIn table) (length us)
-    final-numbers ws l h =
-        h
-        ∙ ap (λ (x : ℕ). take (x * 6) vs ++ zeros (length vs - x * 6)) kept-is
-        ∙ numbers-as timed n gs vs proper (told .1)
-        ∙ ap (λ (x : ℕ). numbersAs timed x (length vs)) nodes-are
-        ∙ ap (numbersAs timed (nodesIn table)) l
+-- the slices that are lent; the table as the passes left it, of the same lengths; and all of them at the end
+pub updated : (lent : Slices) (departure : Float) (n number kept : ℕ) → n ≡ nodesIn (lent .table) → (passed : Table)
+    → TimedAs (tableTimes (lent .table) departure (bytesIn (lent .work))) number passed → length (passed .floats) ≡ length (lent .table .floats)
+    → length (passed .numbers) ≡ length (lent .table .numbers) → kept ≡ keptNodes number n → (left : Slices) → left .table .floats ≡ floatsKept kept (passed .floats) (length (passed .floats))
+    → left .table .numbers ≡ numbersKept kept (passed .numbers) (length (passed .numbers)) → Cleared (lent .work) (left .work) → (r : TimedTable) → r ≡ answerAs number n → TimesUpdated lent left departure r
+unfolding timesOf
+updated lent departure n number kept e passed told l m k left fs us w r a = record {
+  answer = a ∙ answer-as n number passed times told ∙ ap (λ (x : ℕ). timedAnswer (andThen times (wholly x))) e;
+  floats =
+      fs
+      ∙ ap (λ (x : ℕ). floatsKept kept (passed .floats) x) l
+      ∙ ap (λ (x : ℕ). floatsKept x (passed .floats) (length (lent .table .floats))) k
+      ∙ floats-as n number passed (length (lent .table .floats)) times told
+      ∙ ap (λ (x : ℕ). floatsLeft (andThen times (wholly x)) (length (lent .table .floats))) e;
+  numbers =
+      us
+      ∙ ap (λ (x : ℕ). numbersKept kept (passed .numbers) x) m
+      ∙ ap (λ (x : ℕ). numbersKept x (passed .numbers) (length (lent .table .numbers))) k
+      ∙ numbers-as n number passed (length (lent .table .numbers)) times told
+      ∙ ap (λ (x : ℕ). numbersLeft (andThen times (wholly x)) (length (lent .table .numbers))) e;
+  work = w;
+}
+  where
+    times : Answer Table
+    times = tableTimes (lent .table) departure (bytesIn (lent .work))
 
 -- ---- what the answer tells
 
-whole-nodes : (t : Timed) (n k : ℕ) → Whole k ≡ timedAnswer t n → k ≡ n
+whole-nodes : (t : Answer Table) (n k : ℕ) → Whole k ≡ timedAnswer (andThen t (wholly n)) → k ≡ n
 whole-nodes (refused j) n k e = let z : _≡_ {A = ℕ} 0 1 = cc in absurd (nonzero 0 (sym z))
-whole-nodes (timedAs t) n k e = cc
+whole-nodes (given t) n k e = cc
 
 -- as many nodes as a u32 can tell
-pub whole-most : (t : Table) (departure : Float) (bytes k : ℕ) (r : TimedTable) → r ≡ timedAnswer (tableTimes t departure bytes) (nodesIn t) → r ≡ Whole k → k ≤ 65535
-unfolding tableTimes firstNumber
-whole-most t departure bytes k r e d = go (firstNumber t (nodesIn t) departure bytes) refl (sym d ∙ e)
+pub whole-most : (lent : Slices) (departure : Float) (k : ℕ) (r : TimedTable) → r ≡ timedAnswer (timesOf lent departure) → r ≡ Whole k → k ≤ 65535
+unfolding timesOf firstNumber
+whole-most lent departure k r e d = go (firstNumber t (nodesIn t) departure (bytesIn (lent .work))) refl (sym d ∙ e)
   where
-    go : (j : ℕ) → firstNumber t (nodesIn t) departure bytes ≡ j → Whole k ≡ timedAnswer (unless j (passes t (nodesIn t) departure)) (nodesIn t) → k ≤ 65535
-    go zero f g = let h = most-nodes t (nodesIn t) departure bytes f in omega (arith, whole-nodes (passes t (nodesIn t) departure) (nodesIn t) k g)
+    t : Table
+    t = lent .table
+
+    go : (j : ℕ) → firstNumber t (nodesIn t) departure (bytesIn (lent .work)) ≡ j → Whole k ≡ timedAnswer (andThen (unless j (passes t (nodesIn t) departure)) (wholly (nodesIn t))) → k ≤ 65535
+    go zero f g = let h = most-nodes t (nodesIn t) departure (bytesIn (lent .work)) f in omega (arith, whole-nodes (passes t (nodesIn t) departure) (nodesIn t) k g)
     go (suc j) f g = let z : _≡_ {A = ℕ} 0 1 = cc in absurd (nonzero 0 (sym z))
 
 pub answer-told : (a r x : TimedTable) → r ≡ a → r ≡ x → (tableNumber x ≡ tableNumber a) × (tableNodes x ≡ tableNodes a)

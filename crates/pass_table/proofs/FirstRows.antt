@@ -6,7 +6,7 @@ use Prim.Native.Nat.{ℕ, zero, suc, _+_, _*_, _/_, _≤_, _<_, min}
 use native.Mathlib.Omega.{arith}
 use borrow.Author.Tests.{lt-ltb, le-ltb, ltb-true, ltb-false, leb-false}
 use lib.Dec.{ltb, leb}
-use lib.ListN.{length, getD, take}
+use lib.ListN.{length, take}
 use lib.Seq.{length-take-le}
 use lib.Ieee.{Float}
 use Rattle.laws.specs.Below.{someBelow}
@@ -15,11 +15,12 @@ use Rattle.floats.specs.Floats.{tableFloat}
 use Rattle.space.specs.Space.{unitsOf, bytesOf}
 use Rattle.book_format.specs.Rows.{lowest}
 use Rattle.net_node.specs.declared.EstTime.{EstTime}
-use Rattle.net_node.specs.Table.{nodeAt, Room, Table, at}
+use Rattle.net_node.specs.Table.{floatWidth, numberWidth, nodeAt, Room, Table, at}
+use Rattle.net_node.specs.Left.{nodesIn, kindAt}
 use Rattle.pass_rules.specs.Walks.{Inside}
 use Rattle.pass_table.specs.declared.TimedTable.{TimedTable}
 use Rattle.pass_table.specs.declared.TimedTable.the-variants.{Whole, Refused}
-use Rattle.pass_table.specs.TableEntry.{nodesIn, tableRow3, tableRow4, tableRow5, badFloats, badNode, strayNode}
+use Rattle.pass_table.specs.TableEntry.{tableRow3, tableRow4, tableRow5, badFloats, badNode, strayNode}
 use Rattle.pass_table.specs.Parts.{nodesNumber, firstNumber, keptNodes, answerAs}
 
 -- ---- row 3
@@ -71,22 +72,22 @@ module _ (fs : List Float) (us : List ℕ) (n : ℕ) where
   sweep-start = record { within = omega arith; good = refl; strays = refl }
 
   module _ (i : ℕ) (found : Bool) (v : Swept lent n i found) where
-    bad-here : (x : EstTime) (b : Bool) → x ≡ nodeAt fs us i → b ≡ (badFloats x || ltb 2 (getD us (i * 6 + 5) 0)) → b ≡ badNode lent i
+    bad-here : (x : EstTime) (kind : ℕ) (b : Bool) → x ≡ nodeAt fs us i → kind ≡ kindAt us i → b ≡ (badFloats x || ltb 2 kind) → b ≡ badNode lent i
     unfolding badNode at
-    bad-here x b e f = f ∙ ap (λ (y : EstTime). badFloats y || ltb 2 (getD us (i * 6 + 5) 0)) e
+    bad-here x kind b e k f = f ∙ ap (λ (y : EstTime). badFloats y || ltb 2 kind) e ∙ ap (λ (z : ℕ). badFloats (nodeAt fs us i) || ltb 2 z) k
 
     stray-here : (x : EstTime) (b : Bool) → x ≡ nodeAt fs us i → b ≡ strayNode n x → b ≡ strayNode n (at lent i)
     unfolding at
     stray-here x b e f = f ∙ ap (strayNode n) e
 
-    pub sweep-bad : (x : EstTime) (b : Bool) → i < n → x ≡ nodeAt fs us i → b ≡ (badFloats x || ltb 2 (getD us (i * 6 + 5) 0)) → b ≡ true → 4 ≡ nodesNumber lent n
+    pub sweep-bad : (x : EstTime) (kind : ℕ) (b : Bool) → i < n → x ≡ nodeAt fs us i → kind ≡ kindAt us i → b ≡ (badFloats x || ltb 2 kind) → b ≡ true → 4 ≡ nodesNumber lent n
     unfolding nodesNumber lowest
-    sweep-bad x b h e f d = sym (ap (λ (t : Bool). lowest 4 (t ∷ tableRow5 lent n ∷ [])) (some-at n (badNode lent) i h (sym (bad-here x b e f) ∙ d)))
+    sweep-bad x kind b h e k f d = sym (ap (λ (t : Bool). lowest 4 (t ∷ tableRow5 lent n ∷ [])) (some-at n (badNode lent) i h (sym (bad-here x kind b e k f) ∙ d)))
 
-    pub sweep-on : (x : EstTime) (b r : Bool) → i < n → x ≡ nodeAt fs us i → b ≡ (badFloats x || ltb 2 (getD us (i * 6 + 5) 0)) → b ≡ false → r ≡ strayNode n x → Swept lent n (i + 1) (found || r)
-    sweep-on x b r h e f d g = record {
+    pub sweep-on : (x : EstTime) (kind : ℕ) (b r : Bool) → i < n → x ≡ nodeAt fs us i → kind ≡ kindAt us i → b ≡ (badFloats x || ltb 2 kind) → b ≡ false → r ≡ strayNode n x → Swept lent n (i + 1) (found || r)
+    sweep-on x kind b r h e k f d g = record {
       within = omega arith;
-      good = none-more i (badNode lent) (v .good) (sym (bad-here x b e f) ∙ d);
+      good = none-more i (badNode lent) (v .good) (sym (bad-here x kind b e k f) ∙ d);
       strays =
           ap (λ (t : Bool). t || r) (v .strays)
           ∙ ap (λ (t : Bool). someBelow i (λ k. strayNode n (at lent k)) || t) (stray-here x r e g)
@@ -182,7 +183,7 @@ pub record Ready (fs : List Float) (us : List ℕ) (n rs cs ms : ℕ) : Type 0 w
   pub cells : n * 2 ≤ cs
   pub marks : n ≤ ms
 
-pub nodes-fit : (fs : List Float) (us : List ℕ) (n : ℕ) → n ≡ nodesIn (record { floats = fs; numbers = us }) → (n * 4 ≤ length fs) × (n * 6 ≤ length us)
+pub nodes-fit : (fs : List Float) (us : List ℕ) (n : ℕ) → n ≡ nodesIn (record { floats = fs; numbers = us }) → (n * floatWidth ≤ length fs) × (n * numberWidth ≤ length us)
 unfolding nodesIn
 nodes-fit fs us n e = (omega arith, omega arith)
 

@@ -1,24 +1,24 @@
 -- The table entry, document 01: "The passes also accept a lent node table of 3 to 65,535 nodes and a departure (row 4, either sign); each node's time is checked, then read as untimed.
 -- It gives 3, 4, 5, 14, 15 or 16. Its report: nodes alone."
-use mathlib.Core.Bool.{Bool, true, false, not, _||_}
-use mathlib.Core.List.{List, [], _∷_, _++_}
-use Prim.Native.Nat.{ℕ, zero, suc, _+_, _-_, _*_, _/_, min}
+use mathlib.Core.Path.{_≡_}
+use mathlib.Core.Bool.{Bool, not, _||_}
+use mathlib.Core.List.{[], _∷_}
+use Prim.Native.Nat.{ℕ, zero, suc, _+_, _*_, min}
 use lib.Dec.{ltb, leb}
-use lib.ListN.{length, getD, take}
+use lib.ListN.{length}
 use lib.Ieee.{Float}
+use Rattle.laws.specs.Answer.{Answer, refused, given, andThen}
 use Rattle.net_node.specs.Table.{Table, at}
+use Rattle.net_node.specs.Left.{Network, nodesIn, kindAt, floatsLeft, numbersLeft}
+use Rattle.net_node.specs.Lent.{Slices}
 use Rattle.laws.specs.Below.{someBelow}
 use Rattle.floats.specs.Floats.{tableFloat}
-use Rattle.space.specs.Space.{zeros, zeroFloats}
+use Rattle.space.specs.Lent.{bytesIn, Cleared}
 use Rattle.book_format.specs.Rows.{lowest}
 use Rattle.net_node.specs.declared.EstTime.{EstTime}
-use Rattle.pass_rules.specs.Passes.{Timed, refused, timedAs, passes}
+use Rattle.pass_rules.specs.Passes.{passes}
 use Rattle.pass_table.specs.declared.TimedTable.{TimedTable}
 use Rattle.pass_table.specs.declared.TimedTable.the-variants.{Whole, Refused}
-
--- as many nodes as both slices fill: 4 floats and 6 numbers each
-unfoldable pub nodesIn : Table → ℕ
-nodesIn t = min (length (t .floats) / 4) (length (t .numbers) / 6)
 
 -- Row 3: "table handed to the passes outside 3 to 65,535 nodes; work space below 36,864 + 64 times (.. table places up to 65,535) bytes"
 unfoldable pub tableRow3 : ℕ → ℕ → Bool
@@ -26,11 +26,15 @@ tableRow3 n bytes = ltb n 3 || ltb 65535 n || ltb bytes (36864 + 64 * min n 6553
 
 -- Row 4: "float not finite or above 1,000,000,000 in size (a table takes either sign); .. kind unknown"
 unfoldable pub badFloats : EstTime → Bool
-badFloats x = not (tableFloat (x .«time_sched»)) || not (tableFloat (x .«time_to_next»)) || not (tableFloat (x .«dist_to_next»)) || not (tableFloat (x .speed))
+badFloats x =
+    not (tableFloat (x .«time_sched»))
+    || not (tableFloat (x .«time_to_next»))
+    || not (tableFloat (x .«dist_to_next»))
+    || not (tableFloat (x .speed))
 
 unfoldable pub badNode : Table → ℕ → Bool
 unfolding badFloats
-badNode t i = badFloats (at t i) || ltb 2 (getD (t .numbers) (i * 6 + 5) 0)
+badNode t i = badFloats (at t i) || ltb 2 (kindAt (t .numbers) i)
 
 unfoldable pub tableRow4 : Table → ℕ → Float → Bool
 unfolding badNode
@@ -45,21 +49,30 @@ unfolding strayNode
 tableRow5 t n = someBelow n (λ i. strayNode n (at t i))
 
 -- "Of 1 to 8 the lowest wins; after that the first met."
-abbrev pub unless : ℕ → Timed → Timed
+abbrev pub unless : ℕ → Answer Table → Answer Table
 unless zero later = later
 unless (suc k) later = refused (suc k)
 
-unfoldable pub tableTimes : Table → Float → ℕ → Timed
+unfoldable pub tableTimes : Table → Float → ℕ → Answer Table
 unfolding tableRow3 tableRow4 tableRow5
 tableTimes t departure bytes =
     let n = nodesIn t in
     unless (lowest 3 (tableRow3 n bytes ∷ tableRow4 t n departure ∷ tableRow5 t n ∷ [])) (passes t n departure)
 
--- ---- the answer and both slices
+-- ---- what the entry promises
 
-abbrev pub timedAnswer : Timed → ℕ → TimedTable
-timedAnswer (refused k) n = Refused k
-timedAnswer (timedAs t) n = Whole n
+-- all nodes of a table
+abbrev pub wholly : ℕ → Table → Answer Network
+wholly n t = given (record { table = t; nodes = n })
+
+-- what becomes of the table that is lent
+unfoldable pub timesOf : Slices → Float → Answer Network
+unfolding tableTimes
+timesOf lent departure = andThen (tableTimes (lent .table) departure (bytesIn (lent .work))) (wholly (nodesIn (lent .table)))
+
+abbrev pub timedAnswer : Answer Network → TimedTable
+timedAnswer (refused k) = Refused k
+timedAnswer (given x) = Whole (x .nodes)
 
 -- document 01's number, and the report's nodes, for each answer
 abbrev pub tableNumber : TimedTable → ℕ
@@ -70,11 +83,9 @@ abbrev pub tableNodes : TimedTable → ℕ
 tableNodes (Whole n) = n
 tableNodes (Refused k) = 0
 
--- "as many places as both slices fill, all else zero"; "Refused: .. every lent table .. zero"
-abbrev pub floatsAs : Timed → ℕ → ℕ → List Float
-floatsAs (refused k) n size = zeroFloats size
-floatsAs (timedAs t) n size = take (n * 4) (t .floats) ++ zeroFloats (size - n * 4)
-
-abbrev pub numbersAs : Timed → ℕ → ℕ → List ℕ
-numbersAs (refused k) n size = zeros size
-numbersAs (timedAs t) n size = take (n * 6) (t .numbers) ++ zeros (size - n * 6)
+-- "Accepted: nodes in the lent table (.. as many places as both slices fill, all else zero)"; "Refused: the number; every lent table .. zero"; "Work space is zero either way."
+pub record TimesUpdated (lent left : Slices) (departure : Float) (r : TimedTable) : Type 0 where
+  pub answer : r ≡ timedAnswer (timesOf lent departure)
+  pub floats : left .table .floats ≡ floatsLeft (timesOf lent departure) (length (lent .table .floats))
+  pub numbers : left .table .numbers ≡ numbersLeft (timesOf lent departure) (length (lent .table .numbers))
+  pub work : Cleared (lent .work) (left .work)

@@ -6,11 +6,13 @@ ghost use mathlib.Core.List.{[], _∷_};
 ghost use Prim.Native.Nat.{_*_, _≤_};
 ghost use lib.Dec.{leb, ltb};
 ghost use lib.ListN.{length};
-ghost use Rattle.net_node.specs.Table.{Table};
-ghost use Rattle.space.specs.Space.{bytesOf, zeros, zeroFloats};
+ghost use Rattle.net_node.specs.Table.{floatWidth, numberWidth};
+ghost use Rattle.net_node.specs.Left.{nodesIn};
+ghost use Rattle.net_node.specs.Lent.{tableAtEntry, tableAtExit, lentAtEntry, lentAtExit};
+ghost use Rattle.space.specs.Lent.{workAtEntry, bytesIn};
 ghost use Rattle.book_format.specs.Rows.{lowest};
-ghost use Rattle.pass_all.specs.Answers.{timedNumber, TimedInto};
-ghost use Rattle.pass_table.specs.TableEntry.{nodesIn, tableRow3, badFloats, strayNode, tableTimes, timedAnswer, floatsAs, numbersAs};
+ghost use Rattle.pass_all.specs.Answers.{TimedAs};
+ghost use Rattle.pass_table.specs.TableEntry.{tableRow3, badFloats, strayNode, tableTimes, TimesUpdated};
 ghost use Rattle.pass_table.specs.Parts.{nodesNumber, firstNumber, keptNodes, answerAs};
 
 // How many nodes the timed table has, or the number of a refusal.
@@ -68,15 +70,15 @@ fn five_if(stray: bool) -> u32
 
 // What the nodes give: 4 if one is bad, 5 if one is stray.
 fn nodes_number(floats: &[f64], numbers: &[u32], n: usize) -> u32
-    requires { ⌜ n * 4 ≤ length (now floats) ⌝ }
-    requires { ⌜ n * 6 ≤ length (now numbers) ⌝ }
-    ensures { λ r. ⌜ r ≡ nodesNumber (record { floats = now (floats .entry); numbers = now (numbers .entry) }) n ⌝ }
+    requires { ⌜ n * floatWidth ≤ length (now floats) ⌝ }
+    requires { ⌜ n * numberWidth ≤ length (now numbers) ⌝ }
+    ensures { λ r. ⌜ r ≡ nodesNumber (tableAtEntry floats numbers) n ⌝ }
 {
     let mut stray = false;
     let mut i = 0;
     while i < n {
         let node = net_node::load(floats, numbers, i);
-        if is_bad_node(node, numbers[i * 6 + 5]) {
+        if is_bad_node(node, net_node::kind_at(numbers, i)) {
             return 4;
         }
         stray = stray | is_stray_node(n, node);
@@ -87,9 +89,9 @@ fn nodes_number(floats: &[f64], numbers: &[u32], n: usize) -> u32
 
 // Rows 3, 4 and 5, in that order; 0 where none holds.
 fn first_number(floats: &[f64], numbers: &[u32], n: usize, departure: f64, units: usize) -> u32
-    requires { ⌜ n * 4 ≤ length (now floats) ⌝ }
-    requires { ⌜ n * 6 ≤ length (now numbers) ⌝ }
-    ensures { λ r. ⌜ r ≡ firstNumber (record { floats = now (floats .entry); numbers = now (numbers .entry) }) n departure (64 * units) ⌝ }
+    requires { ⌜ n * floatWidth ≤ length (now floats) ⌝ }
+    requires { ⌜ n * numberWidth ≤ length (now numbers) ⌝ }
+    ensures { λ r. ⌜ r ≡ firstNumber (tableAtEntry floats numbers) n departure (64 * units) ⌝ }
 {
     if size_refused(n, units) {
         return 3;
@@ -111,8 +113,7 @@ fn time_nodes(
     marks: &mut [u32],
 ) -> u32
     requires { ⌜ n ≡ nodesIn (record { floats = now floats; numbers = now numbers }) ⌝ }
-    ensures number { λ r. ⌜ r ≡ timedNumber (tableTimes (record { floats = now (floats .entry); numbers = now (numbers .entry) }) departure (bytesOf (length (now (reals .entry))) (length (now (cells .entry))) (length (now (marks .entry))))) ⌝ }
-    ensures table { λ _. ⌜ TimedInto (tableTimes (record { floats = now (floats .entry); numbers = now (numbers .entry) }) departure (bytesOf (length (now (reals .entry))) (length (now (cells .entry))) (length (now (marks .entry))))) (now (floats .exit)) (now (numbers .exit)) ⌝ }
+    ensures { λ r. ⌜ TimedAs (tableTimes (tableAtEntry floats numbers) departure (bytesIn (workAtEntry reals cells marks))) r (tableAtExit floats numbers) ⌝ }
 {
     let units = space::units(reals.len(), cells.len(), marks.len());
     let number = first_number(floats, numbers, n, departure, units);
@@ -144,7 +145,8 @@ fn answer_of(number: u32, n: usize) -> TimedTable
     }
 }
 
-// Checks and times a lent node table of as many nodes as both slices fill. What they hold past the nodes is zero afterwards, all of both on a refusal; the work space is zero either way.
+// Checks and times a lent node table of as many nodes as both slices fill. What they hold past the nodes is zero afterwards, all of both
+// on a refusal; the work space is zero either way.
 pub fn update_times(
     floats: &mut [f64],
     numbers: &mut [u32],
@@ -153,18 +155,12 @@ pub fn update_times(
     cells: &mut [u32],
     marks: &mut [u32],
 ) -> TimedTable
-    ensures answer { λ r. ⌜ r ≡ timedAnswer (tableTimes (record { floats = now (floats .entry); numbers = now (numbers .entry) }) departure (bytesOf (length (now (reals .entry))) (length (now (cells .entry))) (length (now (marks .entry))))) (nodesIn (record { floats = now (floats .entry); numbers = now (numbers .entry) })) ⌝ }
-    ensures floats { λ _. ⌜ now (floats .exit) ≡ floatsAs (tableTimes (record { floats = now (floats .entry); numbers = now (numbers .entry) }) departure (bytesOf (length (now (reals .entry))) (length (now (cells .entry))) (length (now (marks .entry))))) (nodesIn (record { floats = now (floats .entry); numbers = now (numbers .entry) })) (length (now (floats .entry))) ⌝ }
-    ensures numbers { λ _. ⌜ now (numbers .exit) ≡ numbersAs (tableTimes (record { floats = now (floats .entry); numbers = now (numbers .entry) }) departure (bytesOf (length (now (reals .entry))) (length (now (cells .entry))) (length (now (marks .entry))))) (nodesIn (record { floats = now (floats .entry); numbers = now (numbers .entry) })) (length (now (numbers .entry))) ⌝ }
-    ensures reals { λ _. ⌜ now (reals .exit) ≡ zeroFloats (length (now (reals .entry))) ⌝ }
-    ensures cells { λ _. ⌜ now (cells .exit) ≡ zeros (length (now (cells .entry))) ⌝ }
-    ensures marks { λ _. ⌜ now (marks .exit) ≡ zeros (length (now (marks .entry))) ⌝ }
+    ensures { λ r. ⌜ TimesUpdated (lentAtEntry floats numbers reals cells marks) (lentAtExit floats numbers reals cells marks) departure r ⌝ }
 {
-    let n = space::smaller(floats.len() / 4, numbers.len() / 6);
+    let n = net_node::nodes_filled(floats.len(), numbers.len());
     let number = time_nodes(floats, numbers, n, departure, reals, cells, marks);
     let kept = nodes_kept(number, n);
-    space::clear_floats_from(floats, kept * 4);
-    space::clear_numbers_from(numbers, kept * 6);
+    net_node::clear_behind(floats, numbers, kept);
     space::clear_floats(reals);
     space::clear_numbers(cells);
     space::clear_numbers(marks);

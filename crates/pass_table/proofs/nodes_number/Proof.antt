@@ -18,20 +18,11 @@ loop-holds c = sweep-start _ _ _
 load-requires : tie.Need-load-requires Inv-loop μ-loop
 load-requires c κs = omega (arith, c .before .before .before .before .pre, c .loop-test .taken)
 
-mul-is-bad-node : tie.Need-mul-is-bad-node Inv-loop μ-loop
-mul-is-bad-node c = omega (arith, c .before .before .before .before .before .pre, c .before .loop-test .taken)
-
-add-is-bad-node : tie.Need-add-is-bad-node Inv-loop μ-loop
-add-is-bad-node c = omega (arith, c .before .before .before .before .before .pre, c .before .loop-test .taken)
-
-mul-is-bad-node-2 : tie.Need-mul-is-bad-node-2 Inv-loop μ-loop
-mul-is-bad-node-2 c = omega (arith, c .before .before .before .before .before .pre, c .before .loop-test .taken)
-
-shared-slice-read-is-bad-node : tie.Need-shared-slice-read-is-bad-node Inv-loop μ-loop
-shared-slice-read-is-bad-node c = omega (arith, c .before .before .before .before .before .before .pre, c .before .before .loop-test .taken)
+kind-at-requires : tie.Need-kind-at-requires Inv-loop μ-loop
+kind-at-requires c κs = omega (arith, c .before .before .before .before .before .pre, c .before .loop-test .taken)
 
 returns : tie.Need-returns Inv-loop μ-loop
-returns c = sweep-bad _ _ _ _ _ (c .before .before .before .before .before .loop .inv) _ _ (c .before .before .before .before .loop-test .taken) (c .before .before .before .load .ensures) (c .before .is-bad-node .ensures) (c .if1 .taken)
+returns c = sweep-bad _ _ _ _ _ (c .before .before .before .before .before .loop .inv) _ _ _ (c .before .before .before .before .loop-test .taken) (c .before .before .before .load .ensures) (c .before .before .kind-at .ensures) (c .before .is-bad-node .ensures) (c .if1 .taken)
 
 add-i : tie.Need-add-i Inv-loop μ-loop
 add-i c = omega (arith, c .before .before .before .before .before .loop-test .taken)
@@ -40,7 +31,7 @@ loop-less : tie.Need-loop-less Inv-loop μ-loop
 loop-less c = omega (arith, c .before .before .before .before .before .loop-test .taken)
 
 loop-again : tie.Need-loop-again Inv-loop μ-loop
-loop-again c = sweep-on _ _ _ _ _ (c .before .before .before .before .before .before .loop .inv) _ _ _ (c .before .before .before .before .before .loop-test .taken) (c .before .before .before .before .load .ensures) (c .before .before .is-bad-node .ensures) (c .before .if1 .left) (c .is-stray-node .ensures)
+loop-again c = sweep-on _ _ _ _ _ (c .before .before .before .before .before .before .loop .inv) _ _ _ _ (c .before .before .before .before .before .loop-test .taken) (c .before .before .before .before .load .ensures) (c .before .before .before .kind-at .ensures) (c .before .before .is-bad-node .ensures) (c .before .if1 .left) (c .is-stray-node .ensures)
 
 returns-2 : tie.Need-returns-2 Inv-loop μ-loop
 returns-2 c = sweep-end _ _ _ _ _ (c .before .before .loop .inv) _ (c .before .loop-test .left) (c .five-if .ensures)
@@ -53,10 +44,7 @@ nodes-number-spec =
     μ-loop
     loop-holds
     load-requires
-    mul-is-bad-node
-    add-is-bad-node
-    mul-is-bad-node-2
-    shared-slice-read-is-bad-node
+    kind-at-requires
     (λ c κs. search needs)
     returns
     (λ c κs. search needs)

@@ -13,7 +13,7 @@ first-number-requires : tie.Need-first-number-requires
 first-number-requires c κs = nodes-fit _ _ _ (c .before .before .before .before .before .before .before .before .pre)
 
 returns : tie.Need-returns
-returns c = told-first _ _ _ _ _ _ _ _ _ (c .before .before .before .before .before .before .before .before .before .before .pre) (c .before .before .before .before .units .ensures) (c .before .first-number .ensures) _ _ (c .if1 .taken)
+returns c = told-first _ _ _ _ _ _ _ _ (c .before .before .before .before .before .before .before .before .before .before .pre) (c .before .before .before .before .units .ensures) (c .before .first-number .ensures) _ (c .if1 .taken)
 
 mul-flags : tie.Need-mul-flags
 mul-flags c =
@@ -36,7 +36,7 @@ run-passes-requires c κs =
     (r .room, (r .inside, (r .three, (r .reals, (flags-fit _ _ _ (r .cells) (c .before .before .before .before .before .before .clear-numbers .kept .0), (r .marks, zeros-again _ _ (c .before .before .before .before .before .before .clear-numbers .ensures)))))))
 
 returns-2 : tie.Need-returns-2
-returns-2 c = told-passes _ _ _ _ _ _ _ _ _ (c .before .before .before .before .before .before .before .before .before .before .before .before .before .before .before .before .before .before .before .before .before .before .before .before .before .before .before .before .before .before .pre) (c .before .before .before .before .before .before .before .before .before .before .before .before .before .before .before .before .before .before .before .before .before .before .before .before .units .ensures) (c .before .before .before .before .before .before .before .before .before .before .before .before .before .before .before .before .before .before .before .before .before .first-number .ensures) _ _ _ (c .before .before .before .before .before .before .before .before .before .before .before .before .before .before .before .before .before .before .before .before .if1 .left) (c .before .before .before .before .before .before .before .before .before .before .run-passes .ensures)
+returns-2 c = told-passes _ _ _ _ _ _ _ _ (c .before .before .before .before .before .before .before .before .before .before .before .before .before .before .before .before .before .before .before .before .before .before .before .before .before .before .before .before .before .before .pre) (c .before .before .before .before .before .before .before .before .before .before .before .before .before .before .before .before .before .before .before .before .before .before .before .before .units .ensures) (c .before .before .before .before .before .before .before .before .before .before .before .before .before .before .before .before .before .before .before .before .before .first-number .ensures) _ _ (c .before .before .before .before .before .before .before .before .before .before .before .before .before .before .before .before .before .before .before .before .if1 .left) (c .before .before .before .before .before .before .before .before .before .before .run-passes .ensures)
 
 pub time-nodes-spec : {M : Type 1} → statement M
 time-nodes-spec =
