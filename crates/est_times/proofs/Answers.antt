@@ -40,18 +40,6 @@ kept-numbers : (j : Answer Finished) (t : Table) (sheet : Sheet) (size : ℕ) �
 kept-numbers (refused k) t sheet size h = ap (λ (s : Sheet). numbersKept (sheetNodes s) (t .numbers) size) h ∙ ap zeros (sub-zero size)
 kept-numbers (given f) t sheet size h = ap (λ (s : Sheet). numbersKept (sheetNodes s) (t .numbers) size) (h .0) ∙ ap (λ (x : Table). numbersKept (f .grown .nodes) (x .numbers) size) (h .1)
 
--- ---- slices of the same lengths
-
-pub record SameLengths (lent other : Slices) : Type 0 where
-  pub floats : length (other .table .floats) ≡ length (lent .table .floats)
-  pub numbers : length (other .table .numbers) ≡ length (lent .table .numbers)
-  pub reals : length (other .work .reals) ≡ length (lent .work .reals)
-  pub cells : length (other .work .cells) ≡ length (lent .work .cells)
-  pub marks : length (other .work .marks) ≡ length (lent .work .marks)
-
-pub same-sizes : {lent other : Slices} → SameLengths lent other → sizesOf other ≡ sizesOf lent
-same-sizes s = λ i. record { floats = s .floats i; numbers = s .numbers i; bytes = bytesOf (s .reals i) (s .cells i) (s .marks i) }
-
 -- work space that is cleared, by the lengths that it was lent with
 pub cleared-as : {lent other left : Work} → length (other .reals) ≡ length (lent .reals) → length (other .cells) ≡ length (lent .cells) → length (other .marks) ≡ length (lent .marks) → Cleared other left → Cleared lent left
 cleared-as p q r c = record { reals = c .reals ∙ ap zeroFloats p; cells = c .cells ∙ ap zeros q; marks = c .marks ∙ ap zeros r }
@@ -59,17 +47,21 @@ cleared-as p q r c = record { reals = c .reals ∙ ap zeroFloats p; cells = c .c
 -- ---- the promise
 
 -- The job is built on slices of the lent lengths; then the table is cleared behind the nodes, and the work space.
-module _ (b : List ℕ) (lent begun left : Slices) (built : Table) (sheet : Sheet) (s : SameLengths lent begun) (made : BuiltAs (job b (sizesOf begun)) built sheet)
-    (lf : length (built .floats) ≡ length (lent .table .floats)) (lu : length (built .numbers) ≡ length (lent .table .numbers)) (k : ℕ) (e : k ≡ sheetNodes sheet) where
+module _ (b : List ℕ) (lent left : Slices) (f n r c m : ℕ) (built : Table) (sheet : Sheet) (made : BuiltAs (job b (record { floats = f; numbers = n; bytes = bytesOf r c m })) built sheet)
+    (ef : f ≡ length (lent .table .floats)) (en : n ≡ length (lent .table .numbers)) (er : r ≡ length (lent .work .reals)) (ec : c ≡ length (lent .work .cells)) (em : m ≡ length (lent .work .marks)) where
   abbrev whole : Answer Finished
   whole = job b (sizesOf lent)
 
-  moved : BuiltAs whole built sheet
-  moved = subst (λ (z : Sizes). BuiltAs (job b z) built sheet) (same-sizes s) made
+  same-sizes : record { floats = f; numbers = n; bytes = bytesOf r c m } ≡ sizesOf lent
+  same-sizes = λ i. record { floats = ef i; numbers = en i; bytes = bytesOf (er i) (ec i) (em i) }
 
-  pub sheet-made : left .table .floats ≡ floatsKept k (built .floats) (length (built .floats)) → left .table .numbers ≡ numbersKept k (built .numbers) (length (built .numbers))
+  moved : BuiltAs whole built sheet
+  moved = subst (λ (z : Sizes). BuiltAs (job b z) built sheet) same-sizes made
+
+  pub sheet-made : length (built .floats) ≡ length (lent .table .floats) → length (built .numbers) ≡ length (lent .table .numbers) → (k : ℕ) → k ≡ sheetNodes sheet
+      → left .table .floats ≡ floatsKept k (built .floats) (length (built .floats)) → left .table .numbers ≡ numbersKept k (built .numbers) (length (built .numbers))
       → Cleared (lent .work) (left .work) → SheetMade b lent left sheet
-  sheet-made p q w = record {
+  sheet-made lf lu k e p q w = record {
     answer = job-answered whole built sheet moved;
     floats = p ∙ ap (λ (x : ℕ). floatsKept x (built .floats) (length (built .floats))) e ∙ kept-floats whole built sheet (length (built .floats)) moved ∙ ap (floatsLeft (sheetOf whole)) lf;
     numbers = q ∙ ap (λ (x : ℕ). numbersKept x (built .numbers) (length (built .numbers))) e ∙ kept-numbers whole built sheet (length (built .numbers)) moved ∙ ap (numbersLeft (sheetOf whole)) lu;

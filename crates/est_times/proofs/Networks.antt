@@ -78,14 +78,14 @@ module _ (b : List ℕ) (z : Sizes) where
       record { passes = p; read = read-of p; grows = d .1; whole = w; most = let i = w .inside in let m = places-most (z .floats) (z .numbers) in omega arith }
 
 -- growth on the lent table, which is zero
-pub grown-network : (b : List ℕ) (fs : List Float) (us : List ℕ) (bytes : ℕ) → fs ≡ zeroFloats (length fs) → us ≡ zeros (length us) → readNumber b (placesOf (length fs) (length us)) bytes ≡ 0
-    → (gs : List Float) (vs : List ℕ) (r : GrownBook) → GrownAs (grow b (placesOf (length fs) (length us)) (record { floats = fs; numbers = us })) gs vs r
-    → GrownAs (network b (record { floats = length fs; numbers = length us; bytes = bytes })) gs vs r
-unfolding zeroTable
-grown-network b fs us bytes e d none gs vs r = subst (λ (a : Answer Grown). GrownAs a gs vs r) (sym (network-grows b z none ∙ ap (grow b (placesIn z)) same))
-  where
-    abbrev z : Sizes
-    z = record { floats = length fs; numbers = length us; bytes = bytes }
+module _ (b : List ℕ) (fs : List Float) (us : List ℕ) (bytes : ℕ) (e : fs ≡ zeroFloats (length fs)) (d : us ≡ zeros (length us)) where
+  abbrev lent : Sizes
+  lent = record { floats = length fs; numbers = length us; bytes = bytes }
 
-    same : zeroTable z ≡ record { floats = fs; numbers = us }
-    same = λ i. record { floats = sym e i; numbers = sym d i }
+  same : zeroTable lent ≡ record { floats = fs; numbers = us }
+  unfolding zeroTable
+  same = λ i. record { floats = sym e i; numbers = sym d i }
+
+  pub grown-network : readNumber b (placesIn lent) bytes ≡ 0 → (gs : List Float) (vs : List ℕ) (r : GrownBook)
+      → GrownAs (grow b (placesIn lent) (record { floats = fs; numbers = us })) gs vs r → GrownAs (network b lent) gs vs r
+  grown-network none gs vs r = subst (λ (a : Answer Grown). GrownAs a gs vs r) (sym (network-grows b lent none ∙ ap (grow b (placesIn lent)) same))

@@ -152,5 +152,5 @@ module _ (b : List ℕ) (z : Sizes) (fs : List Float) (us : List ℕ) (report : 
   built-whole number left h sheet q =
       let p = passes (w .network .table) (w .network .nodes) (departure b) in
       let built : BuiltAs (timedFrom b (w .network)) left (answerAs report number) =
-          timed-built (w .network) report left number p (subst (λ (t : Answer Table). TimedAs t number left) passes-are h) report-is in
+      timed-built (w .network) report left number p (subst (λ (t : Answer Table). TimedAs t number left) passes-are h) report-is in
       subst (λ (j : Answer Finished). BuiltAs j left sheet) (sym (job-is b z ∙ ap (λ (a : Answer Grown). andThen a (timedFrom b)) (w .is))) (subst (BuiltAs (timedFrom b (w .network)) left) (sym q) built)

@@ -15,11 +15,11 @@ use Rattle.est_times.specs.declared.Sheet.the-variants.{Made, Refused}
 use Rattle.est_times.specs.Sheet.{Finished, reportOf}
 
 -- what growth begins with: table, cells and marks are zero
-pub record Begun (fs : List Float) (us cells marks : List ℕ) : Type 0 where
+pub record Begun (fs : List Float) (us cs ms : List ℕ) : Type 0 where
   pub floats : fs ≡ zeroFloats (length fs)
   pub numbers : us ≡ zeros (length us)
-  pub cells : cells ≡ zeros (length cells)
-  pub marks : marks ≡ zeros (length marks)
+  pub cells : cs ≡ zeros (length cs)
+  pub marks : ms ≡ zeros (length ms)
 
 -- the number of a growth
 abbrev pub grownNumber : GrownBook → ℕ

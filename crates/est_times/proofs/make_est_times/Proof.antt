@@ -39,7 +39,7 @@ returns c =
     let begun = built .before .before .before .before .before .before .before .before .before .before .before .before .before .before in
     let k = built .build .kept in
     let l = begun .clear-before .kept in
-    sheet-made _ _ _ _ _ (built .build .result) (record { floats = l .0; numbers = l .1 .0; reals = refl; cells = l .1 .1 .0; marks = l .1 .1 .1 .0 }) (built .build .ensures) (omega (arith, k, l)) (omega (arith, k, l)) _ (nodes .nodes-of .ensures)
+    sheet-made _ _ _ _ _ _ _ _ _ (built .build .result) (built .build .ensures) (l .0) (l .1 .0) refl (l .1 .1 .0) (l .1 .1 .1 .0) (omega (arith, k, l)) (omega (arith, k, l)) _ (nodes .nodes-of .ensures)
     (behind .clear-behind .ensures .0) (behind .clear-behind .ensures .1) (cleared-as (omega (arith, k, l)) (omega (arith, k, l)) (omega (arith, k, l)) (cleared .clear-work .ensures))
 
 pub make-est-times-spec : {M : Type 1} → statement M
