@@ -4,8 +4,8 @@ use mathlib.Core.Bool.{Bool, true, false, not, _||_, cond, true≢false}
 use mathlib.Core.List.{List, [], _∷_, _++_}
 use Prim.Native.Nat.{ℕ, zero, suc, _+_, _-_, _*_, _≤_, _<_}
 use native.Mathlib.Omega.{arith}
-use borrow.Author.Tests.{ltb-false, eqb-false, not-false}
-use lib.Dec.{T, ltb, eqb}
+use borrow.Author.Tests.{not-false}
+use lib.Dec.{T, ltb}
 use lib.ListN.{length, getD}
 use lib.Ieee.{Float, nan, inf, fin, binary64, lt, le, fits, ofBits, toBits, top}
 use lib.Ieee.Bits.{ofBits-toBits}
@@ -13,6 +13,7 @@ use lib.Ieee.Scale.{finite}
 use Rattle.laws.specs.Below.{someBelow}
 use Rattle.laws.specs.Refusals.{row, firstOf}
 use Rattle.laws.proofs.Truth.{none-left, none-right, and-right}
+use Rattle.laws.proofs.Refusals.{none-holds}
 use Rattle.laws.proofs.Below.{none-at, none-all, some-at, some-same}
 use Rattle.floats.specs.Floats.{tableFloat, bookFloat, bookValue, Size}
 use Rattle.floats.proofs.Order.{not-lt, not-le, le-trans, size-of-bits, size-of-value}
@@ -20,6 +21,7 @@ use Rattle.book_format.specs.declared.Sample.{Sample}
 use Rattle.book_format.specs.Format.{sampleFrom}
 use Rattle.book_format.specs.Rows.{outsideLimits, badSampleFrom, sampleFalls}
 use Rattle.book_format.proofs.Floats.{sample-floats}
+use Rattle.book_format.proofs.Given.{within}
 use Rattle.event_walk.specs.declared.Movement.{Movement}
 use Rattle.event_walk.specs.Course.{Course, courseOf, Held, Rises, Walkable}
 use Rattle.event_walk.specs.Walk.{pointsPassed, reachesLast, someBad, row11}
@@ -32,12 +34,7 @@ use Rattle.event_maker.specs.Parts.{numberOf, firstNumber, sweepNumber, 
 -- ---- the number of the rows, by their tests
 
 zero-of : (a b c d : Bool) → numberOf a b c d ≡ 0 → (a ≡ false) × (b ≡ false) × (c ≡ false) × (d ≡ false)
-unfolding firstOf
-zero-of true b c d e = absurd (omega arith)
-zero-of false true c d e = absurd (omega arith)
-zero-of false false true d e = absurd (omega arith)
-zero-of false false false true e = absurd (omega arith)
-zero-of false false false false e = (refl, refl, refl, refl)
+zero-of a b c d e = let h = none-holds (rowsTo11 a b c d) refl e in (h .0, h .1 .0, h .1 .1 .0, h .1 .1 .1 .0)
 
 four-of : (a b : Bool) → numberOf false a b false ≡ 4 → a ≡ true
 unfolding firstOf
@@ -87,16 +84,9 @@ by-fall false false false false false r a b c d = absurd (true≢false (sym d))
 
 -- ---- a count, and a lent length
 
-inside : (limit n : ℕ) → outsideLimits limit n ≡ false → (0 < n) × (n ≤ limit)
-inside limit n e = let z = eqb-false n 0 (none-left (eqb n 0) (ltb limit n) e) in (some n z, ltb-false limit n (none-right (eqb n 0) (ltb limit n) e))
-  where
-    some : (n : ℕ) → (n ≡ 0 → ⊥) → 0 < n
-    some zero z = absurd (z refl)
-    some (suc n) z = omega arith
-
 pub within-counts : (c : Course) → badCounts c ≡ false → (c .samples ≤ 1000000) × (c .points ≤ 65536)
 unfolding badCounts
-within-counts c e = (inside 1000000 (c .samples) (none-left (outsideLimits 1000000 (c .samples)) (outsideLimits 65536 (c .points)) e) .1, inside 65536 (c .points) (none-right (outsideLimits 1000000 (c .samples)) (outsideLimits 65536 (c .points)) e) .1)
+within-counts c e = (within 1000000 (c .samples) (none-left (outsideLimits 1000000 (c .samples)) (outsideLimits 65536 (c .points)) e) .1, within 65536 (c .points) (none-right (outsideLimits 1000000 (c .samples)) (outsideLimits 65536 (c .points)) e) .1)
 
 table-finite : (x : Float) → tableFloat x ≡ true → finite x ≡ true
 unfolding tableFloat
@@ -150,8 +140,8 @@ module _ (b : List ℕ) (offsets : List Float) (m : Movement) where
   pub counts : badCounts course ≡ false → Counted m
   unfolding badCounts courseOf
   counts e =
-      let s = inside 1000000 (m .samples) (none-left (outsideLimits 1000000 (m .samples)) (outsideLimits 65536 (m .points)) e) in
-      let p = inside 65536 (m .points) (none-right (outsideLimits 1000000 (m .samples)) (outsideLimits 65536 (m .points)) e) in
+      let s = within 1000000 (m .samples) (none-left (outsideLimits 1000000 (m .samples)) (outsideLimits 65536 (m .points)) e) in
+      let p = within 65536 (m .points) (none-right (outsideLimits 1000000 (m .samples)) (outsideLimits 65536 (m .points)) e) in
       record { some = s .0; most = s .1; some-points = p .0; most-points = p .1 }
 
   pub counts-left : (x y : Bool) → x ≡ outsideLimits 1000000 (m .samples) → y ≡ outsideLimits 65536 (m .points) → (x || y) ≡ false → badCounts course ≡ false

@@ -1,9 +1,9 @@
 -- The event maker, document 01: "By itself the event maker (1 to 1,000,000 samples, 1 to 65,536 points, 7 if one falls,
 -- book signs, no work space) gives 3, 4, 7, any 11, then 12 for a short list; else the count and each event's time,
 -- offset, speed, link, kind, rest zero."
--- Samples are lent as bytes, 24 to a sample as in a book; points in two slices, offsets and links, as many as both have.
--- The list is lent in two slices, 3 floats and 2 numbers to an event. What bytes and slices have past the last whole
--- sample, point or place is not looked at, and in the list it is zero afterwards.
+-- Samples are lent as bytes, 24 to a sample as in a book; points in two slices, offsets and links, as many as both
+-- have. The list is lent in two slices, 3 floats and 2 numbers to an event. What bytes and slices have past the last
+-- whole sample, point or place is not looked at, and in the list it is zero afterwards.
 use mathlib.Core.Path.{_≡_}
 use mathlib.Core.Bool.{Bool, not, _||_}
 use mathlib.Core.List.{List, [], _∷_, _++_}

@@ -10,7 +10,8 @@ ghost use Rattle.space.specs.Space.{zeros, zeroFloats};
 ghost use Rattle.book_format.specs.Rows.{badSampleFrom};
 ghost use Rattle.event_walk.specs.Course.{courseOf, Held, Walkable};
 ghost use Rattle.event_maker.specs.Maker.{lentLeg, listAtEntry, listAtExit, listPlaces, EventsMade};
-ghost use Rattle.event_maker.specs.Parts.{numberOf, firstNumber, sweepNumber, badOffset, offsetFalls, badAt, fallsAt};
+ghost use Rattle.event_maker.specs.Parts.{numberOf, firstNumber, sweepNumber};
+ghost use Rattle.event_maker.specs.Parts.{badOffset, offsetFalls, badAt, fallsAt};
 ghost use Rattle.event_maker.specs.Parts.{countAnswer, putEventFloats, putEventNumbers, EventsListed};
 ghost use Rattle.event_maker.specs.Parts.{isRefused, keptFloats, keptNumbers};
 
@@ -108,7 +109,8 @@ fn first_number(samples: &[u8], offsets: &[f64], m: Movement) -> u32
     requires { ⌜ m .at ≡ 0 ⌝ }
     requires { ⌜ m .samples * 24 ≤ length (now samples) ⌝ }
     requires { ⌜ m .points ≤ length (now offsets) ⌝ }
-    ensures { λ r. ⌜ r ≡ firstNumber (courseOf (now (samples .entry)) (now (offsets .entry)) m) (now (samples .entry)) ⌝ }
+    ensures { λ r. ⌜ r ≡ firstNumber (courseOf (now (samples .entry)) (now (offsets .entry)) m)
+        (now (samples .entry)) ⌝ }
 {
     if book_format::is_outside(1000000, m.samples) | book_format::is_outside(65536, m.points) {
         return 3;

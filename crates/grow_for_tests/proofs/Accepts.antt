@@ -1,38 +1,29 @@
 -- What a book leaves whose reading is accepted: none of rows 1 to 8 holds, and the lent work space is enough for growth and for the passes.
 use mathlib.Core.Path.{_≡_, refl, sym, ap, _∙_, subst}
 use mathlib.Core.Bool.{Bool, true, false, not, _||_}
-use mathlib.Core.List.{List, [], _∷_}
-use Prim.Native.Nat.{ℕ, zero, suc, _+_, _*_, _/_, _≤_, _<_, min}
+use mathlib.Core.List.{List}
+use Prim.Native.Nat.{ℕ, _+_, _*_, _/_, _≤_, _<_, min}
 use native.Mathlib.Omega.{arith}
 use borrow.Author.Tests.{not-false}
 use lib.ListN.{length}
 use Rattle.laws.specs.Below.{someBelow}
 use Rattle.laws.proofs.Below.{none-left, none-right}
+use Rattle.laws.proofs.Refusals.{none-holds}
 use Rattle.floats.specs.Floats.{bookFloat}
 use Rattle.space.specs.Space.{placesOf, unitsOf, bytesOf}
 use Rattle.book_format.specs.declared.Sections.{Sections}
 use Rattle.book_format.specs.Format.{links, origins, destinations, legs, samples, linkLength, joinBits, departureBits, lengthBits}
-use Rattle.book_format.specs.Rows.{row1, row2, row3, row4, row5, row6, row7, workBytes, badOriginValue, badSample, badLeg, legRepeats, legFalls, legBegins, lowest}
+use Rattle.book_format.specs.Rows.{row1, row2, row3, row4, row5, row7, workBytes, badOriginValue, badSample, badLeg, legRepeats, legFalls, legBegins}
 use Rattle.book_format.proofs.Theorems.{length-by-counts}
 use Rattle.book_options.specs.Options.{row8}
 use Rattle.book_reader.specs.declared.Reading.{Reading}
 use Rattle.book_reader.specs.declared.Reading.the-variants.{Accepted, Refused}
-use Rattle.book_reader.specs.Reader.{readNumber, readingNumber, Ready, ReadInto}
+use Rattle.book_reader.specs.Reader.{readRows, readNumber, readingNumber, Ready, ReadInto}
 use Rattle.book_reader.proofs.Rooms.{enough}
 use Rattle.arcs_growth.specs.Read.{Read}
 use Rattle.arcs_growth.proofs.Books.{read-rows}
 
 -- ---- the rows
-
-abbrev NoneHolds : List Bool → Type 0
-NoneHolds [] = Unit
-NoneHolds (r ∷ rows) = (r ≡ false) × NoneHolds rows
-
-none-holds : (n : ℕ) (rows : List Bool) → lowest (suc n) rows ≡ 0 → NoneHolds rows
-unfolding lowest
-none-holds n [] e = tt
-none-holds n (true ∷ rows) e = absurd (omega arith)
-none-holds n (false ∷ rows) e = (refl, none-holds (suc n) rows e)
 
 pub record Passes (b : List ℕ) (places bytes : ℕ) : Type 0 where
   pub one : row1 b ≡ false
@@ -46,7 +37,7 @@ pub record Passes (b : List ℕ) (places bytes : ℕ) : Type 0 where
 pub passes-of : (b : List ℕ) (places bytes : ℕ) → readNumber b places bytes ≡ 0 → Passes b places bytes
 unfolding readNumber
 passes-of b places bytes e =
-    let h = none-holds 0 (row1 b ∷ row2 b ∷ row3 b places bytes ∷ row4 b ∷ row5 b ∷ row6 b ∷ row7 b ∷ row8 b ∷ []) e in
+    let h = none-holds (readRows b places bytes) refl e in
     record { one = h .0; two = h .1 .0; three = h .1 .1 .0; four = h .1 .1 .1 .0; five = h .1 .1 .1 .1 .0; seven = h .1 .1 .1 .1 .1 .1 .0; eight = h .1 .1 .1 .1 .1 .1 .1 .0 }
 
 -- growth can read it

@@ -8,9 +8,9 @@ use lib.ListN.{length, getD, take}
 use lib.Ieee.{Float}
 use Rattle.net_node.specs.Table.{Table, at}
 use Rattle.laws.specs.Below.{someBelow}
+use Rattle.laws.specs.Refusals.{Row, row, firstOf}
 use Rattle.floats.specs.Floats.{tableFloat}
 use Rattle.space.specs.Space.{zeros, zeroFloats}
-use Rattle.book_format.specs.Rows.{lowest}
 use Rattle.net_node.specs.declared.EstTime.{EstTime}
 use Rattle.pass_rules.specs.Passes.{Timed, refused, timedAs, passes}
 use Rattle.pass_table.specs.declared.TimedTable.{TimedTable}
@@ -44,16 +44,20 @@ unfoldable pub tableRow5 : Table → ℕ → Bool
 unfolding strayNode
 tableRow5 t n = someBelow n (λ i. strayNode n (at t i))
 
--- "Of 1 to 8 the lowest wins; after that the first met."
+-- "Of 1 to 8 the lowest wins; after that the first met": rows 3, 4 and 5 in their order
+unfoldable pub tableRows : Table → ℕ → Float → ℕ → List Row
+unfolding tableRow3 tableRow4 tableRow5
+tableRows t n departure bytes = row 3 (tableRow3 n bytes) ∷ row 4 (tableRow4 t n departure) ∷ row 5 (tableRow5 t n) ∷ []
+
 abbrev pub unless : ℕ → Timed → Timed
 unless zero later = later
 unless (suc k) later = refused (suc k)
 
 unfoldable pub tableTimes : Table → Float → ℕ → Timed
-unfolding tableRow3 tableRow4 tableRow5
+unfolding tableRows
 tableTimes t departure bytes =
     let n = nodesIn t in
-    unless (lowest 3 (tableRow3 n bytes ∷ tableRow4 t n departure ∷ tableRow5 t n ∷ [])) (passes t n departure)
+    unless (firstOf (tableRows t n departure bytes)) (passes t n departure)
 
 -- ---- the answer and both slices
 

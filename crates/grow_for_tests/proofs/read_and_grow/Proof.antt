@@ -15,22 +15,22 @@ grow-book-requires c κs =
     let p = c .before .before .before .before .before .before .before .before .before .before .before .before .before .before .before .before .before .before .before .before .before .before .pre in
     let r = c .before .before .before .before .before .before .before .before .before .before .before .before .read-book .ensures in
     let k = c .before .before .before .before .before .before .before .before .before .before .before .before .read-book .kept in
-    let z = accepted-zero _ _ _ _ _ (read-as _ _ _ _ _ _ (c .before .before .before .before .before .before .before .before .before .before .before .before .before .before .before .places .ensures) (r .0)) (r .1) (c .before .before .before .before .before .before .reading2 .given .1) in
+    let z = accepted-zero _ _ _ _ _ (read-as _ _ _ _ _ _ (c .before .before .before .before .before .before .before .before .before .before .before .before .before .before .before .places .ensures) (r .number)) (r .into) (c .before .before .before .before .before .before .reading2 .given .1) in
     let e = enough-of _ _ _ _ _ _ (passes-of _ _ _ z) in (
-      accepted-ready _ _ _ _ _ (r .0) (r .1) (c .before .before .before .before .before .before .reading2 .given .1),
+      accepted-ready _ _ _ _ _ (r .number) (r .into) (c .before .before .before .before .before .before .reading2 .given .1),
       (e .reals, (omega (arith, e .cells, k), omega (arith, e .marks, k))),
     )
 
 returns : tie.Need-returns
 returns c =
     let r = c .before .before .before .before .before .before .before .read-book .ensures in
-    network-refused _ _ _ _ _ (refused-number _ _ _ _ _ (read-as _ _ _ _ _ _ (c .before .before .before .before .before .before .before .before .before .before .places .ensures) (r .0)) (r .1) (c .before .reading .given .1)) (refused-some _ _ _ _ _ (r .0) (r .1) (c .before .reading .given .1))
+    network-refused _ _ _ _ _ (refused-number _ _ _ _ _ (read-as _ _ _ _ _ _ (c .before .before .before .before .before .before .before .before .before .before .places .ensures) (r .number)) (r .into) (c .before .reading .given .1)) (refused-some _ _ _ _ _ (r .number) (r .into) (c .before .reading .given .1))
 
 returns-2 : tie.Need-returns-2
 returns-2 c =
     let p = c .before .before .before .before .before .before .before .before .before .before .before .before .before .before .before .before .before .before .before .before .before .before .before .before .before .before .before .before .before .before .before .pre in
     let r = c .before .before .before .before .before .before .before .before .before .before .before .before .before .before .before .before .before .before .before .before .before .read-book .ensures in
-    grown-network _ _ _ _ (p .0) (p .1 .0) (accepted-zero _ _ _ _ _ (read-as _ _ _ _ _ _ (c .before .before .before .before .before .before .before .before .before .before .before .before .before .before .before .before .before .before .before .before .before .before .before .before .places .ensures) (r .0)) (r .1) (c .before .before .before .before .before .before .before .before .before .before .before .before .before .before .before .reading2 .given .1)) _ _ (c .before .before .before .before .before .before .before .before .grow-book .result) (c .before .before .before .before .before .before .before .before .grow-book .ensures)
+    grown-network _ _ _ _ (p .0) (p .1 .0) (accepted-zero _ _ _ _ _ (read-as _ _ _ _ _ _ (c .before .before .before .before .before .before .before .before .before .before .before .before .before .before .before .before .before .before .before .before .before .before .before .before .places .ensures) (r .number)) (r .into) (c .before .before .before .before .before .before .before .before .before .before .before .before .before .before .before .reading2 .given .1)) _ _ (c .before .before .before .before .before .before .before .before .grow-book .result) (c .before .before .before .before .before .before .before .before .grow-book .ensures)
 
 pub read-and-grow-spec : {M : Type 1} → statement M
 read-and-grow-spec =
