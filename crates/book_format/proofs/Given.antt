@@ -1,10 +1,11 @@
 -- What rows 3 to 7 leave of a book: counts within their limits, floats that can be read, indices that name links, parents above their children.
 -- And the fields of a row that was read as a record.
-use mathlib.Core.Path.{_≡_, ap}
+use mathlib.Core.Path.{_≡_, refl, ap}
 use mathlib.Core.Bool.{Bool, true, false, not, _||_, _&&_}
 use mathlib.Core.List.{List}
-use Prim.Native.Nat.{ℕ, _≤_, _<_}
-use borrow.Author.Tests.{ltb-false, leb-false, not-false}
+use Prim.Native.Nat.{ℕ, zero, suc, _≤_, _<_}
+use native.Mathlib.Omega.{arith}
+use borrow.Author.Tests.{ltb-false, leb-false, eqb-false, not-false}
 use lib.Dec.{ltb, eqb}
 use Rattle.laws.specs.Below.{someBelow}
 use Rattle.laws.proofs.Below.{none-at, none-left, none-right}
@@ -18,10 +19,15 @@ use Rattle.book_format.specs.Rows.{outsideLimits, badCount, badOriginVal
 -- ---- the limits
 
 -- a count that is not outside its limits
-within : (limit n : ℕ) → outsideLimits limit n ≡ false → n ≤ limit
-within limit n e = ltb-false limit n (none-right (eqb n 0) (ltb limit n) e)
+pub within : (limit n : ℕ) → outsideLimits limit n ≡ false → (0 < n) × (n ≤ limit)
+within limit n e = (some n (eqb-false n 0 (none-left (eqb n 0) (ltb limit n) e)), ltb-false limit n (none-right (eqb n 0) (ltb limit n) e))
+  where
+    some : (n : ℕ) → (n ≡ 0 → ⊥) → 0 < n
+    some zero z = absurd (z refl)
+    some (suc n) z = omega arith
 
 pub record Limits (b : List ℕ) : Type 0 where
+  pub links-some : 0 < links b
   pub links-most : links b ≤ 65535
   pub legs-most : legs b ≤ 65535
   pub origins-most : origins b ≤ 1000
@@ -38,12 +44,14 @@ limits b e =
     let et : t ≡ false = none-left t (outsideLimits 1000000 (samples b)) e in
     let er : r ≡ false = none-left r (outsideLimits 1000 (destinations b)) et in
     let eq : q ≡ false = none-left q (outsideLimits 1000 (origins b)) er in
+    let l = within 65535 (links b) (none-left p (outsideLimits 65535 (legs b)) eq) in
     record {
-      links-most = within 65535 (links b) (none-left p (outsideLimits 65535 (legs b)) eq);
-      legs-most = within 65535 (legs b) (none-right p (outsideLimits 65535 (legs b)) eq);
-      origins-most = within 1000 (origins b) (none-right q (outsideLimits 1000 (origins b)) er);
-      destinations-most = within 1000 (destinations b) (none-right r (outsideLimits 1000 (destinations b)) et);
-      samples-most = within 1000000 (samples b) (none-right t (outsideLimits 1000000 (samples b)) e);
+      links-some = l .0;
+      links-most = l .1;
+      legs-most = within 65535 (legs b) (none-right p (outsideLimits 65535 (legs b)) eq) .1;
+      origins-most = within 1000 (origins b) (none-right q (outsideLimits 1000 (origins b)) er) .1;
+      destinations-most = within 1000 (destinations b) (none-right r (outsideLimits 1000 (destinations b)) et) .1;
+      samples-most = within 1000000 (samples b) (none-right t (outsideLimits 1000000 (samples b)) e) .1;
     }
 
 -- ---- row 4

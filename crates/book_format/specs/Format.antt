@@ -1,6 +1,7 @@
 -- The format of a book, document 01 under "Book": where each section begins, and what stands in each row of it.
 -- A book is a list of bytes. Three floats stand first: J in m/s, the departure in s, the train's length in m.
--- Then come five sections, each after its count: links from 0, origins, destinations, legs from 1, samples in leg order.
+-- Then come five sections, each after its count: links from 0, origins, destinations, legs from 1, samples in leg
+-- order.
 -- A float is kept as its bit pattern where rows 4 to 7 look at it, and read by `lib.Ieee` in the records.
 -- Every definition is total: bytes past the end are read as 0, and counts are taken as they stand. It is no parser:
 -- nothing here says in which order bytes are looked at.
@@ -98,7 +99,8 @@ sectionsOf b = record {
   end = endOf b;
 }
 
--- ---- the fields of a row: links, origins and destinations are counted from 0, and so are samples; a leg's number is one more than its row's
+-- ---- the fields of a row: links, origins, destinations and samples are counted from 0; a leg's number is one more
+-- than its row's
 
 -- "links from 0: length, next, next alternative, previous, previous alternative"
 unfoldable pub linkLength : List ℕ → ℕ → ℕ

@@ -4,7 +4,8 @@ use mathlib.Core.Path.{_≡_}
 use mathlib.Core.List.{List}
 use Prim.Native.Nat.{ℕ, _<_}
 use lib.ListN.{length, getD}
-use Rattle.book_format.specs.Format.{joinBits, departureBits, lengthBits, links, origins, destinations, legs, samples}
+use Rattle.book_format.specs.Format.{joinBits, departureBits, lengthBits}
+use Rattle.book_format.specs.Format.{links, origins, destinations, legs, samples}
 use Rattle.book_format.specs.Format.{linkLength, linkNext, linkNextAlt, linkPrev, linkPrevAlt}
 use Rattle.book_format.specs.Format.{originLink, originOffset, originFront, destinationLink}
 use Rattle.book_format.specs.Format.{legLink, legParent, legSamples, sampleTime, sampleOffset, sampleSpeed}

@@ -1,5 +1,5 @@
--- `get_link_idx_options`, document 01 under "Options": the set of the links that the search from the destinations meets,
--- and which origins are kept, in the order in which they are met.
+-- `get_link_idx_options`, document 01 under "Options": the set of the links that the search from the destinations
+-- meets, and which origins are kept, in the order in which they are met.
 -- "Destination links go on a stack; each popped link not yet in the set enters it. An origin of that link moves to the
 -- end of the kept part by swapping; only if there is none is a real (nonzero) previous pushed, and its alternative only
 -- after a real previous." So not every link from which a destination can be reached is in the set: nothing is pushed
@@ -38,7 +38,7 @@ pushed b l stack =
     (cond (eqb (linkPrevAlt b l) 0) (linkPrev b l ∷ stack)
     (linkPrevAlt b l ∷ linkPrev b l ∷ stack))
 
--- A state of the search: the stack, its top first; the set, its latest link first; and the kept origins' rows, in order.
+-- A state of the search: the stack, its top first; the set, its latest link first; the kept origins' rows, in order.
 pub record Search : Type 0 where
   pub stack : List ℕ
   pub set : List ℕ

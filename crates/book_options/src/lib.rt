@@ -1,5 +1,5 @@
-// `get_link_idx_options`: the set of the links that the search from the destinations meets, and the origins kept (row 8).
-// Contracts: specs/Options.antt, specs/Turns.antt.
+// `get_link_idx_options`: the set of the links that the search from the destinations meets, and the origins kept
+// (row 8). Contracts: specs/Options.antt, specs/Turns.antt.
 use book_format::Sections;
 ghost use mathlib.Core.Path.{_≡_};
 ghost use mathlib.Core.Bool.{true, false};

@@ -11,12 +11,13 @@ use borrow.Author.Tests.{le-ltb}
 use Rattle.laws.specs.Below.{someBelow}
 use Rattle.laws.specs.Refusals.{Row, row, firstOf}
 use Rattle.laws.proofs.Truth.{or-left, or-right, none-left}
+use Rattle.laws.proofs.Refusals.{none-holds}
 use Rattle.book_format.specs.declared.Sections.{Sections}
 use Rattle.book_format.specs.Format.{Sized, endOf, links, destinations, legs}
 use Rattle.book_format.specs.Rows.{row1, row2, row3, row4, row5, row6, row7, someBadPlace, someOriginRepeats, someBadLeg, someLegRepeats, legFalls, legBegins}
 use Rattle.book_format.specs.Chains.{Readable, allLinked}
 use Rattle.space.specs.Space.{zeros}
-use Rattle.book_rows.specs.Elements.{numberOf, singleNumber}
+use Rattle.book_rows.specs.Elements.{rows4to7, numberOf, singleNumber}
 use Rattle.book_legs.specs.Legs.{Started, SameButStarts, samplesFail}
 use Rattle.book_legs.proofs.Chains.{chained, linked-rest}
 use Rattle.book_legs.proofs.Linking.{room-of}
@@ -66,12 +67,7 @@ module _ (b : List ℕ) (s : Sections) (p y : ℕ) (z : Sized b s) where
 -- ---- rows 4 to 7 as far as single rows tell
 
 four-none : (a b c d : Bool) → numberOf a b c d ≡ 0 → (a ≡ false) × (b ≡ false) × (c ≡ false) × (d ≡ false)
-unfolding firstOf
-four-none true b c d e = absurd (omega arith)
-four-none false true c d e = absurd (omega arith)
-four-none false false true d e = absurd (omega arith)
-four-none false false false true e = absurd (omega arith)
-four-none false false false false e = (refl, refl, refl, refl)
+four-none a b c d e = let h = none-holds (rows4to7 a b c d) refl e in (h .0, h .1 .0, h .1 .1 .0, h .1 .1 .1 .0)
 
 four-last : (a b c d : Bool) → numberOf a b c d ≡ 7 → (a ≡ false) × (b ≡ false) × (c ≡ false) × (d ≡ true)
 unfolding firstOf

@@ -6,14 +6,14 @@ use Prim.Native.Nat.{ℕ, zero, suc, _+_, _*_, _/_, _≤_, _<_, min}
 use native.Mathlib.Omega.{arith}
 use lib.Dec.{eqb, ltb}
 use lib.ListN.{length}
-use borrow.Author.Tests.{ltb-false, ltb-true, lt-ltb, le-ltb, eqb-true, eqb-false, not-false}
+use borrow.Author.Tests.{ltb-false, ltb-true, lt-ltb, le-ltb, eqb-true, not-false}
 use Rattle.laws.specs.Below.{someBelow, sumBelow}
 use Rattle.laws.specs.Refusals.{row, firstOf}
 use Rattle.laws.proofs.Truth.{none-left, none-right}
 use Rattle.space.specs.Space.{unitsOf, bytesOf, zeros}
 use Rattle.book_format.specs.declared.Sections.{Sections}
 use Rattle.book_format.specs.Format.{Sized, links, origins, destinations, legs, samples, legSamples}
-use Rattle.book_format.specs.Rows.{outsideLimits, badCount, workBytes, row1, row2, row3}
+use Rattle.book_format.specs.Rows.{badCount, workBytes, row1, row2, row3}
 use Rattle.book_format.specs.Chains.{Counted}
 use Rattle.book_format.proofs.Given.{limits}
 use Rattle.book_format.proofs.Places.{sized-links}
@@ -54,16 +54,7 @@ blank-of b p u reals cells marks y f e d g h =
 
 -- there is a link
 pub some-link : (b : List ℕ) (s : Sections) (p y : ℕ) → Sized b s → row3 b p y ≡ false → 0 < s .links
-unfolding badCount
-some-link b s p y z e =
-    let L = outsideLimits 65535 (links b) in
-    let G = outsideLimits 65535 (legs b) in
-    let O = outsideLimits 1000 (origins b) in
-    let D = outsideLimits 1000 (destinations b) in
-    let S = outsideLimits 1000000 (samples b) in
-    let l : L ≡ false = none-left L G (none-left (L || G) O (none-left (L || G || O) D (none-left (L || G || O || D) S (counted-of b p y e .counts)))) in
-    let n : links b ≡ 0 → ⊥ = eqb-false (links b) 0 (none-left (eqb (links b) 0) (ltb 65535 (links b)) l) in
-    omega (arith, sized-links z)
+some-link b s p y z e = omega (arith, sized-links z, limits b (counted-of b p y e .counts) .links-some)
 
 -- ---- capped bytes
 

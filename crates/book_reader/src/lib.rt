@@ -156,8 +156,8 @@ fn number_of(r: Reading) -> u32
     }
 }
 
-// The number that a book gets by rows 1 to 8, for a table of so many places and this work space, and 0 where none holds.
-// The work space is zero afterwards.
+// The number that a book gets by rows 1 to 8, for a table of so many places and this work space, and 0 where none
+// holds. The work space is zero afterwards.
 pub fn check_book(
     book: &[u8],
     places: usize,
@@ -165,7 +165,8 @@ pub fn check_book(
     cells: &mut [u32],
     marks: &mut [u32],
 ) -> u32
-    ensures { λ r. ⌜ Checked (now (book .entry)) places (workAtEntry reals cells marks) (workAtExit reals cells marks) r ⌝ }
+    ensures { λ r. ⌜ Checked (now (book .entry)) places
+        (workAtEntry reals cells marks) (workAtExit reals cells marks) r ⌝ }
 {
     space::clear_floats(reals);
     space::clear_numbers(cells);

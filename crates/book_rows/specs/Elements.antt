@@ -4,7 +4,7 @@ use mathlib.Core.Bool.{Bool, false, not, cond}
 use mathlib.Core.List.{List, [], _∷_}
 use Prim.Native.Nat.{ℕ, zero, suc, _+_, _-_, min}
 use lib.Dec.{ltb}
-use Rattle.laws.specs.Refusals.{row, firstOf}
+use Rattle.laws.specs.Refusals.{Row, row, firstOf}
 use Rattle.floats.specs.Floats.{bookFloat}
 use Rattle.book_format.specs.declared.Sections.{Sections}
 use Rattle.book_format.specs.Format.{linkLength, originLink, destinationLink}
@@ -25,8 +25,11 @@ lowestBelow (suc n) f = lower (lowestBelow n f) (f n)
 
 -- ---- the number of one row: tests for 4, 5, 6 and 7
 
+abbrev pub rows4to7 : Bool → Bool → Bool → Bool → List Row
+rows4to7 four five six seven = row 4 four ∷ row 5 five ∷ row 6 six ∷ row 7 seven ∷ []
+
 abbrev pub numberOf : Bool → Bool → Bool → Bool → ℕ
-numberOf four five six seven = firstOf (row 4 four ∷ row 5 five ∷ row 6 six ∷ row 7 seven ∷ [])
+numberOf four five six seven = firstOf (rows4to7 four five six seven)
 
 unfoldable pub linkNumber : List ℕ → ℕ → ℕ
 linkNumber b i = numberOf (not (bookFloat (linkLength b i))) (badLink b i) false false

@@ -1,6 +1,6 @@
 -- Laws of one event: the code's operations are the definition's, and a finite float is no distance from itself.
 use mathlib.Core.Path.{_≡_, refl, sym, ap, _∙_}
-use mathlib.Core.Bool.{Bool, true, false, not, _&&_, _||_, Bool·beq, cond}
+use mathlib.Core.Bool.{Bool, true, false, not, _&&_, _||_, Bool·beq, cond, and-false}
 use Prim.Native.Nat.{ℕ, zero, suc, _+_, _-_, _*_, _/_, _%_, _^_, _<_, compare}
 use native.Mathlib.Nat.{sub-self, le-refl, mul-pos}
 use native.Mathlib.Omega.{arith}
@@ -24,13 +24,9 @@ round-zero c h = round-same binary64 false 0 c 0 1 h (omega arith) (omega arith)
 left : (s : Bool) (a c : ℕ) (t : Bool) → t ≡ false → 0 < c → cond t (round binary64 (not s) (a - a) c) (round binary64 (s && t) (a - a) c) ≡ round binary64 false 0 1
 left s a c t e h =
     ap (λ (x : Bool). cond x (round binary64 (not s) (a - a) c) (round binary64 (s && x) (a - a) c)) e
-    ∙ ap (λ (x : Bool). round binary64 x (a - a) c) (never s)
+    ∙ ap (λ (x : Bool). round binary64 x (a - a) c) (and-false s)
     ∙ ap (λ (n : ℕ). round binary64 false n c) (sub-self a)
     ∙ round-zero c h
-  where
-    never : (s : Bool) → (s && false) ≡ false
-    never true = refl
-    never false = refl
 
 no-sum : (s : Bool) (a c : ℕ) → 0 < c → sum binary64 s a (not s) a c ≡ round binary64 false 0 1
 unfolding sum

@@ -1,5 +1,7 @@
--- One event of a run, document 01 under "Events": where it is, which kind it has, and when and how fast the train passes it. Every operation is rounded once, in the order of the
--- source's `update_est_times_add`. The floats are a path's points, the train's length and two samples, one after the other; nothing here says which points and samples are looked at.
+-- One event of a run, document 01 under "Events": where it is, which kind it has, and when and how fast the train
+-- passes it. Every operation is rounded once, in the order of the source's `update_est_times_add`.
+-- The floats are a path's points, the train's length and two samples, one after the other; nothing here says which
+-- points and samples are looked at.
 use mathlib.Core.Bool.{Bool, not, _||_}
 use lib.Ieee.{Float, binary64, add, sub, mul, div, lt, ofBits}
 use lib.Ieee.Scale.{finite}
@@ -20,7 +22,8 @@ clears front back length = lt (add binary64 back length) front
 unfoldable pub twiceAhead : Sample → Float → Float
 twiceAhead s offset = mul binary64 (ofBits binary64 0x4000000000000000) (sub binary64 (s .offset) offset)
 
--- "the speed at the point is the rounded square root of v·v − (v − v′)/(t − t′)·d", with v and t of the sample, v′ and t′ of the one before
+-- "the speed at the point is the rounded square root of v·v − (v − v′)/(t − t′)·d", with v and t of the sample, v′ and
+-- t′ of the one before
 unfoldable pub speedAt : Sample → Sample → Float → Float
 speedAt s before d =
     sqrt binary64

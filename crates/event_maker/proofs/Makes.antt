@@ -1,19 +1,20 @@
 -- The entry: what is lent, as the movement that its parts are called with.
 use mathlib.Core.Path.{_≡_, refl, sym, ap, _∙_, subst}
 use mathlib.Core.Bool.{Bool, true, false}
-use mathlib.Core.List.{List}
+use mathlib.Core.List.{List, [], _∷_, _++_}
 use Prim.Native.Nat.{ℕ, _/_, _≤_, min}
 use native.Mathlib.Omega.{arith}
 use lib.Dec.{T, ltb}
 use lib.ListN.{length, getD}
 use lib.Ieee.{Float, nan, binary64, fits}
+use Rattle.laws.specs.Refusals.{row, firstOf}
 use Rattle.space.specs.Space.{zeroFloats}
 use Rattle.event_walk.specs.declared.Movement.{Movement}
 use Rattle.event_walk.specs.Course.{Course, courseOf, Held, Walkable}
 use Rattle.event_walk.specs.Walk.{pointsPassed, row11}
 use Rattle.event_maker.specs.declared.Made.{Made}
 use Rattle.event_maker.specs.declared.Made.the-variants.{Listed, Refused}
-use Rattle.event_maker.specs.Maker.{movementOf, lentCourse, badCounts, badFloats, falling, pick, answerOf, madeNumber, madeCount, listPlaces, floatsAs, numbersAs}
+use Rattle.event_maker.specs.Maker.{movementOf, lentCourse, badCounts, badFloats, falling, rowsTo11, answered, answerOf, madeNumber, madeCount, listPlaces, floatsAs, numbersAs}
 use Rattle.event_maker.specs.Parts.{firstNumber, walkAnswer, FloatsListed, NumbersListed, isRefused, keptFloats, keptNumbers}
 use Rattle.event_maker.proofs.Rows.{within-counts, left-held, left-walkable, answer-refused, answer-walk}
 use Rattle.event_maker.proofs.Walks.{passed-most, floats-kept, numbers-kept}
@@ -68,11 +69,11 @@ module _ (train : Float) (samples : List ℕ) (offsets : List Float) (links : Li
 -- ---- how many events an accepted list has at most
 
 pub count-most : (c : Course) (samples : List ℕ) (places : ℕ) → madeCount (answerOf c samples places) ≤ 1131072
-unfolding answerOf
+unfolding answerOf firstOf
 count-most c samples places = go (badCounts c) refl
   where
     -- behind the counts
-    rest : (n : ℕ) → n ≤ 1131072 → (four seven eleven twelve : Bool) → madeCount (pick four (Refused 4) (pick seven (Refused 7) (pick eleven (Refused 11) (pick twelve (Refused 12) (Listed n))))) ≤ 1131072
+    rest : (n : ℕ) → n ≤ 1131072 → (four seven eleven twelve : Bool) → madeCount (answered (firstOf (rowsTo11 false four seven eleven ++ row 12 twelve ∷ [])) n) ≤ 1131072
     rest n h true seven eleven twelve = omega arith
     rest n h false true eleven twelve = omega arith
     rest n h false false true twelve = omega arith
@@ -81,10 +82,8 @@ count-most c samples places = go (badCounts c) refl
 
     go : (t : Bool) → badCounts c ≡ t
         → madeCount
-        (pick t (Refused 3)
-        (pick (badFloats c samples) (Refused 4)
-        (pick (falling c) (Refused 7)
-        (pick (row11 c) (Refused 11) (pick (ltb places (length (pointsPassed c))) (Refused 12) (Listed (length (pointsPassed c)))))))) ≤ 1131072
+        (answered (firstOf (rowsTo11 t (badFloats c samples) (falling c) (row11 c) ++ row 12 (ltb places (length (pointsPassed c))) ∷ [])) (length (pointsPassed c)))
+        ≤ 1131072
     go true e = omega arith
     go false e =
         let k = within-counts c e in

@@ -1,81 +1,80 @@
 -- Rows 3, 4 and 7, and 11 for the samples: the number by what the code met, and what is left where none holds.
 use mathlib.Core.Path.{_≡_, refl, sym, ap, _∙_, subst}
-use mathlib.Core.Bool.{Bool, true, false, not, _&&_, _||_, true≢false}
-use mathlib.Core.List.{List}
+use mathlib.Core.Bool.{Bool, true, false, not, _||_, cond, true≢false}
+use mathlib.Core.List.{List, [], _∷_, _++_}
 use Prim.Native.Nat.{ℕ, zero, suc, _+_, _-_, _*_, _≤_, _<_}
 use native.Mathlib.Omega.{arith}
-use borrow.Author.Tests.{ltb-false, eqb-false, not-false}
-use lib.Dec.{T, ltb, eqb}
+use borrow.Author.Tests.{not-false}
+use lib.Dec.{T, ltb}
 use lib.ListN.{length, getD}
 use lib.Ieee.{Float, nan, inf, fin, binary64, lt, le, fits, ofBits, toBits, top}
 use lib.Ieee.Bits.{ofBits-toBits}
 use lib.Ieee.Scale.{finite}
 use Rattle.laws.specs.Below.{someBelow}
-use Rattle.laws.proofs.Below.{none-left, none-right, none-at, none-all, some-at, some-same}
+use Rattle.laws.specs.Refusals.{row, firstOf}
+use Rattle.laws.proofs.Truth.{none-left, none-right, and-right}
+use Rattle.laws.proofs.Refusals.{none-holds}
+use Rattle.laws.proofs.Below.{none-at, none-all, some-at, some-same}
 use Rattle.floats.specs.Floats.{tableFloat, bookFloat, bookValue, Size}
 use Rattle.floats.proofs.Order.{not-lt, not-le, le-trans, size-of-bits, size-of-value}
 use Rattle.book_format.specs.declared.Sample.{Sample}
 use Rattle.book_format.specs.Format.{sampleFrom}
-use Rattle.book_format.specs.Rows.{outsideLimits, badSampleFrom}
+use Rattle.book_format.specs.Rows.{outsideLimits, badSampleFrom, sampleFalls}
 use Rattle.book_format.proofs.Floats.{sample-floats}
+use Rattle.book_format.proofs.Given.{within}
 use Rattle.event_walk.specs.declared.Movement.{Movement}
 use Rattle.event_walk.specs.Course.{Course, courseOf, Held, Rises, Walkable}
 use Rattle.event_walk.specs.Walk.{pointsPassed, reachesLast, someBad, row11}
 use Rattle.event_walk.proofs.Searches.{size-number, rises-le}
 use Rattle.event_maker.specs.declared.Made.{Made}
 use Rattle.event_maker.specs.declared.Made.the-variants.{Listed, Refused}
-use Rattle.event_maker.specs.Maker.{badCounts, badFloats, falling, pick, answerOf}
-use Rattle.event_maker.specs.Parts.{lowestOf, firstNumber, sweepNumber, badOffset, offsetFalls, badAt, fallsAt, countAnswer, walkAnswer}
+use Rattle.event_maker.specs.Maker.{badCounts, badFloats, falling, rowsTo11, answered, answerOf}
+use Rattle.event_maker.specs.Parts.{numberOf, firstNumber, sweepNumber, badOffset, offsetFalls, badAt, fallsAt, countAnswer, walkAnswer}
 
--- ---- the lowest of the rows, by their tests
+-- ---- the number of the rows, by their tests
 
-zero-of : (a b c d : Bool) → lowestOf a b c d ≡ 0 → (a ≡ false) × (b ≡ false) × (c ≡ false) × (d ≡ false)
-unfolding lowestOf
-zero-of true b c d e = absurd (omega arith)
-zero-of false true c d e = absurd (omega arith)
-zero-of false false true d e = absurd (omega arith)
-zero-of false false false true e = absurd (omega arith)
-zero-of false false false false e = (refl, refl, refl, refl)
+zero-of : (a b c d : Bool) → numberOf a b c d ≡ 0 → (a ≡ false) × (b ≡ false) × (c ≡ false) × (d ≡ false)
+zero-of a b c d e = let h = none-holds (rowsTo11 a b c d) refl e in (h .0, h .1 .0, h .1 .1 .0, h .1 .1 .1 .0)
 
-four-of : (a b : Bool) → lowestOf false a b false ≡ 4 → a ≡ true
-unfolding lowestOf
+four-of : (a b : Bool) → numberOf false a b false ≡ 4 → a ≡ true
+unfolding firstOf
 four-of true b e = refl
 four-of false true e = absurd (omega arith)
 four-of false false e = absurd (omega arith)
 
-not-four : (a b : Bool) → (lowestOf false a b false ≡ 4 → ⊥) → a ≡ false
-unfolding lowestOf
+not-four : (a b : Bool) → (numberOf false a b false ≡ 4 → ⊥) → a ≡ false
+unfolding firstOf
 not-four true b n = absurd (n refl)
 not-four false b n = refl
 
-not-zero : (b : Bool) → (lowestOf false false b false ≡ 0 → ⊥) → b ≡ true
-unfolding lowestOf
+not-zero : (b : Bool) → (numberOf false false b false ≡ 0 → ⊥) → b ≡ true
+unfolding firstOf
 not-zero true n = refl
 not-zero false n = absurd (n refl)
 
 -- row 4 of length, samples and points; row 7 of samples and points
-by-length : (l s p f r : Bool) → l ≡ true → 4 ≡ lowestOf false (l || s || p) f r
-unfolding lowestOf
+by-length : (l s p f r : Bool) → l ≡ true → 4 ≡ numberOf false (l || s || p) f r
+unfolding firstOf
 by-length true s p f r e = refl
 by-length false s p f r e = absurd (true≢false (sym e))
 
-by-points : (l s p f r : Bool) → p ≡ true → 4 ≡ lowestOf false (l || s || p) f r
-unfolding lowestOf
+by-points : (l s p f r : Bool) → p ≡ true → 4 ≡ numberOf false (l || s || p) f r
+unfolding firstOf
 by-points true s p f r e = refl
 by-points false true p f r e = refl
 by-points false false true f r e = refl
 by-points false false false f r e = absurd (true≢false (sym e))
 
-by-samples : (l s p f g r : Bool) → l ≡ false → p ≡ false → (lowestOf false s f false ≡ 0 → ⊥) → lowestOf false s f false ≡ lowestOf false (l || s || p) (f || g) r
-unfolding lowestOf
+by-samples : (l s p f g r : Bool) → l ≡ false → p ≡ false → (numberOf false s f false ≡ 0 → ⊥) → numberOf false s f false ≡ numberOf false (l || s || p) (f || g) r
+unfolding firstOf
 by-samples true s p f g r e h n = absurd (true≢false e)
 by-samples false true p f g r e h n = refl
 by-samples false false true f g r e h n = absurd (true≢false h)
 by-samples false false false true g r e h n = refl
 by-samples false false false false g r e h n = absurd (n refl)
 
-by-fall : (l s p f g r : Bool) → l ≡ false → s ≡ false → p ≡ false → g ≡ true → 7 ≡ lowestOf false (l || s || p) (f || g) r
-unfolding lowestOf
+by-fall : (l s p f g r : Bool) → l ≡ false → s ≡ false → p ≡ false → g ≡ true → 7 ≡ numberOf false (l || s || p) (f || g) r
+unfolding firstOf
 by-fall true s p f g r a b c d = absurd (true≢false a)
 by-fall false true p f g r a b c d = absurd (true≢false b)
 by-fall false false true f g r a b c d = absurd (true≢false c)
@@ -85,16 +84,9 @@ by-fall false false false false false r a b c d = absurd (true≢false (sym d))
 
 -- ---- a count, and a lent length
 
-inside : (limit n : ℕ) → outsideLimits limit n ≡ false → (0 < n) × (n ≤ limit)
-inside limit n e = let z = eqb-false n 0 (none-left (eqb n 0) (ltb limit n) e) in (some n z, ltb-false limit n (none-right (eqb n 0) (ltb limit n) e))
-  where
-    some : (n : ℕ) → (n ≡ 0 → ⊥) → 0 < n
-    some zero z = absurd (z refl)
-    some (suc n) z = omega arith
-
 pub within-counts : (c : Course) → badCounts c ≡ false → (c .samples ≤ 1000000) × (c .points ≤ 65536)
 unfolding badCounts
-within-counts c e = (inside 1000000 (c .samples) (none-left (outsideLimits 1000000 (c .samples)) (outsideLimits 65536 (c .points)) e) .1, inside 65536 (c .points) (none-right (outsideLimits 1000000 (c .samples)) (outsideLimits 65536 (c .points)) e) .1)
+within-counts c e = (within 1000000 (c .samples) (none-left (outsideLimits 1000000 (c .samples)) (outsideLimits 65536 (c .points)) e) .1, within 65536 (c .points) (none-right (outsideLimits 1000000 (c .samples)) (outsideLimits 65536 (c .points)) e) .1)
 
 table-finite : (x : Float) → tableFloat x ≡ true → finite x ≡ true
 unfolding tableFloat
@@ -104,11 +96,7 @@ table-finite (fin s m e) h = refl
 
 value-finite : (x : Float) → T (fits binary64 x) → bookValue x ≡ true → finite x ≡ true
 unfolding bookValue bookFloat
-value-finite x f h = table-finite x (subst (λ (y : Float). tableFloat y ≡ true) (ofBits-toBits binary64 x f) (second (ltb (toBits binary64 x) (top binary64)) (tableFloat (ofBits binary64 (toBits binary64 x))) h))
-  where
-    second : (p q : Bool) → (p && q) ≡ true → q ≡ true
-    second true q e = e
-    second false q e = absurd (true≢false (sym e))
+value-finite x f h = table-finite x (subst (λ (y : Float). tableFloat y ≡ true) (ofBits-toBits binary64 x f) (and-right (ltb (toBits binary64 x) (top binary64)) (tableFloat (ofBits binary64 (toBits binary64 x))) h))
 
 -- ---- what rows 3, 4 and 7 leave
 
@@ -152,16 +140,16 @@ module _ (b : List ℕ) (offsets : List Float) (m : Movement) where
   pub counts : badCounts course ≡ false → Counted m
   unfolding badCounts courseOf
   counts e =
-      let s = inside 1000000 (m .samples) (none-left (outsideLimits 1000000 (m .samples)) (outsideLimits 65536 (m .points)) e) in
-      let p = inside 65536 (m .points) (none-right (outsideLimits 1000000 (m .samples)) (outsideLimits 65536 (m .points)) e) in
+      let s = within 1000000 (m .samples) (none-left (outsideLimits 1000000 (m .samples)) (outsideLimits 65536 (m .points)) e) in
+      let p = within 65536 (m .points) (none-right (outsideLimits 1000000 (m .samples)) (outsideLimits 65536 (m .points)) e) in
       record { some = s .0; most = s .1; some-points = p .0; most-points = p .1 }
 
   pub counts-left : (x y : Bool) → x ≡ outsideLimits 1000000 (m .samples) → y ≡ outsideLimits 65536 (m .points) → (x || y) ≡ false → badCounts course ≡ false
   counts-left x y e f h = counts-are x y e f ∙ h
 
   pub first-3 : (x y : Bool) → x ≡ outsideLimits 1000000 (m .samples) → y ≡ outsideLimits 65536 (m .points) → (x || y) ≡ true → 3 ≡ firstNumber course b
-  unfolding firstNumber
-  first-3 x y e f h = sym (ap (λ (t : Bool). lowestOf t (badFloats course b) (falling course) (reachesLast course)) (counts-are x y e f ∙ h))
+  unfolding firstNumber firstOf
+  first-3 x y e f h = sym (ap (λ (t : Bool). numberOf t (badFloats course b) (falling course) (reachesLast course)) (counts-are x y e f ∙ h))
 
   module _ (z : m .at ≡ 0) where
     sample-is : (i : ℕ) → course .sample i ≡ sampleFrom b (i * 24)
@@ -170,19 +158,16 @@ module _ (b : List ℕ) (offsets : List Float) (m : Movement) where
 
     falling-is : falling course ≡ (samples-fall || points-fall)
     unfolding falling courseOf offsetFalls fallsAt
-    falling-is = ap (λ (t : Bool). t || points-fall) (some-same (m .samples - 1) (λ i. fall (course .sample i) (course .sample (suc i))) (fallsAt b) (λ i h. same i))
+    falling-is = ap (λ (t : Bool). t || points-fall) (some-same (m .samples - 1) (λ i. sampleFalls (course .sample i) (course .sample (suc i))) (fallsAt b) (λ i h. same i))
       where
-        fall : Sample → Sample → Bool
-        fall s t = not (lt (s .time) (t .time)) || lt (t .offset) (s .offset)
+        same : (i : ℕ) → sampleFalls (course .sample i) (course .sample (suc i)) ≡ fallsAt b i
+        same i = ap (λ (s : Sample). sampleFalls s (course .sample (suc i))) (sample-is i) ∙ ap (sampleFalls (sampleFrom b (i * 24))) (sample-is (suc i))
 
-        same : (i : ℕ) → fall (course .sample i) (course .sample (suc i)) ≡ fallsAt b i
-        same i = ap (λ (s : Sample). fall s (course .sample (suc i))) (sample-is i) ∙ ap (fall (sampleFrom b (i * 24))) (sample-is (suc i))
-
-    number-is : badCounts course ≡ false → firstNumber course b ≡ lowestOf false (bad-train || bad-samples || bad-points) (samples-fall || points-fall) (reachesLast course)
+    number-is : badCounts course ≡ false → firstNumber course b ≡ numberOf false (bad-train || bad-samples || bad-points) (samples-fall || points-fall) (reachesLast course)
     unfolding firstNumber badFloats courseOf badAt badOffset
     number-is e =
-        ap (λ (t : Bool). lowestOf t (bad-train || bad-samples || bad-points) (falling course) (reachesLast course)) e
-        ∙ ap (λ (t : Bool). lowestOf false (bad-train || bad-samples || bad-points) t (reachesLast course)) falling-is
+        ap (λ (t : Bool). numberOf t (bad-train || bad-samples || bad-points) (falling course) (reachesLast course)) e
+        ∙ ap (λ (t : Bool). numberOf false (bad-train || bad-samples || bad-points) t (reachesLast course)) falling-is
 
     module _ (k : badCounts course ≡ false) where
       pub first-length : (v : Bool) → v ≡ bookValue (m .length) → not v ≡ true → 4 ≡ firstNumber course b
@@ -210,7 +195,7 @@ module _ (b : List ℕ) (offsets : List Float) (m : Movement) where
           unfolding sweepNumber
           first-fall o u =
               by-fall bad-train bad-samples bad-points samples-fall points-fall (reachesLast course) (ap not (sym f) ∙ h) (samples-good o .0) points-good
-              (not-zero points-fall (λ x. u (e ∙ ap (λ (t : Bool). lowestOf false t points-fall false) points-good ∙ x)))
+              (not-zero points-fall (λ x. u (e ∙ ap (λ (t : Bool). numberOf false t points-fall false) points-good ∙ x)))
               ∙ sym (number-is k)
 
           pub tested : s ≡ 0 → p ≡ 0 → Tested b offsets m
@@ -283,23 +268,23 @@ module _ (b : List ℕ) (offsets : List Float) (m : Movement) where
           go true e = some-at (m .samples) reached (m .samples - 1) (omega (arith, c .some)) (reached-is (m .samples - 1) ∙ e)
           go false e = none-all (m .samples) reached (λ i h. reached-is i ∙ none e i h (le last (sampleFrom b (i * 24) .offset)) refl)
 
-      number-left : firstNumber course b ≡ lowestOf false false false (le last farthest)
+      number-left : firstNumber course b ≡ numberOf false false false (le last farthest)
       number-left =
           number-is (t .counted)
-          ∙ ap (λ (r : Bool). lowestOf false (not r || bad-samples || bad-points) (samples-fall || points-fall) (reachesLast course)) (t .train)
-          ∙ ap (λ (r : Bool). lowestOf false (false || r || bad-points) (samples-fall || points-fall) (reachesLast course)) (t .good-samples)
-          ∙ ap (λ (r : Bool). lowestOf false r (samples-fall || points-fall) (reachesLast course)) (t .good-points)
-          ∙ ap (λ (r : Bool). lowestOf false false (r || points-fall) (reachesLast course)) (t .rising-samples)
-          ∙ ap (λ (r : Bool). lowestOf false false r (reachesLast course)) (t .rising-points)
-          ∙ ap (lowestOf false false false) reaches-is
+          ∙ ap (λ (r : Bool). numberOf false (not r || bad-samples || bad-points) (samples-fall || points-fall) (reachesLast course)) (t .train)
+          ∙ ap (λ (r : Bool). numberOf false (false || r || bad-points) (samples-fall || points-fall) (reachesLast course)) (t .good-samples)
+          ∙ ap (λ (r : Bool). numberOf false r (samples-fall || points-fall) (reachesLast course)) (t .good-points)
+          ∙ ap (λ (r : Bool). numberOf false false (r || points-fall) (reachesLast course)) (t .rising-samples)
+          ∙ ap (λ (r : Bool). numberOf false false r (reachesLast course)) (t .rising-points)
+          ∙ ap (numberOf false false false) reaches-is
 
       pub first-11 : (s : Sample) → s ≡ sampleFrom b ((m .samples - 1) * 24) → le last (s .offset) ≡ true → 11 ≡ firstNumber course b
-      unfolding lowestOf
-      first-11 s e h = sym (number-left ∙ ap (lowestOf false false false) (ap (λ (x : Sample). le last (x .offset)) (sym e) ∙ h))
+      unfolding firstOf
+      first-11 s e h = sym (number-left ∙ ap (numberOf false false false) (ap (λ (x : Sample). le last (x .offset)) (sym e) ∙ h))
 
       pub first-0 : (s : Sample) → s ≡ sampleFrom b ((m .samples - 1) * 24) → le last (s .offset) ≡ false → 0 ≡ firstNumber course b
-      unfolding lowestOf
-      first-0 s e h = sym (number-left ∙ ap (lowestOf false false false) (ap (λ (x : Sample). le last (x .offset)) (sym e) ∙ h))
+      unfolding firstOf
+      first-0 s e h = sym (number-left ∙ ap (numberOf false false false) (ap (λ (x : Sample). le last (x .offset)) (sym e) ∙ h))
 
       -- ---- what the number 0 leaves, for the walk
 
@@ -389,26 +374,31 @@ module _ (b : List ℕ) (offsets : List Float) (m : Movement) where
       left-walkable = walkable-of (from-zero e .0) (from-zero e .1)
 
   pub answer-refused : (places n : ℕ) → n ≡ firstNumber course b → (n ≡ 0 → ⊥) → Refused n ≡ answerOf course b places
-  unfolding answerOf firstNumber row11 lowestOf
+  unfolding answerOf firstNumber row11 firstOf
   answer-refused places n e o =
       ap Refused e
-      ∙ refuses (badCounts course) (badFloats course b) (falling course) (reachesLast course) (someBad (pointsPassed course))
-      (pick (ltb places (length (pointsPassed course))) (Refused 12) (Listed (length (pointsPassed course)))) (λ x. o (e ∙ x))
+      ∙ refuses (badCounts course) (badFloats course b) (falling course) (reachesLast course) (someBad (pointsPassed course)) (ltb places (length (pointsPassed course))) (length (pointsPassed course))
+      (λ x. o (e ∙ x))
     where
-      refuses : (p q r s x : Bool) (rest : Made) → (lowestOf p q r s ≡ 0 → ⊥) → Refused (lowestOf p q r s) ≡ pick p (Refused 3) (pick q (Refused 4) (pick r (Refused 7) (pick (s || x) (Refused 11) rest)))
-      refuses true q r s x rest o = refl
-      refuses false true r s x rest o = refl
-      refuses false false true s x rest o = refl
-      refuses false false false true x rest o = refl
-      refuses false false false false x rest o = absurd (o refl)
+      refuses : (p q r s x y : Bool) (k : ℕ) → (numberOf p q r s ≡ 0 → ⊥) → Refused (numberOf p q r s) ≡ answered (firstOf (rowsTo11 p q r (s || x) ++ row 12 y ∷ [])) k
+      refuses true q r s x y k o = refl
+      refuses false true r s x y k o = refl
+      refuses false false true s x y k o = refl
+      refuses false false false true x y k o = refl
+      refuses false false false false x y k o = absurd (o refl)
 
   pub answer-walk : (places : ℕ) → firstNumber course b ≡ 0 → walkAnswer course places ≡ answerOf course b places
-  unfolding answerOf firstNumber row11 walkAnswer countAnswer
+  unfolding answerOf firstNumber row11 walkAnswer countAnswer firstOf
   answer-walk places e =
       let q = zero-of (badCounts course) (badFloats course b) (falling course) (reachesLast course) e in
-      walks (badCounts course) (badFloats course b) (falling course) (reachesLast course) (someBad (pointsPassed course))
-      (pick (ltb places (length (pointsPassed course))) (Refused 12) (Listed (length (pointsPassed course)))) (q .0) (q .1) (q .2) (q .3)
+      walks (badCounts course) (badFloats course b) (falling course) (reachesLast course) (someBad (pointsPassed course)) (ltb places (length (pointsPassed course))) (length (pointsPassed course))
+      (q .0) (q .1) (q .2) (q .3)
     where
-      walks : (p q r s x : Bool) (rest : Made) → p ≡ false → q ≡ false → r ≡ false → s ≡ false
-          → pick x (Refused 11) rest ≡ pick p (Refused 3) (pick q (Refused 4) (pick r (Refused 7) (pick (s || x) (Refused 11) rest)))
-      walks p q r s x rest d e f g = rw (d, e, f, g)
+      told : (x y : Bool) (k : ℕ) → cond x (Refused 11) (cond y (Refused 12) (Listed k)) ≡ answered (firstOf (rowsTo11 false false false x ++ row 12 y ∷ [])) k
+      told true y k = refl
+      told false true k = refl
+      told false false k = refl
+
+      walks : (p q r s x y : Bool) (k : ℕ) → p ≡ false → q ≡ false → r ≡ false → s ≡ false
+          → cond x (Refused 11) (cond y (Refused 12) (Listed k)) ≡ answered (firstOf (rowsTo11 p q r (s || x) ++ row 12 y ∷ [])) k
+      walks p q r s x y k d e f g = rw (d, e, f, g) (told x y k)

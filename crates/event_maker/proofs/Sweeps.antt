@@ -8,13 +8,14 @@ use native.Mathlib.Omega.{arith}
 use lib.ListN.{getD}
 use lib.Ieee.{Float, nan, lt}
 use Rattle.laws.specs.Below.{someBelow}
+use Rattle.laws.specs.Refusals.{firstOf}
 use Rattle.laws.proofs.Below.{some-more, none-more, some-at, none-at}
 use Rattle.floats.specs.Floats.{bookFloat}
 use Rattle.fields.specs.Fields.{u64At}
 use Rattle.book_format.specs.declared.Sample.{Sample}
 use Rattle.book_format.specs.Format.{sampleFrom}
-use Rattle.book_format.specs.Rows.{badSampleFrom}
-use Rattle.event_maker.specs.Parts.{lowestOf, sweepNumber, offsetFalls, fallsAt}
+use Rattle.book_format.specs.Rows.{badSampleFrom, sampleFalls}
+use Rattle.event_maker.specs.Parts.{numberOf, sweepNumber, offsetFalls, fallsAt}
 
 pub record Swept (n : ℕ) (bad falls : ℕ → Bool) (k : ℕ) (found : Bool) : Type 0 where
   pub good : someBelow (k + 1) bad ≡ false
@@ -34,17 +35,17 @@ module _ (n : ℕ) (bad falls : ℕ → Bool) where
   }
 
   pub sweep-bad : (k : ℕ) → k < n → bad k ≡ true → 4 ≡ sweepNumber n bad falls
-  unfolding sweepNumber
-  sweep-bad k h e = sym (ap (λ (t : Bool). lowestOf false t (someBelow (n - 1) falls) false) (some-at n bad k h e))
+  unfolding sweepNumber firstOf
+  sweep-bad k h e = sym (ap (λ (t : Bool). numberOf false t (someBelow (n - 1) falls) false) (some-at n bad k h e))
 
-  pub sweep-end : (k : ℕ) (found : Bool) → Swept n bad falls k found → (k + 1 < n → ⊥) → (r : ℕ) → r ≡ lowestOf false false found false → r ≡ sweepNumber n bad falls
-  unfolding sweepNumber
+  pub sweep-end : (k : ℕ) (found : Bool) → Swept n bad falls k found → (k + 1 < n → ⊥) → (r : ℕ) → r ≡ numberOf false false found false → r ≡ sweepNumber n bad falls
+  unfolding sweepNumber firstOf
   sweep-end k found v h r e =
       let d : k + 1 ≡ n = omega (arith, v .inside) in
       let f : k ≡ n - 1 = omega arith in
       e
-      ∙ ap (λ (t : Bool). lowestOf false false t false) (v .fell ∙ ap (λ (i : ℕ). someBelow i falls) f)
-      ∙ ap (λ (t : Bool). lowestOf false t (someBelow (n - 1) falls) false) (sym (ap (λ (i : ℕ). someBelow i bad) (sym d) ∙ v .good))
+      ∙ ap (λ (t : Bool). numberOf false false t false) (v .fell ∙ ap (λ (i : ℕ). someBelow i falls) f)
+      ∙ ap (λ (t : Bool). numberOf false t (someBelow (n - 1) falls) false) (sym (ap (λ (i : ℕ). someBelow i bad) (sym d) ∙ v .good))
 
   pub sweep-here : (k : ℕ) (found : Bool) → Swept n bad falls k found → bad k ≡ false
   sweep-here k found v = none-at (k + 1) bad k (omega arith) (v .good)
@@ -57,12 +58,12 @@ offset-falls offsets k = ap (λ (i : ℕ). lt (getD offsets i nan) (getD offsets
 
 -- ---- two samples, one after the other
 
-pub falls-is : (b : List ℕ) (i : ℕ) (x y : Sample) → x ≡ sampleFrom b (i * 24) → y ≡ sampleFrom b ((i + 1) * 24) → (not (lt (x .time) (y .time)) || lt (y .offset) (x .offset)) ≡ fallsAt b i
+pub falls-is : (b : List ℕ) (i : ℕ) (x y : Sample) (r : Bool) → x ≡ sampleFrom b (i * 24) → y ≡ sampleFrom b ((i + 1) * 24) → r ≡ sampleFalls x y → r ≡ fallsAt b i
 unfolding fallsAt
-falls-is b i x y e f =
-    let d : y ≡ sampleFrom b (suc i * 24) = f ∙ ap (λ (k : ℕ). sampleFrom b (k * 24)) (add-one i) in
-    ap (λ (s : Sample). not (lt (s .time) (y .time)) || lt (y .offset) (s .offset)) e
-    ∙ ap (λ (s : Sample). not (lt (sampleFrom b (i * 24) .time) (s .time)) || lt (s .offset) (sampleFrom b (i * 24) .offset)) d
+falls-is b i x y r e f g =
+    g
+    ∙ ap (λ (s : Sample). sampleFalls s y) e
+    ∙ ap (sampleFalls (sampleFrom b (i * 24))) (f ∙ ap (λ (k : ℕ). sampleFrom b (k * 24)) (add-one i))
 
 -- a sample, by the tests of its patterns
 pub bad-is : (b : List ℕ) (at x y z : ℕ) (p q r : Bool) → x ≡ u64At b at → y ≡ u64At b (at + 8) → z ≡ u64At b (at + 16) → p ≡ bookFloat x → q ≡ bookFloat y → r ≡ bookFloat z

@@ -8,7 +8,7 @@ use borrow.Author.Tests.{lt-ltb, le-ltb, ltb-false}
 use lib.Dec.{ltb}
 use lib.ListN.{length, getD, length-append}
 use lib.Ieee.{Float}
-use Rattle.laws.proofs.Below.{or-left, or-right, none-left, none-right}
+use Rattle.laws.proofs.Truth.{or-left, or-right, none-left, none-right, neither}
 use Rattle.space.specs.Space.{zeros, zeroFloats}
 use Rattle.event_walk.specs.declared.Heads.{Heads}
 use Rattle.event_walk.specs.declared.PassedPoint.{PassedPoint}
@@ -18,7 +18,7 @@ use Rattle.event_walk.specs.Walk.{start, turn, emits, passedNext, walk, turnsLe
 use Rattle.event_walk.proofs.Theorems.{never-the-last}
 use Rattle.event_maker.specs.declared.Made.{Made}
 use Rattle.event_maker.specs.declared.Made.the-variants.{Listed, Refused}
-use Rattle.event_maker.specs.Maker.{pick, listPlaces, eventFloats, eventNumbers, floatsAs, numbersAs}
+use Rattle.event_maker.specs.Maker.{listPlaces, eventFloats, eventNumbers, floatsAs, numbersAs}
 use Rattle.event_maker.specs.Parts.{countAnswer, walkAnswer, putEventFloats, putEventNumbers, FloatsListed, NumbersListed, isRefused, keptFloats, keptNumbers}
 use Rattle.event_maker.proofs.Lists.{places-fit, floats-put, numbers-put}
 
@@ -26,16 +26,13 @@ use Rattle.event_maker.proofs.Lists.{places-fit, floats-put, numbers-pu
 
 pub too-short : (count places : ℕ) → places < count → Refused 12 ≡ countAnswer count places
 unfolding countAnswer
-too-short count places h = sym (ap (λ (t : Bool). pick t (Refused 12) (Listed count)) (lt-ltb places count h))
+too-short count places h = sym (ap (λ (t : Bool). cond t (Refused 12) (Listed count)) (lt-ltb places count h))
 
 pub long-enough : (count places : ℕ) → count ≤ places → Listed count ≡ countAnswer count places
 unfolding countAnswer
-long-enough count places h = sym (ap (λ (t : Bool). pick t (Refused 12) (Listed count)) (le-ltb places count h))
+long-enough count places h = sym (ap (λ (t : Bool). cond t (Refused 12) (Listed count)) (le-ltb places count h))
 
 -- ---- lists of events
-
-neither : (a b : Bool) → a ≡ false → b ≡ false → (a || b) ≡ false
-neither a b e f = ap (λ (t : Bool). t || b) e ∙ f
 
 none-bad-more : (ps : List PassedPoint) (p : PassedPoint) → someBad ps ≡ false → badPoint p ≡ false → someBad (ps ++ p ∷ []) ≡ false
 unfolding someBad
@@ -116,13 +113,13 @@ module _ {c : Course} {links : List ℕ} {F U places : ℕ} {floats : List Float
         d
         ∙ ap (λ (n : ℕ). countAnswer n places) (v .counted ∙ ap length (sym all-listed))
         ∙ ap (countAnswer (length (pointsPassed c))) (v .room)
-        ∙ sym (ap (λ (t : Bool). pick t (Refused 11) (countAnswer (length (pointsPassed c)) (listPlaces F U))) (ap someBad all-listed ∙ v .sound))
+        ∙ sym (ap (λ (t : Bool). cond t (Refused 11) (countAnswer (length (pointsPassed c)) (listPlaces F U))) (ap someBad all-listed ∙ v .sound))
 
     pub end-floats : (r : Made) → r ≡ countAnswer count places → FloatsListed r c F floats
     unfolding countAnswer
     end-floats r d = subst (λ (x : Made). FloatsListed x c F floats) (sym d) (go (ltb places count) refl)
       where
-        go : (t : Bool) → ltb places count ≡ t → FloatsListed (pick t (Refused 12) (Listed count)) c F floats
+        go : (t : Bool) → ltb places count ≡ t → FloatsListed (cond t (Refused 12) (Listed count)) c F floats
         go true q = tt
         go false q = v .floats-are (ltb-false places count q) ∙ ap (λ (ps : List PassedPoint). eventFloats ps ++ zeroFloats (F - count * 3)) (sym all-listed)
 
@@ -130,7 +127,7 @@ module _ {c : Course} {links : List ℕ} {F U places : ℕ} {floats : List Float
     unfolding countAnswer
     end-numbers r d = subst (λ (x : Made). NumbersListed x c links U numbers) (sym d) (go (ltb places count) refl)
       where
-        go : (t : Bool) → ltb places count ≡ t → NumbersListed (pick t (Refused 12) (Listed count)) c links U numbers
+        go : (t : Bool) → ltb places count ≡ t → NumbersListed (cond t (Refused 12) (Listed count)) c links U numbers
         go true q = tt
         go false q = v .numbers-are (ltb-false places count q) ∙ ap (λ (ps : List PassedPoint). eventNumbers links ps ++ zeros (U - count * 2)) (sym all-listed)
 
@@ -141,7 +138,7 @@ module _ {c : Course} {links : List ℕ} {F U places : ℕ} {floats : List Float
 
     pub bad-answer : badPoint p ≡ true → Refused 11 ≡ walkAnswer c (listPlaces F U)
     unfolding walkAnswer
-    bad-answer e = sym (ap (λ (t : Bool). pick t (Refused 11) (countAnswer (length (pointsPassed c)) (listPlaces F U))) (ap someBad there ∙ bad-there (v .listed) p (passedFrom c g) e))
+    bad-answer e = sym (ap (λ (t : Bool). cond t (Refused 11) (countAnswer (length (pointsPassed c)) (listPlaces F U))) (ap someBad there ∙ bad-there (v .listed) p (passedFrom c g) e))
 
     pub point-before : Walkable c → p .point < c .points
     point-before w = let l = each-there (λ q. suc (q .point) < c .points) (v .listed) p (passedFrom c g) (subst (Each (λ q. suc (q .point) < c .points)) there (never-the-last w)) in omega arith

@@ -1,43 +1,39 @@
 -- Words of the event maker's parts. Only the contracts of private functions use them.
 use mathlib.Core.Path.{_≡_}
-use mathlib.Core.Bool.{Bool, true, false, not, _||_}
+use mathlib.Core.Bool.{Bool, true, false, not, cond}
 use mathlib.Core.List.{List}
 use Prim.Native.Nat.{ℕ, suc, _+_, _-_, _*_}
 use lib.Dec.{ltb}
 use lib.ListN.{length, set, getD}
 use lib.Ieee.{Float, nan, lt}
 use Rattle.laws.specs.Below.{someBelow}
+use Rattle.laws.specs.Refusals.{firstOf}
 use Rattle.floats.specs.Floats.{bookValue}
 use Rattle.space.specs.Space.{zeros, zeroFloats}
 use Rattle.book_format.specs.Format.{sampleFrom}
-use Rattle.book_format.specs.Rows.{badSampleFrom}
+use Rattle.book_format.specs.Rows.{badSampleFrom, sampleFalls}
 use Rattle.net_node.specs.Table.{kindNumber}
 use Rattle.event_walk.specs.declared.PassedPoint.{PassedPoint}
 use Rattle.event_walk.specs.Course.{Course}
 use Rattle.event_walk.specs.Walk.{pointsPassed, reachesLast, someBad}
 use Rattle.event_maker.specs.declared.Made.{Made}
 use Rattle.event_maker.specs.declared.Made.the-variants.{Listed, Refused}
-use Rattle.event_maker.specs.Maker.{badCounts, badFloats, falling, pick, floatsAs, numbersAs}
+use Rattle.event_maker.specs.Maker.{badCounts, badFloats, falling, rowsTo11, floatsAs, numbersAs}
+use Rattle.event_maker.specs.Maker.{EventList, placesIn}
 
 -- ---- the rows
 
--- the lowest row of four that holds, and 0 where none does
-unfoldable pub lowestOf : Bool → Bool → Bool → Bool → ℕ
-lowestOf true four seven eleven = 3
-lowestOf false true seven eleven = 4
-lowestOf false false true eleven = 7
-lowestOf false false false true = 11
-lowestOf false false false false = 0
+-- the number of rows 3, 4, 7 and 11 by their tests, and 0 where none holds
+abbrev pub numberOf : Bool → Bool → Bool → Bool → ℕ
+numberOf three four seven eleven = firstOf (rowsTo11 three four seven eleven)
 
 -- rows 3, 4 and 7, and 11 for the samples
 unfoldable pub firstNumber : Course → List ℕ → ℕ
-unfolding lowestOf
-firstNumber c samples = lowestOf (badCounts c) (badFloats c samples) (falling c) (reachesLast c)
+firstNumber c samples = numberOf (badCounts c) (badFloats c samples) (falling c) (reachesLast c)
 
 -- one sweep over n rows: 4 if one is bad, 7 if one falls against the row before it
 unfoldable pub sweepNumber : ℕ → (ℕ → Bool) → (ℕ → Bool) → ℕ
-unfolding lowestOf
-sweepNumber n bad falls = lowestOf false (someBelow n bad) (someBelow (n - 1) falls) false
+sweepNumber n bad falls = numberOf false (someBelow n bad) (someBelow (n - 1) falls) false
 
 unfoldable pub badOffset : List Float → ℕ → Bool
 badOffset offsets k = not (bookValue (getD offsets k nan))
@@ -49,20 +45,19 @@ unfoldable pub badAt : List ℕ → ℕ → Bool
 badAt samples i = badSampleFrom samples (i * 24)
 
 unfoldable pub fallsAt : List ℕ → ℕ → Bool
-fallsAt samples i =
-    not (lt (sampleFrom samples (i * 24) .time) (sampleFrom samples (suc i * 24) .time))
-    || lt (sampleFrom samples (suc i * 24) .offset) (sampleFrom samples (i * 24) .offset)
+unfolding sampleFalls
+fallsAt samples i = sampleFalls (sampleFrom samples (i * 24)) (sampleFrom samples (suc i * 24))
 
 -- ---- the events
 
 -- 12 where the list is too short
 unfoldable pub countAnswer : ℕ → ℕ → Made
-countAnswer count places = pick (ltb places count) (Refused 12) (Listed count)
+countAnswer count places = cond (ltb places count) (Refused 12) (Listed count)
 
 -- what is left of the answer behind the rows
 unfoldable pub walkAnswer : Course → ℕ → Made
 unfolding countAnswer
-walkAnswer c places = pick (someBad (pointsPassed c)) (Refused 11) (countAnswer (length (pointsPassed c)) places)
+walkAnswer c places = cond (someBad (pointsPassed c)) (Refused 11) (countAnswer (length (pointsPassed c)) places)
 
 -- the list with an event at place k
 unfoldable pub putEventFloats : List Float → ℕ → PassedPoint → List Float
@@ -79,6 +74,12 @@ FloatsListed (Refused n) c size fs = Unit
 abbrev pub NumbersListed : Made → Course → List ℕ → ℕ → List ℕ → Type 0
 NumbersListed (Listed n) c links size us = us ≡ numbersAs (Listed n) c links size
 NumbersListed (Refused n) c links size us = Unit
+
+-- the events one after the other into a list
+pub record EventsListed (c : Course) (links : List ℕ) (lent left : EventList) (r : Made) : Type 0 where
+  pub answer : r ≡ walkAnswer c (placesIn lent)
+  pub floats : FloatsListed r c (length (lent .floats)) (left .floats)
+  pub numbers : NumbersListed r c links (length (lent .numbers)) (left .numbers)
 
 -- a refused list is made zero
 abbrev pub isRefused : Made → Bool

@@ -3,14 +3,17 @@ use event_walk::Movement;
 use event_walk::Next;
 use event_walk::PassedPoint;
 ghost use mathlib.Core.Path.{_≡_};
-ghost use mathlib.Core.Bool.{true, false, not};
-ghost use Prim.Native.Nat.{suc, _+_, _*_, _-_, _/_, _≤_, _<_, min};
+ghost use mathlib.Core.Bool.{false};
+ghost use Prim.Native.Nat.{suc, _+_, _*_, _≤_, _<_};
 ghost use lib.ListN.{length};
 ghost use Rattle.space.specs.Space.{zeros, zeroFloats};
-ghost use Rattle.book_format.specs.Rows.{outsideLimits, badSampleFrom};
+ghost use Rattle.book_format.specs.Rows.{badSampleFrom};
 ghost use Rattle.event_walk.specs.Course.{courseOf, Held, Walkable};
-ghost use Rattle.event_maker.specs.Maker.{lentCourse, answerOf, listPlaces, floatsAs, numbersAs};
-ghost use Rattle.event_maker.specs.Parts.{countAnswer, walkAnswer, lowestOf, firstNumber, sweepNumber, badOffset, offsetFalls, badAt, fallsAt, putEventFloats, putEventNumbers, FloatsListed, NumbersListed, isRefused, keptFloats, keptNumbers};
+ghost use Rattle.event_maker.specs.Maker.{lentLeg, listAtEntry, listAtExit, listPlaces, EventsMade};
+ghost use Rattle.event_maker.specs.Parts.{numberOf, firstNumber, sweepNumber};
+ghost use Rattle.event_maker.specs.Parts.{badOffset, offsetFalls, badAt, fallsAt};
+ghost use Rattle.event_maker.specs.Parts.{countAnswer, putEventFloats, putEventNumbers, EventsListed};
+ghost use Rattle.event_maker.specs.Parts.{isRefused, keptFloats, keptNumbers};
 
 // How many events are in the list, or the number of a refusal.
 pub enum Made {
@@ -18,30 +21,18 @@ pub enum Made {
     Refused(u32),
 }
 
-fn fewer(a: usize, b: usize) -> usize
-    ensures { λ r. ⌜ r ≡ min a b ⌝ }
-{
-    if a <= b { a } else { b }
-}
-
 // How many events the list has places for.
 fn list_places(floats: usize, numbers: usize) -> usize
     ensures { λ r. ⌜ r ≡ listPlaces floats numbers ⌝ }
 {
-    fewer(floats / 3, numbers / 2)
+    space::smaller(floats / 3, numbers / 2)
 }
 
 // ---- rows 3, 4, 7, and 11 for the samples
 
-fn is_outside(limit: usize, n: usize) -> bool
-    ensures { λ r. ⌜ r ≡ outsideLimits limit n ⌝ }
-{
-    (n == 0) | (limit < n)
-}
-
 // 7 if a row falls, else 0.
 fn seven_if(falls: bool) -> u32
-    ensures { λ r. ⌜ r ≡ lowestOf false false falls false ⌝ }
+    ensures { λ r. ⌜ r ≡ numberOf false false falls false ⌝ }
 {
     if falls { 7 } else { 0 }
 }
@@ -88,10 +79,11 @@ fn sample_falls(samples: &[u8], i: usize) -> bool
 {
     let a = book_format::sample_from(samples, i * 24);
     let b = book_format::sample_from(samples, (i + 1) * 24);
-    !(a.time < b.time) | (b.offset < a.offset)
+    book_format::sample_falls(a, b)
 }
 
-// What the samples give: 4 if a book may not hold a float of one, 7 if one is no later than the one before it, or further back.
+// What the samples give: 4 if a book may not hold a float of one, 7 if one is no later than the one before it, or
+// further back.
 fn samples_number(samples: &[u8], n: usize) -> u32
     requires { ⌜ 0 < n ⌝ }
     requires { ⌜ n * 24 ≤ length (now samples) ⌝ }
@@ -117,9 +109,10 @@ fn first_number(samples: &[u8], offsets: &[f64], m: Movement) -> u32
     requires { ⌜ m .at ≡ 0 ⌝ }
     requires { ⌜ m .samples * 24 ≤ length (now samples) ⌝ }
     requires { ⌜ m .points ≤ length (now offsets) ⌝ }
-    ensures { λ r. ⌜ r ≡ firstNumber (courseOf (now (samples .entry)) (now (offsets .entry)) m) (now (samples .entry)) ⌝ }
+    ensures { λ r. ⌜ r ≡ firstNumber (courseOf (now (samples .entry)) (now (offsets .entry)) m)
+        (now (samples .entry)) ⌝ }
 {
-    if is_outside(1000000, m.samples) | is_outside(65536, m.points) {
+    if book_format::is_outside(1000000, m.samples) | book_format::is_outside(65536, m.points) {
         return 3;
     }
     if !floats::is_book_value(m.length) {
@@ -196,9 +189,8 @@ fn list_events(
     requires { ⌜ m .points ≤ length (now links) ⌝ }
     requires { ⌜ now floats ≡ zeroFloats (length (now floats)) ⌝ }
     requires { ⌜ now numbers ≡ zeros (length (now numbers)) ⌝ }
-    ensures answer { λ r. ⌜ r ≡ walkAnswer (courseOf (now (samples .entry)) (now (offsets .entry)) m) (listPlaces (length (now (floats .entry))) (length (now (numbers .entry)))) ⌝ }
-    ensures floats { λ r. ⌜ FloatsListed r (courseOf (now (samples .entry)) (now (offsets .entry)) m) (length (now (floats .entry))) (now (floats .exit)) ⌝ }
-    ensures numbers { λ r. ⌜ NumbersListed r (courseOf (now (samples .entry)) (now (offsets .entry)) m) (now (links .entry)) (length (now (numbers .entry))) (now (numbers .exit)) ⌝ }
+    ensures { λ r. ⌜ EventsListed (courseOf (now (samples .entry)) (now (offsets .entry)) m) (now (links .entry))
+        (listAtEntry floats numbers) (listAtExit floats numbers) r ⌝ }
 {
     let places = list_places(floats.len(), numbers.len());
     let mut h = event_walk::start_heads(samples, offsets, m);
@@ -248,16 +240,15 @@ pub fn make_events(
     floats: &mut [f64],
     numbers: &mut [u32],
 ) -> Made
-    ensures answer { λ r. ⌜ r ≡ answerOf (lentCourse «train_length» (now (samples .entry)) (now (offsets .entry)) (now (links .entry))) (now (samples .entry)) (listPlaces (length (now (floats .entry))) (length (now (numbers .entry)))) ⌝ }
-    ensures floats { λ r. ⌜ now (floats .exit) ≡ floatsAs r (lentCourse «train_length» (now (samples .entry)) (now (offsets .entry)) (now (links .entry))) (length (now (floats .entry))) ⌝ }
-    ensures numbers { λ r. ⌜ now (numbers .exit) ≡ numbersAs r (lentCourse «train_length» (now (samples .entry)) (now (offsets .entry)) (now (links .entry))) (now (links .entry)) (length (now (numbers .entry))) ⌝ }
+    ensures { λ r. ⌜ EventsMade (lentLeg «train_length» samples offsets links)
+        (listAtEntry floats numbers) (listAtExit floats numbers) r ⌝ }
 {
     space::clear_floats(floats);
     space::clear_numbers(numbers);
     let m = Movement {
         at: 0,
         samples: samples.len() / 24,
-        points: fewer(offsets.len(), links.len()),
+        points: space::smaller(offsets.len(), links.len()),
         length: train_length,
     };
     let number = first_number(samples, offsets, m);

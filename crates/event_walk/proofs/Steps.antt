@@ -1,6 +1,6 @@
 -- What the walking code reads and where it stands, in the definition's words.
 use mathlib.Core.Path.{_≡_, refl, sym, ap, _∙_, subst}
-use mathlib.Core.Bool.{Bool, true, false, not, _&&_, true≢false}
+use mathlib.Core.Bool.{Bool, true, false, not, _&&_, true≢false, and-true, and-false}
 use mathlib.Core.List.{List, [], _∷_}
 use Prim.Native.Nat.{ℕ, zero, suc, _+_, _-_, _*_, _≤_, _<_}
 use native.Mathlib.Nat.{le-refl}
@@ -13,6 +13,7 @@ use lib.Ieee.{Float, nan, binary64, le, ofBits, nanBits}
 use Rattle.floats.specs.Floats.{bookFloat}
 use Rattle.fields.specs.Fields.{u64At}
 use Rattle.laws.specs.Below.{someBelow}
+use Rattle.laws.proofs.Truth.{and-left, and-right}
 use Rattle.laws.proofs.Below.{none-more, some-at}
 use Rattle.net_node.specs.declared.EstType.{EstType}
 use Rattle.net_node.specs.declared.EstType.the-variants.{Arrive, Clear}
@@ -90,28 +91,18 @@ module _ (b : List ℕ) (offsets : List Float) (m : Movement) where
 module _ (offsets : List Float) (l : Float) (h : Heads) where
   pub unseen-first : (r : Bool) → h .«pt_idx_back» ≡ 0 → r ≡ clears (getD offsets (h .«pt_idx_front») nan) (getD offsets 0 nan) l → r ≡ unseen offsets l h
   unfolding unseen
-  unseen-first r z e = e ∙ sym (rw (z, eq-eqb 0 0 refl, whole (clears (getD offsets (h .«pt_idx_front») nan) (getD offsets 0 nan) l)))
-    where
-      whole : (t : Bool) → (t && true) ≡ t
-      whole true = refl
-      whole false = refl
+  unseen-first r z e = e ∙ sym (rw (z, eq-eqb 0 0 refl, and-true (clears (getD offsets (h .«pt_idx_front») nan) (getD offsets 0 nan) l)))
 
   pub unseen-later : (h .«pt_idx_back» ≡ 0 → ⊥) → unseen offsets l h ≡ false
   unfolding unseen
-  unseen-later z = rw (ne-eqb (h .«pt_idx_back») 0 z, none (clears (getD offsets (h .«pt_idx_front») nan) (getD offsets (h .«pt_idx_back») nan) l))
-    where
-      none : (t : Bool) → (t && false) ≡ false
-      none true = refl
-      none false = refl
+  unseen-later z = rw (ne-eqb (h .«pt_idx_back») 0 z, and-false (clears (getD offsets (h .«pt_idx_front») nan) (getD offsets (h .«pt_idx_back») nan) l))
 
   pub unseen-is : unseen offsets l h ≡ true → (clears (getD offsets (h .«pt_idx_front») nan) (getD offsets (h .«pt_idx_back») nan) l ≡ true) × (h .«pt_idx_back» ≡ 0)
   unfolding unseen
-  unseen-is e = both (clears (getD offsets (h .«pt_idx_front») nan) (getD offsets (h .«pt_idx_back») nan) l) (eqb (h .«pt_idx_back») 0) refl e
-    where
-      both : (s t : Bool) → eqb (h .«pt_idx_back») 0 ≡ t → (s && t) ≡ true → (s ≡ true) × (h .«pt_idx_back» ≡ 0)
-      both true true d e = (refl, eqb-true (h .«pt_idx_back») 0 d)
-      both true false d e = absurd (true≢false (sym e))
-      both false t d e = absurd (true≢false (sym e))
+  unseen-is e =
+      let s = clears (getD offsets (h .«pt_idx_front») nan) (getD offsets (h .«pt_idx_back») nan) l in
+      let t = eqb (h .«pt_idx_back») 0 in
+      (and-left s t e, eqb-true (h .«pt_idx_back») 0 (and-right s t e))
 
   pub seen-later : unseen offsets l h ≡ false → clears (getD offsets (h .«pt_idx_front») nan) (getD offsets (h .«pt_idx_back») nan) l ≡ true → h .«pt_idx_back» ≡ 0 → ⊥
   unfolding unseen

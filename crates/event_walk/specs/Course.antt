@@ -1,5 +1,7 @@
--- What a train's walk looks at, document 01 under "Events": its samples, its length, and its path's points, "at 0 and at each running sum of lengths".
--- Samples and points are functions of an index here, so that one definition serves a leg of a book and the lists that are lent to the event maker.
+-- What a train's walk looks at, document 01 under "Events": its samples, its length, and its path's points, "at 0 and
+-- at each running sum of lengths".
+-- Samples and points are functions of an index here, so that one definition serves a leg of a book and the lists that
+-- are lent to the event maker.
 use mathlib.Core.Path.{_≡_}
 use mathlib.Core.Bool.{Bool, true, false}
 use mathlib.Core.List.{List}

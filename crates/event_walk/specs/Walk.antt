@@ -1,5 +1,6 @@
--- The walk of the source's `update_est_times_add`: which points are passed, in order, and when. The back point is the next that the train's end reaches, the front point the next
--- that its front reaches; the event that comes first is emitted and its point moves on, sample by sample.
+-- The walk of the source's `update_est_times_add`: which points are passed, in order, and when. The back point is the
+-- next that the train's end reaches, the front point the next that its front reaches; the event that comes first is
+-- emitted and its point moves on, sample by sample.
 use mathlib.Core.Path.{_≡_}
 use mathlib.Core.Bool.{Bool, true, false, not, _&&_, _||_, cond}
 use mathlib.Core.List.{List, [], _∷_}
@@ -75,12 +76,26 @@ turn c h = turned h (inRange c h) (clearsNext c h)
 
 -- the point that is passed and its kind: the back point is cleared, the front point arrived at
 unfoldable pub passedAs : Heads → Bool → Float → Passing → PassedPoint
-passedAs h true offset p = record { time = p .time; offset = offset; speed = p .speed; point = h .«pt_idx_back»; «est_type» = Clear }
-passedAs h false offset p = record { time = p .time; offset = offset; speed = p .speed; point = h .«pt_idx_front»; «est_type» = Arrive }
+passedAs h true offset p = record {
+  time = p .time;
+  offset = offset;
+  speed = p .speed;
+  point = h .«pt_idx_back»;
+  «est_type» = Clear;
+}
+passedAs h false offset p = record {
+  time = p .time;
+  offset = offset;
+  speed = p .speed;
+  point = h .«pt_idx_front»;
+  «est_type» = Arrive;
+}
 
 unfoldable pub passedNext : Course → Heads → PassedPoint
 unfolding clearsNext offsetNext
-passedNext c h = passedAs h (clearsNext c h) (offsetNext c h) (passingAt (c .sample (h .i)) (c .sample (h .i - 1)) (offsetNext c h))
+passedNext c h =
+    passedAs h (clearsNext c h) (offsetNext c h)
+    (passingAt (c .sample (h .i)) (c .sample (h .i - 1)) (offsetNext c h))
 
 -- ---- the walk
 
@@ -143,7 +158,8 @@ row11 c = reachesLast c || someBad (pointsPassed c)
 
 -- ---- what the walking code keeps
 
--- the heads stand where they can: a sample before, and the back point not beyond the front point, which is a point of the path
+-- the heads stand where they can: a sample before, and the back point not beyond the front point, which is a point of
+-- the path
 pub record Within (c : Course) (h : Heads) : Type 0 where
   pub after : 0 < h .i
   pub order : h .«pt_idx_back» ≤ h .«pt_idx_front»

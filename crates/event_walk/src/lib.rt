@@ -9,7 +9,7 @@ ghost use lib.Ieee.{nan, isNan};
 ghost use Rattle.book_format.specs.Format.{sampleFrom};
 ghost use Rattle.book_format.specs.Rows.{badSampleFrom};
 ghost use Rattle.event_walk.specs.Course.{courseOf, Held, Rises, Walkable};
-ghost use Rattle.event_walk.specs.Search.{Between, Reached, unseen, pointWith};
+ghost use Rattle.event_walk.specs.Search.{Between, Reached, unseen, sampleOf, pointWith};
 ghost use Rattle.event_walk.specs.Walk.{firstBeyond, start, reachesLast, badPoint, Within, NextOf};
 
 // A train's samples, which stand in bytes from `at` on, its path's points, and its length.
@@ -73,7 +73,8 @@ fn points_before(high: usize, step: usize) -> usize
     if step < high { high - step } else { 0 }
 }
 
-// From the last point back by steps that double, until a point is not beyond x: the cost doesn't grow with the points behind it.
+// From the last point back by steps that double, until a point is not beyond x: the cost doesn't grow with the points
+// behind it.
 fn gallop(offsets: &[f64], points: usize, x: f64) -> Span
     requires { ⌜ points ≤ length (now offsets) ⌝ }
     requires { ⌜ Rises (λ k. getD (now offsets) k nan) points ⌝ }
@@ -145,7 +146,7 @@ fn sample_offset(book: &[u8], at: usize) -> f64
 fn first_reaching(book: &[u8], m: Movement, from: usize, x: f64) -> usize
     requires { ⌜ m .at + m .samples * 24 ≤ length (now book) ⌝ }
     requires { ⌜ ((i : ℕ) → i < m .samples → badSampleFrom (now book) (m .at + i * 24) ≡ false) ⌝ }
-    ensures { λ r. ⌜ Reached (λ i. sampleFrom (now (book .entry)) (m .at + i * 24) .offset) (m .samples) x from r ⌝ }
+    ensures { λ r. ⌜ Reached (λ i. sampleOf (now (book .entry)) m i .offset) (m .samples) x from r ⌝ }
 {
     let mut i = from;
     while i < m.samples {
@@ -171,7 +172,8 @@ fn passed_at(
     requires { ⌜ ((k : ℕ) → k < m .samples → badSampleFrom (now book) (m .at + k * 24) ≡ false) ⌝ }
     requires { ⌜ 0 < i ⌝ }
     requires { ⌜ i < m .samples ⌝ }
-    ensures { λ r. ⌜ r ≡ pointWith (sampleFrom (now (book .entry)) (m .at + i * 24)) (sampleFrom (now (book .entry)) (m .at + (i - 1) * 24)) offset point «est_type» ⌝ }
+    ensures { λ r. ⌜ r ≡ pointWith (sampleOf (now (book .entry)) m i) (sampleOf (now (book .entry)) m (i - 1))
+        offset point «est_type» ⌝ }
 {
     let s = book_format::sample_from(book, m.at + i * 24);
     let before = book_format::sample_from(book, m.at + (i - 1) * 24);
@@ -185,7 +187,8 @@ fn passed_at(
     }
 }
 
-// Whether the next event is that the train's end passes the first point: the back index becomes 1, and nothing is emitted.
+// Whether the next event is that the train's end passes the first point: the back index becomes 1, and nothing is
+// emitted.
 fn is_unseen(offsets: &[f64], m: Movement, h: Heads) -> bool
     requires { ⌜ h .«pt_idx_back» < length (now offsets) ⌝ }
     requires { ⌜ h .«pt_idx_front» < length (now offsets) ⌝ }

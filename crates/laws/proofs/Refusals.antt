@@ -1,7 +1,7 @@
--- Laws of `firstOf`: the first row holds or is passed, what a number of 0 says, and one list of rows behind another.
+-- Laws of `firstOf`: the first row holds or is passed, and what a number of 0 says.
 use mathlib.Core.Path.{_≡_, refl, sym, ap, _∙_}
 use mathlib.Core.Bool.{Bool, true, false, _&&_, cond, true≢false}
-use mathlib.Core.List.{List, [], _∷_, _++_}
+use mathlib.Core.List.{List, [], _∷_}
 use Prim.Native.Nat.{ℕ, zero, suc}
 use native.Mathlib.Omega.{arith}
 use Rattle.laws.specs.Refusals.{Row, row, firstOf}
@@ -42,23 +42,8 @@ unfolding firstOf
 none-holds [] n e = tt
 none-holds (r ∷ rows) n e = go (r .number) (r .holds) n e (none-holds rows)
   where
-    go : (k : ℕ) (b : Bool) → (positive k && numbered rows) ≡ true → cond b k (firstOf rows) ≡ 0 → (numbered rows ≡ true → firstOf rows ≡ 0 → NoneHolds rows) → (b ≡ false) × NoneHolds rows
+    go : (k : ℕ) (b : Bool) → (positive k && numbered rows) ≡ true → cond b k (firstOf rows) ≡ 0
+        → (numbered rows ≡ true → firstOf rows ≡ 0 → NoneHolds rows) → (b ≡ false) × NoneHolds rows
     go zero b m d ih = absurd (true≢false (sym m))
     go (suc k) true m d ih = absurd (omega arith)
     go (suc k) false m d ih = (refl, ih m d)
-
--- ---- one list behind another
-
-pub first-early : (xs ys : List Row) → (firstOf xs ≡ 0 → ⊥) → firstOf (xs ++ ys) ≡ firstOf xs
-unfolding firstOf
-first-early [] ys n = absurd (n refl)
-first-early (r ∷ xs) ys n = go (r .holds) n (first-early xs ys)
-  where
-    go : (b : Bool) → (cond b (r .number) (firstOf xs) ≡ 0 → ⊥) → ((firstOf xs ≡ 0 → ⊥) → firstOf (xs ++ ys) ≡ firstOf xs)
-        → cond b (r .number) (firstOf (xs ++ ys)) ≡ cond b (r .number) (firstOf xs)
-    go true n ih = refl
-    go false n ih = ih n
-
-pub first-late : (xs ys : List Row) → NoneHolds xs → firstOf (xs ++ ys) ≡ firstOf ys
-first-late [] ys h = refl
-first-late (r ∷ xs) ys h = first-passed (r .number) (r .holds) (xs ++ ys) (h .0) ∙ first-late xs ys (h .1)

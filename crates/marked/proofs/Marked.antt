@@ -25,6 +25,7 @@ use Rattle.est_times.specs.declared.Sheet.the-variants.{Made}
 use Rattle.est_times.specs.Sheet.{Job, stopped, finished, job, reportOf, answered, floatsAs, numbersAs}
 use Rattle.listing.specs.Listing.{sheetText, refusedText}
 use Rattle.laws.specs.Below as BelowOf
+use Rattle.laws.specs.Refusals as RefusalsOf
 use Rattle.fields.specs.Fields as FieldsOf
 use Rattle.floats.specs.Floats as FloatsOf
 use Rattle.space.specs.Space as SpaceOf
@@ -252,7 +253,7 @@ record Marked : Type 0 where
   destination-zero : sheetOf 0 10 ≡ stopped 8
 
 marked : Marked
-unfolding add sub mul div lt le eq isNan ofBits toBits ofInt BelowOf.someBelow BelowOf.sumBelow FieldsOf.u64At FloatsOf.tableFloat FloatsOf.bookFloat FloatsOf.gap FloatsOf.smaller SpaceOf.placesOf SpaceOf.zeros SpaceOf.zeroFloats RootOf.sqrt FormatOf.joinBits FormatOf.departureBits FormatOf.lengthBits FormatOf.links FormatOf.originsAt FormatOf.origins FormatOf.destinationsAt FormatOf.destinations FormatOf.legsAt FormatOf.legs FormatOf.samplesAt FormatOf.samples FormatOf.endOf FormatOf.linkLength FormatOf.linkNext FormatOf.linkNextAlt FormatOf.linkPrev FormatOf.linkPrevAlt FormatOf.originLink FormatOf.originOffset FormatOf.originFront FormatOf.destinationLink FormatOf.legLink FormatOf.legParent FormatOf.legSamples FormatOf.sampleTime FormatOf.sampleOffset FormatOf.sampleSpeed FormatOf.firstSample FormatOf.sampleAt RowsOf.row1 RowsOf.row2 RowsOf.row3 RowsOf.row4 RowsOf.row5 RowsOf.row6 RowsOf.row7 RowsOf.lowest ChainsOf.legBelow OptionsOf.member OptionsOf.originBelow OptionsOf.stacked OptionsOf.pushed OptionsOf.inSet OptionsOf.keptOrigins OptionsOf.row8 ReaderOf.readNumber EventOf.passingAt EventOf.badPassing TableOf.sameEvent TableOf.nodeAt TableOf.putFloats TableOf.putNumbers WalkOf.turned WalkOf.passedAs WalkOf.row11 InsertionOf.linkedTo InsertionOf.eventNode InsertionOf.addBehind InsertionOf.placeAt InsertionOf.inserted InsertionOf.insertedTable EntriesOf.entry EntriesOf.push StrandsOf.strandFrom StrandsOf.strands StrandsOf.extendedAll EventMapOf.seenIn JoinsOf.joinStep PathOf.legEvents RunOf.arcToEnd RunOf.runEvents GrowthOf.badFinish GrowthOf.finishedAt GrowthOf.grow QueueOf.before QueueOf.best QueueOf.others ChecksOf.nodeHolds ChecksOf.row14 ForwardOf.forward BackwardOf.backward PassesOf.passes NetworkOf.zeroTable NetworkOf.network SheetOf.job ListingOf.sheetText
+unfolding add sub mul div lt le eq isNan ofBits toBits ofInt BelowOf.someBelow BelowOf.sumBelow FieldsOf.u64At FloatsOf.tableFloat FloatsOf.bookFloat FloatsOf.gap FloatsOf.smaller SpaceOf.placesOf SpaceOf.zeros SpaceOf.zeroFloats RootOf.sqrt FormatOf.joinBits FormatOf.departureBits FormatOf.lengthBits FormatOf.links FormatOf.originsAt FormatOf.origins FormatOf.destinationsAt FormatOf.destinations FormatOf.legsAt FormatOf.legs FormatOf.samplesAt FormatOf.samples FormatOf.endOf FormatOf.linkLength FormatOf.linkNext FormatOf.linkNextAlt FormatOf.linkPrev FormatOf.linkPrevAlt FormatOf.originLink FormatOf.originOffset FormatOf.originFront FormatOf.destinationLink FormatOf.legLink FormatOf.legParent FormatOf.legSamples FormatOf.sampleTime FormatOf.sampleOffset FormatOf.sampleSpeed FormatOf.firstSample FormatOf.sampleAt RowsOf.row1 RowsOf.row2 RowsOf.row3 RowsOf.row4 RowsOf.row5 RowsOf.row6 RowsOf.row7 RefusalsOf.firstOf ChainsOf.legBelow OptionsOf.member OptionsOf.originBelow OptionsOf.stacked OptionsOf.pushed OptionsOf.inSet OptionsOf.keptOrigins OptionsOf.row8 ReaderOf.readNumber EventOf.passingAt EventOf.badPassing TableOf.sameEvent TableOf.nodeAt TableOf.putFloats TableOf.putNumbers WalkOf.turned WalkOf.passedAs WalkOf.row11 InsertionOf.linkedTo InsertionOf.eventNode InsertionOf.addBehind InsertionOf.placeAt InsertionOf.inserted InsertionOf.insertedTable EntriesOf.entry EntriesOf.push StrandsOf.strandFrom StrandsOf.strands StrandsOf.extendedAll EventMapOf.seenIn JoinsOf.joinStep PathOf.legEvents RunOf.arcToEnd RunOf.runEvents GrowthOf.badFinish GrowthOf.finishedAt GrowthOf.grow QueueOf.before QueueOf.best QueueOf.others ChecksOf.nodeHolds ChecksOf.row14 ForwardOf.forward BackwardOf.backward PassesOf.passes NetworkOf.zeroTable NetworkOf.network SheetOf.job ListingOf.sheetText
 marked = record {
   worked-book = refl;
   root-of-zero = refl;

@@ -6,7 +6,7 @@ use native.Mathlib.Nat.{sub-zero}
 use native.Mathlib.Omega.{arith}
 use lib.ListN.{length}
 use lib.Ieee.{Float}
-use Rattle.laws.specs.Answer.{Answer, refused, given, andThen}
+use Rattle.laws.specs.Answer.{Answer, refused, given, andThen, unless}
 use Rattle.net_node.specs.Table.{Table}
 use Rattle.net_node.specs.Left.{nodesIn, floatsKept, numbersKept, floatsLeft, numbersLeft}
 use Rattle.net_node.specs.Lent.{Slices}
@@ -16,7 +16,7 @@ use Rattle.pass_rules.specs.Passes.{passes}
 use Rattle.pass_all.specs.Answers.{TimedAs}
 use Rattle.pass_table.specs.declared.TimedTable.{TimedTable}
 use Rattle.pass_table.specs.declared.TimedTable.the-variants.{Whole, Refused}
-use Rattle.pass_table.specs.TableEntry.{unless, tableTimes, wholly, timesOf, timedAnswer, tableNumber, tableNodes, TimesUpdated}
+use Rattle.pass_table.specs.TableEntry.{tableTimes, wholly, timesOf, timedAnswer, tableNumber, tableNodes, TimesUpdated}
 use Rattle.pass_table.specs.Parts.{firstNumber, keptNodes, answerAs}
 use Rattle.pass_table.proofs.FirstRows.{most-nodes}
 

@@ -6,7 +6,7 @@ use lib.Ieee.{Float, nan, binary64, ofBits, ofInt, le, lt, eq, round}
 use Rattle.laws.specs.Answer.{Answer, refused, given}
 use Rattle.laws.specs.Below.{someBelow}
 use Rattle.floats.specs.Floats.{billion, tableFloat}
-use Rattle.book_format.specs.Rows.{lowest}
+use Rattle.laws.specs.Refusals.{firstOf}
 use Rattle.net_node.specs.Table.{nodeAt, Table, at}
 use Rattle.net_node.specs.Left.{nodesIn, kindAt}
 use Rattle.pass_rules.specs.Checks.{prevHolds, nextHolds, fakeHolds, prevLeads, nextLeads, notBothAlternates, nodeHolds, row14}
@@ -44,32 +44,32 @@ answer t departure bytes = number (tableTimes t departure bytes)
 
 -- 14: "3 nodes, all indices 0". An event's link may be any number.
 all-zero : answer (three o 0 99 2) o asked ≡ 14
-unfolding tableTimes nodesIn tableRow3 tableRow4 tableRow5 badNode badFloats kindAt strayNode lowest someBelow tableFloat billion ofBits ofInt round le lt eq at nodeAt passes row14 nodeHolds prevHolds nextHolds fakeHolds prevLeads nextLeads notBothAlternates
+unfolding tableTimes nodesIn tableRow3 tableRow4 tableRow5 badNode badFloats kindAt strayNode firstOf someBelow tableFloat billion ofBits ofInt round le lt eq at nodeAt passes row14 nodeHolds prevHolds nextHolds fakeHolds prevLeads nextLeads notBothAlternates
 all-zero = refl
 
 -- 3: two nodes and a part of a third; a byte less work space
 two-nodes : answer (record { floats = floats o (floats o (o ∷ o ∷ o ∷ [])); numbers = numbers 0 0 2 (numbers 0 0 2 (numbers 0 0 2 [])) }) o asked ≡ 3
-unfolding tableTimes nodesIn tableRow3 tableRow4 tableRow5 badNode badFloats kindAt strayNode lowest someBelow tableFloat billion ofBits ofInt round le lt eq at nodeAt
+unfolding tableTimes nodesIn tableRow3 tableRow4 tableRow5 badNode badFloats kindAt strayNode firstOf someBelow tableFloat billion ofBits ofInt round le lt eq at nodeAt
 two-nodes = refl
 
 less-space : answer (three o 0 0 2) o 37055 ≡ 3
-unfolding tableTimes nodesIn tableRow3 tableRow4 tableRow5 badNode badFloats kindAt strayNode lowest someBelow tableFloat billion ofBits ofInt round le lt eq at nodeAt
+unfolding tableTimes nodesIn tableRow3 tableRow4 tableRow5 badNode badFloats kindAt strayNode firstOf someBelow tableFloat billion ofBits ofInt round le lt eq at nodeAt
 less-space = refl
 
 -- 4: a time that is no number, though times are read as untimed; a departure above the limit; an unknown kind. It wins over 5.
 time-nan : answer (three nan 0 0 2) o asked ≡ 4
-unfolding tableTimes nodesIn tableRow3 tableRow4 tableRow5 badNode badFloats kindAt strayNode lowest someBelow tableFloat billion ofBits ofInt round le lt eq at nodeAt
+unfolding tableTimes nodesIn tableRow3 tableRow4 tableRow5 badNode badFloats kindAt strayNode firstOf someBelow tableFloat billion ofBits ofInt round le lt eq at nodeAt
 time-nan = refl
 
 late-departure : answer (three o 0 0 2) (ofBits binary64 4741671816366391297) asked ≡ 4
-unfolding tableTimes nodesIn tableRow3 tableRow4 tableRow5 badNode badFloats kindAt strayNode lowest someBelow tableFloat billion ofBits ofInt round le lt eq at nodeAt
+unfolding tableTimes nodesIn tableRow3 tableRow4 tableRow5 badNode badFloats kindAt strayNode firstOf someBelow tableFloat billion ofBits ofInt round le lt eq at nodeAt
 late-departure = refl
 
 kind-three : answer (three o 3 0 3) o asked ≡ 4
-unfolding tableTimes nodesIn tableRow3 tableRow4 tableRow5 badNode badFloats kindAt strayNode lowest someBelow tableFloat billion ofBits ofInt round le lt eq at nodeAt
+unfolding tableTimes nodesIn tableRow3 tableRow4 tableRow5 badNode badFloats kindAt strayNode firstOf someBelow tableFloat billion ofBits ofInt round le lt eq at nodeAt
 kind-three = refl
 
 -- 5: an index that is the number of nodes; 4 takes either sign
 index-three : answer (three (ofBits binary64 13830554455654793216) 3 0 2) o asked ≡ 5
-unfolding tableTimes nodesIn tableRow3 tableRow4 tableRow5 badNode badFloats kindAt strayNode lowest someBelow tableFloat billion ofBits ofInt round le lt eq at nodeAt
+unfolding tableTimes nodesIn tableRow3 tableRow4 tableRow5 badNode badFloats kindAt strayNode firstOf someBelow tableFloat billion ofBits ofInt round le lt eq at nodeAt
 index-three = refl

@@ -10,17 +10,18 @@ use lib.ListN.{length, take}
 use lib.Seq.{length-take-le}
 use lib.Ieee.{Float}
 use Rattle.laws.specs.Below.{someBelow}
+use Rattle.laws.specs.Refusals.{row, firstOf}
+use Rattle.laws.proofs.Refusals.{first-holds, first-passed, none-holds}
 use Rattle.laws.proofs.Below.{or-left, none-left, none-right, some-more, none-more, some-at, none-at}
 use Rattle.floats.specs.Floats.{tableFloat}
 use Rattle.space.specs.Space.{unitsOf, bytesOf}
-use Rattle.book_format.specs.Rows.{lowest}
 use Rattle.net_node.specs.declared.EstTime.{EstTime}
 use Rattle.net_node.specs.Table.{floatWidth, numberWidth, nodeAt, Room, Table, at}
 use Rattle.net_node.specs.Left.{nodesIn, kindAt}
 use Rattle.pass_rules.specs.Walks.{Inside}
 use Rattle.pass_table.specs.declared.TimedTable.{TimedTable}
 use Rattle.pass_table.specs.declared.TimedTable.the-variants.{Whole, Refused}
-use Rattle.pass_table.specs.TableEntry.{tableRow3, tableRow4, tableRow5, badFloats, badNode, strayNode}
+use Rattle.pass_table.specs.TableEntry.{tableRow3, tableRow4, tableRow5, tableRows, badFloats, badNode, strayNode}
 use Rattle.pass_table.specs.Parts.{nodesNumber, firstNumber, keptNodes, answerAs}
 
 -- ---- row 3
@@ -81,8 +82,8 @@ module _ (fs : List Float) (us : List ℕ) (n : ℕ) where
     stray-here x b e f = f ∙ ap (strayNode n) e
 
     pub sweep-bad : (x : EstTime) (kind : ℕ) (b : Bool) → i < n → x ≡ nodeAt fs us i → kind ≡ kindAt us i → b ≡ (badFloats x || ltb 2 kind) → b ≡ true → 4 ≡ nodesNumber lent n
-    unfolding nodesNumber lowest
-    sweep-bad x kind b h e k f d = sym (ap (λ (t : Bool). lowest 4 (t ∷ tableRow5 lent n ∷ [])) (some-at n (badNode lent) i h (sym (bad-here x kind b e k f) ∙ d)))
+    unfolding nodesNumber
+    sweep-bad x kind b h e k f d = sym (first-holds 4 (someBelow n (badNode lent)) (row 5 (tableRow5 lent n) ∷ []) (some-at n (badNode lent) i h (sym (bad-here x kind b e k f) ∙ d)))
 
     pub sweep-on : (x : EstTime) (kind : ℕ) (b r : Bool) → i < n → x ≡ nodeAt fs us i → kind ≡ kindAt us i → b ≡ (badFloats x || ltb 2 kind) → b ≡ false → r ≡ strayNode n x → Swept lent n (i + 1) (found || r)
     sweep-on x kind b r h e k f d g = record {
@@ -94,47 +95,42 @@ module _ (fs : List Float) (us : List ℕ) (n : ℕ) where
           ∙ sym (some-more i (λ k. strayNode n (at lent k)));
     }
 
-    pub sweep-end : (r : ℕ) → n ≤ i → r ≡ lowest 4 (false ∷ found ∷ []) → r ≡ nodesNumber lent n
+    pub sweep-end : (r : ℕ) → n ≤ i → r ≡ firstOf (row 5 found ∷ []) → r ≡ nodesNumber lent n
     unfolding nodesNumber tableRow5
     sweep-end r h e =
         let d : i ≡ n = omega (arith, v .within) in
         e
-        ∙ ap (λ (t : Bool). lowest 4 (false ∷ t ∷ [])) (v .strays ∙ ap (λ (k : ℕ). someBelow k (λ j. strayNode n (at lent j))) d)
-        ∙ ap (λ (t : Bool). lowest 4 (t ∷ tableRow5 lent n ∷ [])) (sym (ap (λ (k : ℕ). someBelow k (badNode lent)) (sym d) ∙ v .good))
+        ∙ ap (λ (t : Bool). firstOf (row 5 t ∷ [])) (v .strays ∙ ap (λ (k : ℕ). someBelow k (λ j. strayNode n (at lent j))) d)
+        ∙ sym (first-passed 4 (someBelow n (badNode lent)) (row 5 (tableRow5 lent n) ∷ []) (ap (λ (k : ℕ). someBelow k (badNode lent)) (sym d) ∙ v .good))
 
 -- ---- rows 3 to 5 together
 
 module _ (t : Table) (n : ℕ) (departure : Float) (units : ℕ) where
+  bad-departure : (x : Bool) → x ≡ tableFloat departure → not x ≡ true → tableRow4 t n departure ≡ true
+  unfolding tableRow4
+  bad-departure x f g = or-left (not (tableFloat departure)) (someBelow n (badNode t)) (ap not (sym f) ∙ g)
+
+  good-departure : (x : Bool) → x ≡ tableFloat departure → not x ≡ false → tableRow4 t n departure ≡ someBelow n (badNode t)
+  unfolding tableRow4
+  good-departure x f g = ap (λ (y : Bool). y || someBelow n (badNode t)) (ap not (sym f) ∙ g)
+
   pub first-three : (b : Bool) → b ≡ tableRow3 n (64 * units) → b ≡ true → 3 ≡ firstNumber t n departure (64 * units)
-  unfolding firstNumber lowest
-  first-three b e d = sym (ap (λ (x : Bool). lowest 3 (x ∷ tableRow4 t n departure ∷ tableRow5 t n ∷ [])) (sym e ∙ d))
+  unfolding firstNumber firstOf
+  first-three b e d = rw (← e, d)
 
   pub first-four : (b x : Bool) → b ≡ tableRow3 n (64 * units) → b ≡ false → x ≡ tableFloat departure → not x ≡ true → 4 ≡ firstNumber t n departure (64 * units)
-  unfolding firstNumber lowest tableRow4
-  first-four b x e d f g =
-      sym
-      (ap (λ (y : Bool). lowest 3 (y ∷ tableRow4 t n departure ∷ tableRow5 t n ∷ [])) (sym e ∙ d)
-      ∙ ap (λ (y : Bool). lowest 4 (y ∷ tableRow5 t n ∷ [])) (or-left (not (tableFloat departure)) (someBelow n (badNode t)) (ap not (sym f) ∙ g)))
+  unfolding firstNumber firstOf
+  first-four b x e d f g = rw (← e, d, bad-departure x f g)
 
   pub first-nodes : (b x : Bool) (r : ℕ) → b ≡ tableRow3 n (64 * units) → b ≡ false → x ≡ tableFloat departure → not x ≡ false → r ≡ nodesNumber t n → r ≡ firstNumber t n departure (64 * units)
-  unfolding firstNumber nodesNumber lowest tableRow4
-  first-nodes b x r e d f g h =
-      h
-      ∙ sym
-      (ap (λ (y : Bool). lowest 3 (y ∷ tableRow4 t n departure ∷ tableRow5 t n ∷ [])) (sym e ∙ d)
-      ∙ ap (λ (y : Bool). lowest 4 ((y || someBelow n (badNode t)) ∷ tableRow5 t n ∷ [])) (ap not (sym f) ∙ g))
+  unfolding firstNumber nodesNumber firstOf
+  first-nodes b x r e d f g h = h ∙ rw (← e, d, good-departure x f g)
 
 -- ---- what they leave for the passes
 
-nonzero : (k : ℕ) → suc k ≡ 0 → ⊥
-nonzero k e = omega arith
-
-none-of-three : (a b c : Bool) → lowest 3 (a ∷ b ∷ c ∷ []) ≡ 0 → (a ≡ false) × (c ≡ false)
-unfolding lowest
-none-of-three true b c e = absurd (nonzero 2 e)
-none-of-three false true c e = absurd (nonzero 3 e)
-none-of-three false false true e = absurd (nonzero 4 e)
-none-of-three false false false e = (refl, refl)
+none-of-three : (t : Table) (n : ℕ) (departure : Float) (bytes : ℕ) → firstNumber t n departure bytes ≡ 0 → (tableRow3 n bytes ≡ false) × (tableRow5 t n ≡ false)
+unfolding firstNumber
+none-of-three t n departure bytes e = let h = none-holds (tableRows t n departure bytes) refl e in (h .0, h .1 .1 .0)
 
 none-of-four : (a b c d : Bool) → (a || b || c || d) ≡ false → (a ≡ false) × ((b ≡ false) × ((c ≡ false) × (d ≡ false)))
 none-of-four a b c d e =
@@ -159,9 +155,9 @@ indices-inside fs us n e = record {
 
 -- rows 3 to 5 leave at most so many nodes
 pub most-nodes : (t : Table) (n : ℕ) (departure : Float) (bytes : ℕ) → firstNumber t n departure bytes ≡ 0 → n ≤ 65535
-unfolding firstNumber tableRow3
+unfolding tableRow3
 most-nodes t n departure bytes e =
-    let f = none-of-three (tableRow3 n bytes) (tableRow4 t n departure) (tableRow5 t n) e .0 in
+    let f = none-of-three t n departure bytes e .0 in
     size-most n (none-left (ltb n 3 || ltb 65535 n) (ltb bytes (36864 + 64 * min n 65535)) f)
 
 -- row 3: the sizes
@@ -189,9 +185,9 @@ nodes-fit fs us n e = (omega arith, omega arith)
 
 pub ready : (fs : List Float) (us : List ℕ) (n : ℕ) (departure : Float) (units rs cs ms number : ℕ) → n ≡ nodesIn (record { floats = fs; numbers = us }) → units ≡ unitsOf rs cs ms
     → number ≡ firstNumber (record { floats = fs; numbers = us }) n departure (64 * units) → number ≡ 0 → Ready fs us n rs cs ms
-unfolding firstNumber unitsOf
+unfolding unitsOf
 ready fs us n departure units rs cs ms number e f g z =
-    let d = none-of-three (tableRow3 n (64 * units)) (tableRow4 (record { floats = fs; numbers = us }) n departure) (tableRow5 (record { floats = fs; numbers = us }) n) (sym g ∙ z) in
+    let d = none-of-three (record { floats = fs; numbers = us }) n departure (64 * units) (sym g ∙ z) in
     let s = sizes-hold n units (d .0) in
     let h = nodes-fit fs us n e in record {
       room = record { floats = h .0; numbers = h .1; most = s .1 .0 };

@@ -5,18 +5,19 @@ use Prim.Native.Nat.{ℕ, zero, suc}
 use lib.Ieee.{Float}
 use Rattle.net_node.specs.Table.{Table}
 use Rattle.laws.specs.Below.{someBelow}
-use Rattle.book_format.specs.Rows.{lowest}
+use Rattle.laws.specs.Refusals.{row, firstOf}
 use Rattle.pass_table.specs.declared.TimedTable.{TimedTable}
 use Rattle.pass_table.specs.declared.TimedTable.the-variants.{Whole, Refused}
-use Rattle.pass_table.specs.TableEntry.{tableRow3, tableRow4, tableRow5, badNode}
+use Rattle.pass_table.specs.TableEntry.{tableRow5, tableRows, badNode}
 
 -- rows 4 and 5, as far as the nodes tell
 unfoldable pub nodesNumber : Table → ℕ → ℕ
-nodesNumber t n = lowest 4 (someBelow n (badNode t) ∷ tableRow5 t n ∷ [])
+nodesNumber t n = firstOf (row 4 (someBelow n (badNode t)) ∷ row 5 (tableRow5 t n) ∷ [])
 
 -- rows 3 to 5
 unfoldable pub firstNumber : Table → ℕ → Float → ℕ → ℕ
-firstNumber t n departure bytes = lowest 3 (tableRow3 n bytes ∷ tableRow4 t n departure ∷ tableRow5 t n ∷ [])
+unfolding tableRows
+firstNumber t n departure bytes = firstOf (tableRows t n departure bytes)
 
 -- the nodes that a number leaves, and the answer that it is
 abbrev pub keptNodes : ℕ → ℕ → ℕ

@@ -2,19 +2,19 @@
 -- It gives 3, 4, 5, 14, 15 or 16. Its report: nodes alone."
 use mathlib.Core.Path.{_≡_}
 use mathlib.Core.Bool.{Bool, not, _||_}
-use mathlib.Core.List.{[], _∷_}
-use Prim.Native.Nat.{ℕ, zero, suc, _+_, _*_, min}
+use mathlib.Core.List.{List, [], _∷_}
+use Prim.Native.Nat.{ℕ, _+_, _*_, min}
 use lib.Dec.{ltb, leb}
 use lib.ListN.{length}
 use lib.Ieee.{Float}
-use Rattle.laws.specs.Answer.{Answer, refused, given, andThen}
+use Rattle.laws.specs.Answer.{Answer, refused, given, andThen, unless}
 use Rattle.net_node.specs.Table.{Table, at}
 use Rattle.net_node.specs.Left.{Network, nodesIn, kindAt, floatsLeft, numbersLeft}
 use Rattle.net_node.specs.Lent.{Slices}
 use Rattle.laws.specs.Below.{someBelow}
+use Rattle.laws.specs.Refusals.{Row, row, firstOf}
 use Rattle.floats.specs.Floats.{tableFloat}
 use Rattle.space.specs.Lent.{bytesIn, Cleared}
-use Rattle.book_format.specs.Rows.{lowest}
 use Rattle.net_node.specs.declared.EstTime.{EstTime}
 use Rattle.pass_rules.specs.Passes.{passes}
 use Rattle.pass_table.specs.declared.TimedTable.{TimedTable}
@@ -48,16 +48,16 @@ unfoldable pub tableRow5 : Table → ℕ → Bool
 unfolding strayNode
 tableRow5 t n = someBelow n (λ i. strayNode n (at t i))
 
--- "Of 1 to 8 the lowest wins; after that the first met."
-abbrev pub unless : ℕ → Answer Table → Answer Table
-unless zero later = later
-unless (suc k) later = refused (suc k)
+-- "Of 1 to 8 the lowest wins; after that the first met": rows 3, 4 and 5 in their order
+unfoldable pub tableRows : Table → ℕ → Float → ℕ → List Row
+unfolding tableRow3 tableRow4 tableRow5
+tableRows t n departure bytes = row 3 (tableRow3 n bytes) ∷ row 4 (tableRow4 t n departure) ∷ row 5 (tableRow5 t n) ∷ []
 
 unfoldable pub tableTimes : Table → Float → ℕ → Answer Table
-unfolding tableRow3 tableRow4 tableRow5
+unfolding tableRows
 tableTimes t departure bytes =
     let n = nodesIn t in
-    unless (lowest 3 (tableRow3 n bytes ∷ tableRow4 t n departure ∷ tableRow5 t n ∷ [])) (passes t n departure)
+    unless (firstOf (tableRows t n departure bytes)) (passes t n departure)
 
 -- ---- what the entry promises
 

@@ -1,7 +1,7 @@
 // The table entry: times a lent node table. Contracts: specs/TableEntry.antt, those of its parts specs/Parts.antt.
 use net_node::EstTime;
 ghost use mathlib.Core.Path.{_≡_};
-ghost use mathlib.Core.Bool.{false, _||_};
+ghost use mathlib.Core.Bool.{_||_};
 ghost use mathlib.Core.List.{[], _∷_};
 ghost use Prim.Native.Nat.{_*_, _≤_};
 ghost use lib.Dec.{leb, ltb};
@@ -10,7 +10,7 @@ ghost use Rattle.net_node.specs.Table.{floatWidth, numberWidth};
 ghost use Rattle.net_node.specs.Left.{nodesIn};
 ghost use Rattle.net_node.specs.Lent.{tableAtEntry, tableAtExit, lentAtEntry, lentAtExit};
 ghost use Rattle.space.specs.Lent.{workAtEntry, bytesIn};
-ghost use Rattle.book_format.specs.Rows.{lowest};
+ghost use Rattle.laws.specs.Refusals.{row, firstOf};
 ghost use Rattle.pass_all.specs.Answers.{TimedAs};
 ghost use Rattle.pass_table.specs.TableEntry.{tableRow3, badFloats, strayNode, tableTimes, TimesUpdated};
 ghost use Rattle.pass_table.specs.Parts.{nodesNumber, firstNumber, keptNodes, answerAs};
@@ -63,7 +63,7 @@ fn is_stray_node(n: usize, node: EstTime) -> bool
 
 // 5 if a node is stray, else 0.
 fn five_if(stray: bool) -> u32
-    ensures { λ r. ⌜ r ≡ lowest 4 (false ∷ stray ∷ []) ⌝ }
+    ensures { λ r. ⌜ r ≡ firstOf (row 5 stray ∷ []) ⌝ }
 {
     if stray { 5 } else { 0 }
 }

@@ -35,7 +35,11 @@ same-length-2 c = c .before .before .before .before .loop .inv .numbers-size
 returns : tie.Need-returns Inv-loop μ-loop
 returns c =
     let e = subst (NextOf _ _) (c .before .enum-told .given .1) (c .before .before .before .next-event .ensures) in
-    (end-answer (c .before .before .before .before .loop .inv) e _ (c .listed .ensures), (end-floats (c .before .before .before .before .loop .inv) e _ (c .listed .ensures), end-numbers (c .before .before .before .before .loop .inv) e _ (c .listed .ensures)))
+    record {
+      answer = end-answer (c .before .before .before .before .loop .inv) e _ (c .listed .ensures);
+      floats = end-floats (c .before .before .before .before .loop .inv) e _ (c .listed .ensures);
+      numbers = end-numbers (c .before .before .before .before .loop .inv) e _ (c .listed .ensures);
+    }
 
 same-length-3 : tie.Need-same-length-3 Inv-loop μ-loop
 same-length-3 c = c .before .before .before .before .before .before .loop .inv .floats-size
@@ -44,7 +48,11 @@ same-length-4 : tie.Need-same-length-4 Inv-loop μ-loop
 same-length-4 c = c .before .before .before .before .before .before .loop .inv .numbers-size
 
 returns-2 : tie.Need-returns-2 Inv-loop μ-loop
-returns-2 c = (bad-answer (c .before .before .before .before .before .before .loop .inv) _ _ (subst (NextOf _ _) (c .before .before .before .next .given .1) (c .before .before .before .before .before .next-event .ensures)) (sym (c .before .is-bad-point .ensures) ∙ c .if1 .taken), (tt, tt))
+returns-2 c = record {
+  answer = bad-answer (c .before .before .before .before .before .before .loop .inv) _ _ (subst (NextOf _ _) (c .before .before .before .next .given .1) (c .before .before .before .before .before .next-event .ensures)) (sym (c .before .is-bad-point .ensures) ∙ c .if1 .taken);
+  floats = tt;
+  numbers = tt;
+}
 
 -- the next event
 next : (c : tie.After-list-event-arg2 Inv-loop μ-loop) → NextOf (courseOf (c .before .before .before .before .before .before .before .before .before .before .before .before .before .before .before .before .args .samples .now) (c .before .before .before .before .before .before .before .before .before .before .before .before .before .before .before .before .args .offsets .now) (c .before .before .before .before .before .before .before .before .before .before .before .before .before .before .before .before .args .m)) (c .before .before .before .before .before .before .before .before .loop .h) (Passed (c .before .before .before .before .before .next .given .0 .0) (c .before .before .before .before .before .next .given .0 .1 .0))

@@ -6,7 +6,7 @@ use Rattle.event_maker.proofs.list_places.Tie as tie
 
 returns : tie.Need-returns
 unfolding listPlaces
-returns c = c .fewer .ensures
+returns c = c .smaller .ensures
 
 pub list-places-spec : {M : Type 1} → statement M
 list-places-spec = tie.close (tie.spec (λ c κs. search needs) returns)

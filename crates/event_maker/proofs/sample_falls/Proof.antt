@@ -15,7 +15,7 @@ unfolding badAt
 sample-from-requires-2 c κs = (omega (arith, c .before .before .pre .0), c .before .before .pre .1 .1)
 
 returns : tie.Need-returns
-returns c = falls-is _ _ _ _ (c .before .before .before .before .before .sample-from .ensures) (c .before .before .before .before .sample-from2 .ensures)
+returns c = falls-is _ _ _ _ _ (c .before .before .sample-from .ensures) (c .before .sample-from2 .ensures) (c .sample-falls .ensures)
 
 pub sample-falls-spec : {M : Type 1} → statement M
 sample-falls-spec =
@@ -26,4 +26,5 @@ sample-falls-spec =
     (λ c. search needs)
     (λ c. search needs)
     sample-from-requires-2
+    (λ c κs. search needs)
     returns)
