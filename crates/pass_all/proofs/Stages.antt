@@ -36,12 +36,12 @@ zero-as false left = (refl, refl)
 
 -- ---- a pass that came to its end
 
-module _ (answer : Answer Pass) (n base : ℕ) (start : List ℕ) (fs : List Float) (us cells : List ℕ) where
-  pub ended : (r : Bool) → EndsAs answer n base start fs us cells r → not r ≡ false → Ends answer n base start fs us cells
-  ended r a e = subst (EndsAs answer n base start fs us cells) (not-false r e) a
+module _ (answer : Answer Pass) (n base : ℕ) (start : List ℕ) (t : Table) (cells : List ℕ) where
+  pub ended : (r : Bool) → EndsAs answer n base start t cells r → not r ≡ false → Ends answer n base start t cells
+  ended r a e = subst (EndsAs answer n base start t cells) (not-false r e) a
 
-  pub failed : (r : Bool) → EndsAs answer n base start fs us cells r → not r ≡ true → answer ≡ refused 15
-  failed r a e = subst (EndsAs answer n base start fs us cells) (not-true r e) a
+  pub failed : (r : Bool) → EndsAs answer n base start t cells r → not r ≡ true → answer ≡ refused 15
+  failed r a e = subst (EndsAs answer n base start t cells) (not-true r e) a
 
 pub room-kept : (fs gs : List Float) (us vs : List ℕ) (n : ℕ) → Room fs us n → length gs ≡ length fs → length vs ≡ length us → Room gs vs n
 room-kept fs gs us vs n r f u = record { floats = omega (arith, r .floats); numbers = omega (arith, r .numbers); most = r .most }
@@ -56,7 +56,7 @@ none-flagged cells base e i = ap (λ (s : List ℕ). ltb 0 (getD s (base + i) 0)
 from-n-on : (n i j : ℕ) → j < n → n + i ≡ 0 + j → ⊥
 from-n-on n i j h e = omega arith
 
-pub none-flagged-yet : {answer : Answer Pass} {n : ℕ} {start : List ℕ} {fs : List Float} {us cells : List ℕ} → Ends answer n 0 start fs us cells → start ≡ zeros (length start) → (i : ℕ) → doneIn cells n i ≡ false
+pub none-flagged-yet : {answer : Answer Pass} {n : ℕ} {start : List ℕ} {t : Table} {cells : List ℕ} → Ends answer n 0 start t cells → start ≡ zeros (length start) → (i : ℕ) → doneIn cells n i ≡ false
 unfolding doneIn
 none-flagged-yet {n = n} {start = start} d z i = ap (ltb 0) (d .elsewhere (n + i) (λ j h. from-n-on n i j h) ∙ ap (λ (s : List ℕ). getD s (n + i) 0) z ∙ zero-at (length start) (n + i))
 
@@ -70,7 +70,7 @@ module _ (t : Table) (n : ℕ) where
   told-backward left h = refused-as back 15 left (nonzero 14) (ap (λ (x : Answer Pass). andThen x (afterBackward n)) h)
 
   -- the pass came to its end
-  module _ {start cells : List ℕ} (left : Table) (q : Ends (backward t n) n n start (left .floats) (left .numbers) cells) where
+  module _ {start cells : List ℕ} (left : Table) (q : Ends (backward t n) n n start left cells) where
     abbrev behind : Table → Answer Table
     behind x = checkedAs (allZero x n) 16 (given x)
 
@@ -108,7 +108,7 @@ module _ (t : Table) (n : ℕ) (departure : Float) where
     told-forward left h = refused-as whole 15 left (nonzero 14) (checks-is b false e d ∙ ap (λ (x : Answer Pass). andThen x (afterForward n)) h)
 
     -- the pass came to its end
-    module _ {start cells : List ℕ} (left : Table) (q : Ends (forward t n departure) n 0 start (left .floats) (left .numbers) cells) where
+    module _ {start cells : List ℕ} (left : Table) (q : Ends (forward t n departure) n 0 start left cells) where
       timed-is : (s f : Bool) → s ≡ someLeft (doneIn cells 0) n → s ≡ f → whole ≡ checkedAs f 15 (back left n)
       timed-is s f g h =
           checks-is b false e d

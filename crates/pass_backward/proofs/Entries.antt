@@ -15,7 +15,7 @@ use Rattle.pass_rules.specs.Net.{Pass}
 use Rattle.pass_rules.specs.Backward.{queued, enqueue, passed, alternatedBy}
 use Rattle.pass_state.specs.declared.Passed.{Passed}
 use Rattle.pass_state.specs.declared.Passed.the-variants.{Queued}
-use Rattle.pass_state.specs.Held.{left, PassIn, PassAs, EnqueuedAs}
+use Rattle.pass_state.specs.Held.{PassSlices, slices, tableIn, left, PassIn, PassAs, EnqueuedAs}
 use Rattle.pass_state.proofs.Kept.{tableOf, doneAt, node-in}
 use Rattle.pass_state.proofs.Steps.{alternate-none, alternate-some}
 
@@ -30,22 +30,22 @@ unfolding enqueue passed
 alternated-at zero p curr h = absurd (h refl)
 alternated-at (suc k) p curr h = refl
 
-module _ {n base : ℕ} {start : List ℕ} {fs : List Float} {us cells : List ℕ} {ts : List Float} {ns : List ℕ} {count : ℕ} {p : Pass} (v : PassIn true n base start fs us cells ts ns count (n - 2) p) (curr : ℕ) (x : EstTime)
-    (l : x ≡ nodeAt fs us curr) where
+module _ {n base : ℕ} {start : List ℕ} {held : PassSlices} {count : ℕ} {p : Pass} (v : PassIn true n base start held count (n - 2) p) (curr : ℕ) (x : EstTime)
+    (l : x ≡ nodeAt (held .floats) (held .numbers) curr) where
   abbrev goal : Answer Pass
   goal = alternatedBy (at (p .table) curr .«idx_prev_alt») p curr
 
   goal-is : goal ≡ alternatedBy (x .«idx_prev_alt») p curr
   goal-is = ap (λ (y : EstTime). alternatedBy (y .«idx_prev_alt») p curr) (sym (node-in v curr x l))
 
-  pub prev-alt-none : x .«idx_prev_alt» ≡ 0 → PassAs (alternatedBy (at (p .table) curr .«idx_prev_alt») p curr) true n base start fs us cells ts ns (n - 1) (left (p .done) n + 1) (Queued count)
+  pub prev-alt-none : x .«idx_prev_alt» ≡ 0 → PassAs (alternatedBy (at (p .table) curr .«idx_prev_alt») p curr) true n base start held (n - 1) (left (p .done) n + 1) (Queued count)
   prev-alt-none z = alternate-none v goal (goal-is ∙ ap (λ (k : ℕ). alternatedBy k p curr) z)
 
-  pub prev-alt-some : x .«idx_prev_alt» ≢ 0 → x .«idx_prev_alt» < n → (y : EstTime) → y ≡ nodeAt fs us (x .«idx_prev_alt») → {gs : List Float} {vs flags : List ℕ}
-      → (gs ≡ setTime (tableOf fs us) (x .«idx_prev_alt») (x .«time_sched») .floats) × ((vs ≡ setTime (tableOf fs us) (x .«idx_prev_alt») (x .«time_sched») .numbers) × (flags ≡ set cells (base + x .«idx_prev_alt») 1))
+  pub prev-alt-some : x .«idx_prev_alt» ≢ 0 → x .«idx_prev_alt» < n → (y : EstTime) → y ≡ nodeAt (held .floats) (held .numbers) (x .«idx_prev_alt») → {gs : List Float} {vs flags : List ℕ}
+      → (gs ≡ setTime (tableIn held) (x .«idx_prev_alt») (x .«time_sched») .floats) × ((vs ≡ setTime (tableIn held) (x .«idx_prev_alt») (x .«time_sched») .numbers) × (flags ≡ set (held .cells) (base + x .«idx_prev_alt») 1))
       → {ts′ : List Float} {ns′ : List ℕ} {r : Passed}
-      → EnqueuedAs true ts ns ts′ ns′ count (record { time = x .«time_sched»; sub = sub binary64 (y .«time_sched») (x .«time_sched»); node = x .«idx_prev_alt» }) r → length ts ≡ length ts′ → length ns ≡ length ns′
-      → PassAs (alternatedBy (at (p .table) curr .«idx_prev_alt») p curr) true n base start gs vs flags ts′ ns′ (n - 1) (left (p .done) n + 1) r
+      → EnqueuedAs true (held .times) (held .nodes) ts′ ns′ count (record { time = x .«time_sched»; sub = sub binary64 (y .«time_sched») (x .«time_sched»); node = x .«idx_prev_alt» }) r → length (held .times) ≡ length ts′ → length (held .nodes) ≡ length ns′
+      → PassAs (alternatedBy (at (p .table) curr .«idx_prev_alt») p curr) true n base start (slices gs vs flags ts′ ns′) (n - 1) (left (p .done) n + 1) r
   prev-alt-some z h y m {gs} {vs} {flags} d q =
       let k = x .«idx_prev_alt» in
       let e : Entry = record { time = x .«time_sched»; sub = sub binary64 (y .«time_sched») (x .«time_sched»); node = k } in

@@ -16,7 +16,7 @@ use Rattle.pass_rules.specs.Net.{asserting, Pass, alsoDone}
 use Rattle.pass_rules.specs.Walks.{passOf}
 use Rattle.pass_rules.specs.Backward.{At, queued, enqueue, passed, isPassable, walkedOn, relinkWalk, swapSplit, swappedIf, relinked, alternatedBy, stepOn, step, stopsAt, stopIf, strand, addedIf, settledBy, settle, turn, turns}
 use Rattle.pass_state.specs.declared.Passed.{Passed}
-use Rattle.pass_state.specs.Held.{left, PassIn, EnqueuedAs}
+use Rattle.pass_state.specs.Held.{PassSlices, slices, tableIn, left, PassIn, EnqueuedAs}
 use Rattle.pass_state.proofs.Left.{left-kept}
 use Rattle.pass_state.proofs.Links.{linked-split}
 use Rattle.pass_state.proofs.Kept.{tableOf, tabled, doneAt, queueing, node-in, in-done}
@@ -93,8 +93,8 @@ abbrev pub walker : Float → Walker
 walker less = record { A = At; form = standing less; step = step; stops = stopsAt; stopIf = stopIf; stopped = λ a f. refl; on = λ a f. refl; strand = strand; none = strand-none; more = strand-more }
 
 -- whether the walk stops
-pub stops-as : {n base : ℕ} {start : List ℕ} {fs : List Float} {us cells : List ℕ} {ts : List Float} {ns : List ℕ} {count most : ℕ} {p : Pass} → PassIn true n base start fs us cells ts ns count most p → (less : Float) (i k : ℕ) (t : Bool)
-    → t ≡ stopsBy (λ x. x .«idx_next_alt») (nodeAt fs us k) → t ≡ stopsAt (standing less i k p)
+pub stops-as : {n base : ℕ} {start : List ℕ} {held : PassSlices} {count most : ℕ} {p : Pass} → PassIn true n base start held count most p → (less : Float) (i k : ℕ) (t : Bool)
+    → t ≡ stopsBy (λ x. x .«idx_next_alt») (nodeAt (held .floats) (held .numbers) k) → t ≡ stopsAt (standing less i k p)
 unfolding stopsAt
 stops-as v less i k t e = stops-in (λ x. x .«idx_next_alt») v k t e
 
@@ -141,23 +141,23 @@ settler n less = record {
   adds = λ p curr prev d e. adds-as less p curr prev d e;
 }
 
-module _ {n base : ℕ} {start : List ℕ} {fs : List Float} {us cells : List ℕ} {ts : List Float} {ns : List ℕ} {count most : ℕ} {p : Pass} (v : PassIn true n base start fs us cells ts ns count most p) (curr prev : ℕ) (x : EstTime)
-    (l : x ≡ nodeAt fs us curr) where
+module _ {n base : ℕ} {start : List ℕ} {held : PassSlices} {count most : ℕ} {p : Pass} (v : PassIn true n base start held count most p) (curr prev : ℕ) (x : EstTime)
+    (l : x ≡ nodeAt (held .floats) (held .numbers) curr) where
   -- the first two nodes get the time of the one behind them
   pub first-in : prev < n → {gs : List Float} {vs flags : List ℕ}
-      → (gs ≡ setTime (tableOf fs us) prev (x .«time_sched») .floats) × ((vs ≡ setTime (tableOf fs us) prev (x .«time_sched») .numbers) × (flags ≡ set cells (base + prev) 1)) → {hs : List Float} {ws marks : List ℕ}
+      → (gs ≡ setTime (tableIn held) prev (x .«time_sched») .floats) × ((vs ≡ setTime (tableIn held) prev (x .«time_sched») .numbers) × (flags ≡ set (held .cells) (base + prev) 1)) → {hs : List Float} {ws marks : List ℕ}
       → (hs ≡ setTime (tableOf gs vs) 0 (x .«time_sched») .floats) × ((ws ≡ setTime (tableOf gs vs) 0 (x .«time_sched») .numbers) × (marks ≡ set flags (base + 0) 1))
-      → PassIn true n base start hs ws marks ts ns count most (doneAt (doneAt p prev (at (p .table) curr .«time_sched»)) 0 (at (p .table) curr .«time_sched»))
+      → PassIn true n base start (slices hs ws marks (held .times) (held .nodes)) count most (doneAt (doneAt p prev (at (p .table) curr .«time_sched»)) 0 (at (p .table) curr .«time_sched»))
   first-in h {gs} {vs} {flags} d {hs} {ws} {marks} e =
-      subst (λ (y : EstTime). PassIn true n base start hs ws marks ts ns count most (doneAt (doneAt p prev (y .«time_sched»)) 0 (y .«time_sched»))) (node-in v curr x l)
+      subst (λ (y : EstTime). PassIn true n base start (slices hs ws marks (held .times) (held .nodes)) count most (doneAt (doneAt p prev (y .«time_sched»)) 0 (y .«time_sched»))) (node-in v curr x l)
       (in-done (in-done v prev h (x .«time_sched») gs vs flags d) 0 (omega arith) (x .«time_sched») hs ws marks e)
 
   -- the entry by the nodes that were loaded
-  pub leaves-in : (less : Float) (y : EstTime) → y ≡ nodeAt fs us prev → {ts′ : List Float} {ns′ : List ℕ} {r : Passed} → EnqueuedAs true ts ns ts′ ns′ count (leaving less x y curr) r
-      → EnqueuedAs true ts ns ts′ ns′ count (leaves less p curr prev) r
+  pub leaves-in : (less : Float) (y : EstTime) → y ≡ nodeAt (held .floats) (held .numbers) prev → {ts′ : List Float} {ns′ : List ℕ} {r : Passed} → EnqueuedAs true (held .times) (held .nodes) ts′ ns′ count (leaving less x y curr) r
+      → EnqueuedAs true (held .times) (held .nodes) ts′ ns′ count (leaves less p curr prev) r
   leaves-in less y m {ts′} {ns′} {r} q =
-      subst (λ (c : EstTime). EnqueuedAs true ts ns ts′ ns′ count (leaving less (at (p .table) curr) c curr) r) (node-in v prev y m)
-      (subst (λ (c : EstTime). EnqueuedAs true ts ns ts′ ns′ count (leaving less c y curr) r) (node-in v curr x l) q)
+      subst (λ (c : EstTime). EnqueuedAs true (held .times) (held .nodes) ts′ ns′ count (leaving less (at (p .table) curr) c curr) r) (node-in v prev y m)
+      (subst (λ (c : EstTime). EnqueuedAs true (held .times) (held .nodes) ts′ ns′ count (leaving less c y curr) r) (node-in v curr x l) q)
 
 pub first-fewer : (done : ℕ → Bool) (prev n : ℕ) → left (alsoDone (alsoDone done prev) 0) n ≤ left done n
 first-fewer done prev n = omega (arith, left-kept done prev n, left-kept (alsoDone done prev) 0 n)

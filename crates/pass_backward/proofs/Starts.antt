@@ -14,7 +14,7 @@ use Rattle.pass_rules.specs.Walks.{Inside, doneIn}
 use Rattle.pass_rules.specs.Backward.{turns, lastTwo, backward}
 use Rattle.pass_state.specs.declared.Passed.{Passed}
 use Rattle.pass_state.specs.declared.Passed.the-variants.{Queued, Fails}
-use Rattle.pass_state.specs.Held.{PassIn, EnqueuedAs}
+use Rattle.pass_state.specs.Held.{slices, PassIn, EnqueuedAs}
 use Rattle.pass_state.proofs.Left.{done-other}
 use Rattle.pass_state.proofs.Kept.{tableOf, flaggedAt, in-start, queued-in, in-flag-new}
 
@@ -61,7 +61,7 @@ module _ (fs : List Float) (us cells : List ℕ) (n base : ℕ) {ts ts′ : List
     pub start-in : Room fs us n → Inside (nodeAt fs us) n → 3 ≤ n → base + n ≤ length cells → ((i : ℕ) → doneIn cells base i ≡ false) → n * 2 ≤ length ts → n ≤ length ns → length ts ≡ length ts′ → length ns ≡ length ns′
         → PassIn true n base cells fs us (set (set cells (base + (n - 2)) 1) (base + (n - 1)) 1) ts′ ns′ count (n - 1) started
     start-in room inside three flags f lts lns lt ln =
-        let v0 = in-start true n base fs us cells ts ns room inside flags lts lns in
+        let v0 = in-start true n base (slices fs us cells ts ns) room inside flags lts lns in
         let v1 = queued-in v0 (lastOf n) (omega arith) (subst (EnqueuedAs true ts ns ts′ ns′ 0 (lastOf n)) e q) lt ln (n + 1) (omega arith) in
         let v2 = in-flag-new v1 (n - 2) (omega arith) (set cells (base + (n - 2)) 1) refl (f (n - 2)) n (omega arith) in
         let un : alsoDone (doneIn cells base) (n - 2) (n - 1) ≡ false = done-other (doneIn cells base) (n - 2) (n - 1) (λ (o : n - 1 ≡ n - 2). omega arith) ∙ f (n - 1) in

@@ -14,7 +14,7 @@ use Rattle.pass_rules.specs.Net.{Pass}
 use Rattle.pass_rules.specs.Forward.{timeNext, queued, enqueue, timed, alternatedBy}
 use Rattle.pass_state.specs.declared.Passed.{Passed}
 use Rattle.pass_state.specs.declared.Passed.the-variants.{Queued}
-use Rattle.pass_state.specs.Held.{left, PassIn, PassAs, EnqueuedAs}
+use Rattle.pass_state.specs.Held.{PassSlices, slices, tableIn, left, PassIn, PassAs, EnqueuedAs}
 use Rattle.pass_state.proofs.Kept.{tableOf, doneAt, node-in, in-done}
 use Rattle.pass_state.proofs.Steps.{alternate-none, alternate-some}
 use Rattle.pass_forward.specs.Strands.{reaching}
@@ -52,21 +52,21 @@ alternated-at : (k : ℕ) (p : Pass) (curr : ℕ) → k ≢ 0 → alternatedBy k
 alternated-at zero p curr h = absurd (h refl)
 alternated-at (suc k) p curr h = refl
 
-module _ {n base : ℕ} {start : List ℕ} {fs : List Float} {us cells : List ℕ} {ts : List Float} {ns : List ℕ} {count : ℕ} {p : Pass} (v : PassIn false n base start fs us cells ts ns count (n - 2) p) (curr : ℕ) (x : EstTime)
-    (l : x ≡ nodeAt fs us curr) where
+module _ {n base : ℕ} {start : List ℕ} {held : PassSlices} {count : ℕ} {p : Pass} (v : PassIn false n base start held count (n - 2) p) (curr : ℕ) (x : EstTime)
+    (l : x ≡ nodeAt (held .floats) (held .numbers) curr) where
   abbrev goal : Answer Pass
   goal = alternatedBy (at (p .table) curr .«idx_next_alt») p curr
 
   goal-is : goal ≡ alternatedBy (x .«idx_next_alt») p curr
   goal-is = ap (λ (y : EstTime). alternatedBy (y .«idx_next_alt») p curr) (sym (node-in v curr x l))
 
-  pub next-alt-none : x .«idx_next_alt» ≡ 0 → PassAs (alternatedBy (at (p .table) curr .«idx_next_alt») p curr) false n base start fs us cells ts ns (n - 1) (left (p .done) n + 1) (Queued count)
+  pub next-alt-none : x .«idx_next_alt» ≡ 0 → PassAs (alternatedBy (at (p .table) curr .«idx_next_alt») p curr) false n base start held (n - 1) (left (p .done) n + 1) (Queued count)
   next-alt-none z = alternate-none v goal (goal-is ∙ ap (λ (k : ℕ). alternatedBy k p curr) z)
 
   pub next-alt-some : x .«idx_next_alt» ≢ 0 → x .«idx_next_alt» < n → {gs : List Float} {vs flags : List ℕ}
-      → (gs ≡ setTime (tableOf fs us) (x .«idx_next_alt») (x .«time_sched») .floats) × ((vs ≡ setTime (tableOf fs us) (x .«idx_next_alt») (x .«time_sched») .numbers) × (flags ≡ set cells (base + x .«idx_next_alt») 1))
-      → {ts′ : List Float} {ns′ : List ℕ} {r : Passed} → EnqueuedAs false ts ns ts′ ns′ count (reaching (tableOf gs vs) (x .«idx_next_alt»)) r → length ts ≡ length ts′ → length ns ≡ length ns′
-      → PassAs (alternatedBy (at (p .table) curr .«idx_next_alt») p curr) false n base start gs vs flags ts′ ns′ (n - 1) (left (p .done) n + 1) r
+      → (gs ≡ setTime (tableIn held) (x .«idx_next_alt») (x .«time_sched») .floats) × ((vs ≡ setTime (tableIn held) (x .«idx_next_alt») (x .«time_sched») .numbers) × (flags ≡ set (held .cells) (base + x .«idx_next_alt») 1))
+      → {ts′ : List Float} {ns′ : List ℕ} {r : Passed} → EnqueuedAs false (held .times) (held .nodes) ts′ ns′ count (reaching (tableOf gs vs) (x .«idx_next_alt»)) r → length (held .times) ≡ length ts′ → length (held .nodes) ≡ length ns′
+      → PassAs (alternatedBy (at (p .table) curr .«idx_next_alt») p curr) false n base start (slices gs vs flags ts′ ns′) (n - 1) (left (p .done) n + 1) r
   unfolding timed
   next-alt-some z h {gs} {vs} {flags} d q =
       let k = x .«idx_next_alt» in

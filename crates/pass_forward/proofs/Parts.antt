@@ -14,7 +14,7 @@ use Rattle.laws.specs.Answer.{Answer, refused, given, andThen}
 use Rattle.pass_rules.specs.Net.{asserting, Pass}
 use Rattle.pass_rules.specs.Walks.{passOf}
 use Rattle.pass_rules.specs.Forward.{At, timeNext, queued, timed, isPassable, walkedOn, relinkWalk, swapJoin, swappedIf, relinked, alternatedBy, stepOn, step, stopsAt, stopIf, strand, addedIf, settledBy, settle, turn, turns}
-use Rattle.pass_state.specs.Held.{PassIn}
+use Rattle.pass_state.specs.Held.{PassSlices, slices, tableIn, PassIn}
 use Rattle.pass_state.proofs.Links.{linked-join}
 use Rattle.pass_state.proofs.Kept.{tableOf, tabled, doneAt, queueing, node-in, in-done}
 use Rattle.pass_state.proofs.Relinks.{Relinker}
@@ -85,8 +85,8 @@ abbrev pub walker : Walker
 walker = record { A = At; form = standing; step = step; stops = stopsAt; stopIf = stopIf; stopped = λ a f. refl; on = λ a f. refl; strand = strand; none = strand-none; more = strand-more }
 
 -- whether the walk stops
-pub stops-as : {n base : ℕ} {start : List ℕ} {fs : List Float} {us cells : List ℕ} {ts : List Float} {ns : List ℕ} {count most : ℕ} {p : Pass} → PassIn false n base start fs us cells ts ns count most p → (i k : ℕ) (t : Bool)
-    → t ≡ stopsBy (λ x. x .«idx_prev_alt») (nodeAt fs us k) → t ≡ stopsAt (standing i k p)
+pub stops-as : {n base : ℕ} {start : List ℕ} {held : PassSlices} {count most : ℕ} {p : Pass} → PassIn false n base start held count most p → (i k : ℕ) (t : Bool)
+    → t ≡ stopsBy (λ x. x .«idx_prev_alt») (nodeAt (held .floats) (held .numbers) k) → t ≡ stopsAt (standing i k p)
 unfolding stopsAt
 stops-as v i k t e = stops-in (λ x. x .«idx_prev_alt») v k t e
 
@@ -125,12 +125,12 @@ settler n = record {
 }
 
 -- the last node is timed as the one before it
-pub last-in : {n base : ℕ} {start : List ℕ} {fs : List Float} {us cells : List ℕ} {ts : List Float} {ns : List ℕ} {count most : ℕ} {p : Pass} (v : PassIn false n base start fs us cells ts ns count most p) (curr next : ℕ) → next < n
-    → (x : EstTime) → x ≡ nodeAt fs us curr → {gs : List Float} {vs flags : List ℕ}
-    → (gs ≡ setTime (tableOf fs us) next (x .«time_sched») .floats) × ((vs ≡ setTime (tableOf fs us) next (x .«time_sched») .numbers) × (flags ≡ set cells (base + next) 1))
-    → PassIn false n base start gs vs flags ts ns count most (doneAt p next (at (p .table) curr .«time_sched»))
-last-in {n} {base} {start} {fs} {us} {cells} {ts} {ns} {count} {most} {p} v curr next h x l {gs} {vs} {flags} d =
-    subst (λ (y : EstTime). PassIn false n base start gs vs flags ts ns count most (doneAt p next (y .«time_sched»))) (node-in v curr x l) (in-done v next h (x .«time_sched») gs vs flags d)
+pub last-in : {n base : ℕ} {start : List ℕ} {held : PassSlices} {count most : ℕ} {p : Pass} (v : PassIn false n base start held count most p) (curr next : ℕ) → next < n
+    → (x : EstTime) → x ≡ nodeAt (held .floats) (held .numbers) curr → {gs : List Float} {vs flags : List ℕ}
+    → (gs ≡ setTime (tableIn held) next (x .«time_sched») .floats) × ((vs ≡ setTime (tableIn held) next (x .«time_sched») .numbers) × (flags ≡ set (held .cells) (base + next) 1))
+    → PassIn false n base start (slices gs vs flags (held .times) (held .nodes)) count most (doneAt p next (at (p .table) curr .«time_sched»))
+last-in {n} {base} {start} {held} {count} {most} {p} v curr next h x l {gs} {vs} {flags} d =
+    subst (λ (y : EstTime). PassIn false n base start (slices gs vs flags (held .times) (held .nodes)) count most (doneAt p next (y .«time_sched»))) (node-in v curr x l) (in-done v next h (x .«time_sched») gs vs flags d)
 
 -- ---- turns
 

@@ -14,7 +14,7 @@ use Rattle.pass_rules.specs.Walks.{Inside, doneIn}
 use Rattle.pass_rules.specs.Forward.{turns, firstTwo, forward}
 use Rattle.pass_state.specs.declared.Passed.{Passed}
 use Rattle.pass_state.specs.declared.Passed.the-variants.{Queued, Fails}
-use Rattle.pass_state.specs.Held.{PassIn, EnqueuedAs}
+use Rattle.pass_state.specs.Held.{slices, PassIn, EnqueuedAs}
 use Rattle.pass_state.proofs.Left.{done-same, done-other}
 use Rattle.pass_state.proofs.Kept.{tableOf, doneAt, in-start, queued-in, in-done-new}
 use Rattle.pass_forward.proofs.Entries.{zero-number}
@@ -59,7 +59,7 @@ module _ (fs : List Float) (us cells : List ℕ) (n base : ℕ) (departure : Flo
         → {f2 : List Float} {u2 c2 : List ℕ} → (f2 ≡ setTime (tableOf f1 u1) 1 departure .floats) × ((u2 ≡ setTime (tableOf f1 u1) 1 departure .numbers) × (c2 ≡ set c1 (base + 1) 1))
         → PassIn false n base cells f2 u2 c2 ts′ ns′ count (n - 1) started
     start-in room inside three flags f lts lns lt ln {f1} {u1} {c1} a {f2} {u2} {c2} b =
-        let v0 = in-start false n base fs us cells ts ns room inside flags lts lns in
+        let v0 = in-start false n base (slices fs us cells ts ns) room inside flags lts lns in
         let v1 = queued-in v0 (firstOf departure) (omega arith) queued-as lt ln (n + 1) (omega arith) in
         let v2 = in-done-new v1 0 (omega arith) departure f1 u1 c1 a (f 0) n (omega arith) in
         let un : alsoDone (doneIn cells base) 0 1 ≡ false = done-other (doneIn cells base) 0 1 (λ (o : _≡_ {A = ℕ} 1 0). omega arith) ∙ f 1 in

@@ -13,7 +13,7 @@ use Rattle.pass_state.specs.declared.Passed.{Passed}
 use Rattle.pass_state.specs.declared.Passed.the-variants.{Fails}
 use Rattle.pass_state.specs.declared.Stands.{Stands}
 use Rattle.pass_state.specs.declared.Stands.the-variants.{On, Nowhere}
-use Rattle.pass_state.specs.Held.{left, PassIn, Working, Gives, PassAs, StandsBy, StandsAs, FindsBy}
+use Rattle.pass_state.specs.Held.{PassSlices, slices, left, PassIn, Working, Gives, PassAs, StandsBy, StandsAs, FindsBy}
 use Rattle.pass_state.proofs.Kept.{works, pass-after}
 
 pub record Parts : Type 1 where
@@ -25,52 +25,52 @@ pub record Parts : Type 1 where
   pub turn : Pass → Answer Pass
   pub is : (p : Pass) → turn p ≡ andThen (relink p) (λ (a : A). andThen (strand a) settle)
 
-module _ (w : Parts) {backward : Bool} {n base : ℕ} {fs : List Float} {us cells : List ℕ} {ts : List Float} {ns : List ℕ} {count : ℕ} (o : Working backward n base fs us cells ts ns count (n - 2)) (curr : ℕ)
+module _ (w : Parts) {backward : Bool} {n base : ℕ} {held : PassSlices} {count : ℕ} (o : Working backward n base held count (n - 2)) (curr : ℕ)
     (gs : List Float) (vs : List ℕ) (r : Walked)
-    (a : (p : Pass) (start : List ℕ) (ts : List Float) (ns : List ℕ) (count most : ℕ) → PassIn backward n base start fs us cells ts ns count most p
-    → FindsBy (w .relink p) (w .form curr) backward n base start gs vs cells ts ns count most (left (p .done) n + 1) r) where
+    (a : (p : Pass) (start : List ℕ) (qs : List Float) (ms : List ℕ) (count most : ℕ) → PassIn backward n base start (slices (held .floats) (held .numbers) (held .cells) qs ms) count most p
+    → FindsBy (w .relink p) (w .form curr) backward n base start (slices gs vs (held .cells) qs ms) count most (left (p .done) n + 1) r) where
   -- the relink fails
-  pub turn-endless : r ≡ Endless → (p : Pass) (start : List ℕ) → PassIn backward n base start fs us cells ts ns count (n - 2) p → PassAs (w .turn p) backward n base start gs vs cells ts ns (n - 1) (left (p .done) n) Fails
+  pub turn-endless : r ≡ Endless → (p : Pass) (start : List ℕ) → PassIn backward n base start held count (n - 2) p → PassAs (w .turn p) backward n base start (slices gs vs (held .cells) (held .times) (held .nodes)) (n - 1) (left (p .done) n) Fails
   turn-endless q p start v = record {
     told =
-        let f = subst (FindsBy (w .relink p) (w .form curr) backward n base start gs vs cells ts ns count (n - 2) (left (p .done) n + 1)) q (a p start ts ns count (n - 2) v) in
+        let f = subst (FindsBy (w .relink p) (w .form curr) backward n base start (slices gs vs (held .cells) (held .times) (held .nodes)) count (n - 2) (left (p .done) n + 1)) q (a p start (held .times) (held .nodes) count (n - 2) v) in
         w .is p ∙ ap (λ (x : Answer (w .A)). andThen x (λ (b : w .A). andThen (w .strand b) (w .settle))) f;
   }
 
   module _ (found : ℕ) (q : r ≡ Found found) where
-    found-by : (p : Pass) (start : List ℕ) → PassIn backward n base start fs us cells ts ns count (n - 2) p
-        → Gives (w .relink p) (w .form curr found) backward n base start gs vs cells ts ns count (n - 2) (left (p .done) n + 1) × (found < n)
-    found-by p start v = subst (FindsBy (w .relink p) (w .form curr) backward n base start gs vs cells ts ns count (n - 2) (left (p .done) n + 1)) q (a p start ts ns count (n - 2) v)
+    found-by : (p : Pass) (start : List ℕ) → PassIn backward n base start held count (n - 2) p
+        → Gives (w .relink p) (w .form curr found) backward n base start (slices gs vs (held .cells) (held .times) (held .nodes)) count (n - 2) (left (p .done) n + 1) × (found < n)
+    found-by p start v = subst (FindsBy (w .relink p) (w .form curr) backward n base start (slices gs vs (held .cells) (held .times) (held .nodes)) count (n - 2) (left (p .done) n + 1)) q (a p start (held .times) (held .nodes) count (n - 2) v)
 
-    pub relinked-works : Working backward n base gs vs cells ts ns count (n - 2)
+    pub relinked-works : Working backward n base (slices gs vs (held .cells) (held .times) (held .nodes)) count (n - 2)
     relinked-works = works (found-by (o .pass) (o .start) (o .holds) .0 .holds)
 
     pub relinked-within : found < n
     relinked-within = found-by (o .pass) (o .start) (o .holds) .1
 
-    module _ {fs₁ : List Float} {us₁ cells₁ : List ℕ} {ts₁ : List Float} {ns₁ : List ℕ} (s : Stands)
-        (b : (p : Pass) (start : List ℕ) → PassIn backward n base start gs vs cells ts ns count (n - 2) p
-        → StandsAs (w .strand (w .form curr found p)) (w .form) backward n base start fs₁ us₁ cells₁ ts₁ ns₁ (n - 2) (left (p .done) n) s) where
-      stood-by : (k : Stands) → s ≡ k → (p : Pass) (start : List ℕ) → PassIn backward n base start gs vs cells ts ns count (n - 2) p
-          → StandsBy (w .strand (w .form curr found p)) (w .form) backward n base start fs₁ us₁ cells₁ ts₁ ns₁ (n - 2) (left (p .done) n) k
-      stood-by k e p start v = subst (StandsAs (w .strand (w .form curr found p)) (w .form) backward n base start fs₁ us₁ cells₁ ts₁ ns₁ (n - 2) (left (p .done) n)) e (b p start v) .told
+    module _ {held₁ : PassSlices} (s : Stands)
+        (b : (p : Pass) (start : List ℕ) → PassIn backward n base start (slices gs vs (held .cells) (held .times) (held .nodes)) count (n - 2) p
+        → StandsAs (w .strand (w .form curr found p)) (w .form) backward n base start held₁ (n - 2) (left (p .done) n) s) where
+      stood-by : (k : Stands) → s ≡ k → (p : Pass) (start : List ℕ) → PassIn backward n base start (slices gs vs (held .cells) (held .times) (held .nodes)) count (n - 2) p
+          → StandsBy (w .strand (w .form curr found p)) (w .form) backward n base start held₁ (n - 2) (left (p .done) n) k
+      stood-by k e p start v = subst (StandsAs (w .strand (w .form curr found p)) (w .form) backward n base start held₁ (n - 2) (left (p .done) n)) e (b p start v) .told
 
-      turn-then : (p : Pass) (start : List ℕ) (v : PassIn backward n base start fs us cells ts ns count (n - 2) p)
+      turn-then : (p : Pass) (start : List ℕ) (v : PassIn backward n base start held count (n - 2) p)
           → w .turn p ≡ andThen (w .strand (w .form curr found (found-by p start v .0 .pass))) (w .settle)
       turn-then p start v = w .is p ∙ ap (λ (x : Answer (w .A)). andThen x (λ (b : w .A). andThen (w .strand b) (w .settle))) (found-by p start v .0 .is)
 
       -- the strand fails
-      pub turn-falls : s ≡ Nowhere → (p : Pass) (start : List ℕ) → PassIn backward n base start fs us cells ts ns count (n - 2) p
-          → PassAs (w .turn p) backward n base start fs₁ us₁ cells₁ ts₁ ns₁ (n - 1) (left (p .done) n) Fails
+      pub turn-falls : s ≡ Nowhere → (p : Pass) (start : List ℕ) → PassIn backward n base start held count (n - 2) p
+          → PassAs (w .turn p) backward n base start held₁ (n - 1) (left (p .done) n) Fails
       turn-falls e p start v =
           let g = found-by p start v .0 in
           record { told = turn-then p start v ∙ ap (λ (x : Answer (w .A)). andThen x (w .settle)) (stood-by Nowhere e (g .pass) start (g .holds)) }
 
       module _ (here ahead queued : ℕ) (e : s ≡ On here ahead queued) where
-        stood : Gives (w .strand (w .form curr found (relinked-works .pass))) (w .form here ahead) backward n base (relinked-works .start) fs₁ us₁ cells₁ ts₁ ns₁ queued (n - 2) (left (relinked-works .pass .done) n) × ((here < n) × (ahead < n))
+        stood : Gives (w .strand (w .form curr found (relinked-works .pass))) (w .form here ahead) backward n base (relinked-works .start) held₁ queued (n - 2) (left (relinked-works .pass .done) n) × ((here < n) × (ahead < n))
         stood = stood-by (On here ahead queued) e (relinked-works .pass) (relinked-works .start) (relinked-works .holds)
 
-        pub stood-works : Working backward n base fs₁ us₁ cells₁ ts₁ ns₁ queued (n - 2)
+        pub stood-works : Working backward n base held₁ queued (n - 2)
         stood-works = works (stood .0 .holds)
 
         pub stood-here : here < n
@@ -80,9 +80,9 @@ module _ (w : Parts) {backward : Bool} {n base : ℕ} {fs : List Float} {us cell
         stood-ahead = stood .1 .1
 
         -- the turn is over
-        pub turn-ends : {fs₂ : List Float} {us₂ cells₂ : List ℕ} {ts₂ : List Float} {ns₂ : List ℕ} (t : Passed)
-            → ((p : Pass) (start : List ℕ) → PassIn backward n base start fs₁ us₁ cells₁ ts₁ ns₁ queued (n - 2) p → PassAs (w .settle (w .form here ahead p)) backward n base start fs₂ us₂ cells₂ ts₂ ns₂ (n - 1) (left (p .done) n + 1) t)
-            → (p : Pass) (start : List ℕ) → PassIn backward n base start fs us cells ts ns count (n - 2) p → PassAs (w .turn p) backward n base start fs₂ us₂ cells₂ ts₂ ns₂ (n - 1) (left (p .done) n) t
+        pub turn-ends : {held₂ : PassSlices} (t : Passed)
+            → ((p : Pass) (start : List ℕ) → PassIn backward n base start held₁ queued (n - 2) p → PassAs (w .settle (w .form here ahead p)) backward n base start held₂ (n - 1) (left (p .done) n + 1) t)
+            → (p : Pass) (start : List ℕ) → PassIn backward n base start held count (n - 2) p → PassAs (w .turn p) backward n base start held₂ (n - 1) (left (p .done) n) t
         turn-ends t c p start v =
             let g = found-by p start v .0 in
             let h = stood-by (On here ahead queued) e (g .pass) start (g .holds) .0 in

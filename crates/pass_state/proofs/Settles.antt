@@ -18,7 +18,7 @@ use Rattle.pass_rules.specs.Backward.{queued}
 use Rattle.pass_rules.specs.Walks.{doneIn}
 use Rattle.pass_state.specs.declared.Passed.{Passed}
 use Rattle.pass_state.specs.declared.Passed.the-variants.{Queued, Fails}
-use Rattle.pass_state.specs.Held.{left, PassIn, PassAs, EnqueuedAs}
+use Rattle.pass_state.specs.Held.{PassSlices, slices, left, PassIn, PassAs, EnqueuedAs}
 use Rattle.pass_state.proofs.Links.{Names, names-in}
 use Rattle.pass_state.proofs.Kept.{node-in, done-in, in-more, enqueued-in, stays, pass-after}
 
@@ -42,8 +42,8 @@ both-asserted : {A : Type 0} (a b : Bool) (x : Answer A) → asserting a (assert
 both-asserted true b x = refl
 both-asserted false b x = refl
 
-module _ {n : ℕ} (w : Settler n) {backward : Bool} {base : ℕ} {start : List ℕ} {fs : List Float} {us cells : List ℕ} {ts : List Float} {ns : List ℕ} {count : ℕ} {p : Pass} (v : PassIn backward n base start fs us cells ts ns count (n - 2) p)
-    (curr next : ℕ) (x y : EstTime) (l : x ≡ nodeAt fs us curr) (m : y ≡ nodeAt fs us next) (fake : Bool) (f : fake ≡ fakeKind (x .«link_event» .«est_type»)) (d : Bool) (e : d ≡ doneIn cells base next) where
+module _ {n : ℕ} (w : Settler n) {backward : Bool} {base : ℕ} {start : List ℕ} {held : PassSlices} {count : ℕ} {p : Pass} (v : PassIn backward n base start held count (n - 2) p)
+    (curr next : ℕ) (x y : EstTime) (l : x ≡ nodeAt (held .floats) (held .numbers) curr) (m : y ≡ nodeAt (held .floats) (held .numbers) next) (fake : Bool) (f : fake ≡ fakeKind (x .«link_event» .«est_type»)) (d : Bool) (e : d ≡ doneIn (held .cells) base next) where
   fake-is : isFake (at (p .table) curr) ≡ fake
   fake-is = ap isFake (sym (node-in v curr x l)) ∙ sym f
 
@@ -55,10 +55,10 @@ module _ {n : ℕ} (w : Settler n) {backward : Bool} {base : ℕ} {start : List 
       ∙ ap (λ (z : EstTime). asserting fake (asserting (eqb curr (w .alt z)) (given p))) (sym (node-in v next y m))
       ∙ both-asserted fake (eqb curr (w .alt y)) (given p)
 
-  pub settle-joined : d ≡ true → (fake && eqb curr (w .alt y)) ≡ true → PassAs (w .settle (w .form curr next p)) backward n base start fs us cells ts ns (n - 1) (left (p .done) n + 1) (Queued count)
+  pub settle-joined : d ≡ true → (fake && eqb curr (w .alt y)) ≡ true → PassAs (w .settle (w .form curr next p)) backward n base start held (n - 1) (left (p .done) n + 1) (Queued count)
   settle-joined t b = pass-after (left (p .done) n + 1) (joined-is t ∙ ap (λ (z : Bool). asserting z (given p)) b) (omega arith) (stays v (n - 1) (omega arith) (left (p .done) n + 1) (omega arith))
 
-  pub settle-fails : d ≡ true → (fake && eqb curr (w .alt y)) ≡ false → PassAs (w .settle (w .form curr next p)) backward n base start fs us cells ts ns (n - 1) (left (p .done) n + 1) Fails
+  pub settle-fails : d ≡ true → (fake && eqb curr (w .alt y)) ≡ false → PassAs (w .settle (w .form curr next p)) backward n base start held (n - 1) (left (p .done) n + 1) Fails
   settle-fails t b = record { told = joined-is t ∙ ap (λ (z : Bool). asserting z (given p)) b }
 
   -- it is not
@@ -67,8 +67,8 @@ module _ {n : ℕ} (w : Settler n) {backward : Bool} {base : ℕ} {start : List 
     link-is b z = ap (λ (c : EstTime). eqb (w .link c) 0) (sym (node-in v next y m)) ∙ z
 
     -- and is the end
-    pub settle-end : w .link y ≡ 0 → {gs : List Float} {vs flags : List ℕ} → PassIn backward n base start gs vs flags ts ns count (n - 2) (w .ended p curr next) → left (w .ended p curr next .done) n ≤ left (p .done) n
-        → PassAs (w .settle (w .form curr next p)) backward n base start gs vs flags ts ns (n - 1) (left (p .done) n + 1) (Queued count)
+    pub settle-end : w .link y ≡ 0 → {gs : List Float} {vs flags : List ℕ} → PassIn backward n base start (slices gs vs flags (held .times) (held .nodes)) count (n - 2) (w .ended p curr next) → left (w .ended p curr next .done) n ≤ left (p .done) n
+        → PassAs (w .settle (w .form curr next p)) backward n base start (slices gs vs flags (held .times) (held .nodes)) (n - 1) (left (p .done) n + 1) (Queued count)
     settle-end z u k = record {
       told = record { pass = w .ended p curr next; is = w .ends p curr next (done-in v next d e ∙ t) (link-is true (eq-eqb (w .link y) 0 z)); holds = in-more u (n - 1) (omega arith); fewer = omega arith };
     }
@@ -81,13 +81,13 @@ module _ {n : ℕ} (w : Settler n) {backward : Bool} {base : ℕ} {start : List 
       added-is : (b : Bool) → fake ≡ b → w .settle (w .form curr next p) ≡ asserting (not b) added
       added-is b c = w .adds p curr next (done-in v next d e ∙ t) (link-is false (ne-eqb (w .link y) 0 z)) ∙ ap (λ (a : Bool). asserting (not a) added) (fake-is ∙ c)
 
-      pub settle-fake : fake ≡ true → PassAs (w .settle (w .form curr next p)) backward n base start fs us cells ts ns (n - 1) (left (p .done) n + 1) Fails
+      pub settle-fake : fake ≡ true → PassAs (w .settle (w .form curr next p)) backward n base start held (n - 1) (left (p .done) n + 1) Fails
       settle-fake b = record { told = added-is true b }
 
-      pub settle-queued : fake ≡ false → curr < n → next < n → {ts′ : List Float} {ns′ : List ℕ} {r : Passed} → EnqueuedAs backward ts ns ts′ ns′ count (w .entry p curr next) r → length ts ≡ length ts′ → length ns ≡ length ns′
-          → PassAs (w .settle (w .form curr next p)) backward n base start fs us cells ts′ ns′ (n - 1) (left (p .done) n + 1) r
+      pub settle-queued : fake ≡ false → curr < n → next < n → {ts′ : List Float} {ns′ : List ℕ} {r : Passed} → EnqueuedAs backward (held .times) (held .nodes) ts′ ns′ count (w .entry p curr next) r → length (held .times) ≡ length ts′ → length (held .nodes) ≡ length ns′
+          → PassAs (w .settle (w .form curr next p)) backward n base start (slices (held .floats) (held .numbers) (held .cells) ts′ ns′) (n - 1) (left (p .done) n + 1) r
       settle-queued b h k q lt ln =
-          let some : w .link y < n = w .inside (names-in fs us (v .inside) next k y m) in
+          let some : w .link y < n = w .inside (names-in (held .floats) (held .numbers) (v .inside) next k y m) in
           let two : 1 < n = omega (arith, z) in
           let named : w .entry p curr next .node < n = omega (arith, w .named p curr next) in
           pass-after (left (p .done) n + 1) (added-is false b) (omega arith) (enqueued-in v (w .entry p curr next) named q lt ln (n - 1) (omega arith) (left (p .done) n + 1) (omega arith))

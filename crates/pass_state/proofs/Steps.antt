@@ -17,7 +17,7 @@ use Rattle.pass_rules.specs.Walks.{doneIn}
 use Rattle.pass_state.specs.declared.Passed.{Passed}
 use Rattle.pass_state.specs.declared.Passed.the-variants.{Queued, Fails}
 use Rattle.pass_state.specs.declared.Stands.the-variants.{On, Nowhere}
-use Rattle.pass_state.specs.Held.{left, PassIn, Gives, PassAs, StandsAs, EnqueuedAs}
+use Rattle.pass_state.specs.Held.{PassSlices, slices, tableIn, left, PassIn, Gives, PassAs, StandsAs, EnqueuedAs}
 use Rattle.pass_state.proofs.Left.{left-kept, left-falls}
 use Rattle.pass_state.proofs.Links.{Names, names-in}
 use Rattle.pass_state.proofs.Kept.{tableOf, doneAt, node-in, done-in, in-done, in-done-new, enqueued-in, stays, pass-after}
@@ -43,18 +43,18 @@ module _ {n : ℕ} (w : Stepper n) (curr next : ℕ) where
   abbrev steppedBy : Pass → Answer (w .A)
   steppedBy q = asserting (not (q .done next)) (reachedBy q (w .time (q .table) curr next))
 
-module _ {n : ℕ} (w : Stepper n) {backward : Bool} {base : ℕ} {start : List ℕ} (p : Pass) (curr next : ℕ) {gs : List Float} {vs flags : List ℕ} {us′ : List Float} {vs′ : List ℕ} (r : Passed)
-    (g : PassAs (w .alternated p curr) backward n base start gs vs flags us′ vs′ (n - 1) (left (p .done) n + 1) r) where
+module _ {n : ℕ} (w : Stepper n) {backward : Bool} {base : ℕ} {start : List ℕ} (p : Pass) (curr next : ℕ) {after : PassSlices} (r : Passed)
+    (g : PassAs (w .alternated p curr) backward n base start after (n - 1) (left (p .done) n + 1) r) where
   step-after : (a : Answer Pass) → w .alternated p curr ≡ a → w .step (w .form curr next p) ≡ andThen a (steppedBy w curr next)
   step-after a e = w .is p curr next ∙ ap (λ (z : Answer Pass). andThen z (steppedBy w curr next)) e
 
   -- the alternative can't be queued
-  pub step-unqueued : r ≡ Fails → StandsAs (w .step (w .form curr next p)) (w .form) backward n base start gs vs flags us′ vs′ (n - 2) (left (p .done) n) Nowhere
-  step-unqueued e = record { told = step-after (refused 15) (subst (PassAs (w .alternated p curr) backward n base start gs vs flags us′ vs′ (n - 1) (left (p .done) n + 1)) e g .told) }
+  pub step-unqueued : r ≡ Fails → StandsAs (w .step (w .form curr next p)) (w .form) backward n base start after (n - 2) (left (p .done) n) Nowhere
+  step-unqueued e = record { told = step-after (refused 15) (subst (PassAs (w .alternated p curr) backward n base start after (n - 1) (left (p .done) n + 1)) e g .told) }
 
-  module _ (count : ℕ) (e : r ≡ Queued count) (d : Bool) (f : d ≡ doneIn flags base next) where
-    queued-as : Gives (w .alternated p curr) (λ q. q) backward n base start gs vs flags us′ vs′ count (n - 1) (left (p .done) n + 1)
-    queued-as = subst (PassAs (w .alternated p curr) backward n base start gs vs flags us′ vs′ (n - 1) (left (p .done) n + 1)) e g .told
+  module _ (count : ℕ) (e : r ≡ Queued count) (d : Bool) (f : d ≡ doneIn (after .cells) base next) where
+    queued-as : Gives (w .alternated p curr) (λ q. q) backward n base start after count (n - 1) (left (p .done) n + 1)
+    queued-as = subst (PassAs (w .alternated p curr) backward n base start after (n - 1) (left (p .done) n + 1)) e g .told
 
     step-by : (c : Bool) → d ≡ c → w .step (w .form curr next p) ≡ asserting (not c) (reachedBy w curr next (queued-as .pass) (w .time (queued-as .pass .table) curr next))
     step-by c t =
@@ -62,18 +62,18 @@ module _ {n : ℕ} (w : Stepper n) {backward : Bool} {base : ℕ} {start : List 
         step-after (given q) (queued-as .is) ∙ ap (λ (z : Bool). asserting (not z) (reachedBy w curr next q (w .time (q .table) curr next))) (done-in (queued-as .holds) next d f ∙ t)
 
     -- the node is done
-    pub step-over : d ≡ true → StandsAs (w .step (w .form curr next p)) (w .form) backward n base start gs vs flags us′ vs′ (n - 2) (left (p .done) n) Nowhere
+    pub step-over : d ≡ true → StandsAs (w .step (w .form curr next p)) (w .form) backward n base start after (n - 2) (left (p .done) n) Nowhere
     step-over t = record { told = step-by true t }
 
     -- it gets done
-    pub step-on : d ≡ false → next < n → (t : Float) → t ≡ w .time (tableOf gs vs) curr next → {fs : List Float} {us cells : List ℕ}
-        → (fs ≡ setTime (tableOf gs vs) next t .floats) × ((us ≡ setTime (tableOf gs vs) next t .numbers) × (cells ≡ set flags (base + next) 1)) → (y : EstTime) → y ≡ nodeAt fs us next
-        → StandsAs (w .step (w .form curr next p)) (w .form) backward n base start fs us cells us′ vs′ (n - 2) (left (p .done) n) (On next (w .link y) count)
+    pub step-on : d ≡ false → next < n → (t : Float) → t ≡ w .time (tableIn after) curr next → {fs : List Float} {us cells : List ℕ}
+        → (fs ≡ setTime (tableIn after) next t .floats) × ((us ≡ setTime (tableIn after) next t .numbers) × (cells ≡ set (after .cells) (base + next) 1)) → (y : EstTime) → y ≡ nodeAt fs us next
+        → StandsAs (w .step (w .form curr next p)) (w .form) backward n base start (slices fs us cells (after .times) (after .nodes)) (n - 2) (left (p .done) n) (On next (w .link y) count)
     step-on c k t s {fs} {us} {cells} o y m =
         let v = queued-as .holds in
         let q = queued-as .pass in
         let un : q .done next ≡ false = done-in v next d f ∙ c in
-        let x : PassIn backward n base start fs us cells us′ vs′ count (n - 2) (doneAt q next t) = in-done-new v next k t fs us cells o un (n - 2) (omega arith) in
+        let x : PassIn backward n base start (slices fs us cells (after .times) (after .nodes)) count (n - 2) (doneAt q next t) = in-done-new v next k t fs us cells o un (n - 2) (omega arith) in
         let e : w .time (q .table) curr next ≡ t = ap (λ (z : Table). w .time z curr next) (v .table) ∙ sym s in
         let a : reachedBy w curr next q t ≡ given (w .form next (w .link y) (doneAt q next t)) = ap (λ (z : EstTime). given (w .form next (w .link z) (doneAt q next t))) (sym (node-in x next y m)) in
         record {
@@ -85,14 +85,14 @@ module _ {n : ℕ} (w : Stepper n) {backward : Bool} {base : ℕ} {start : List 
 
 -- ---- a node's alternative
 
-module _ {backward : Bool} {n base : ℕ} {start : List ℕ} {fs : List Float} {us cells : List ℕ} {ts : List Float} {ns : List ℕ} {count : ℕ} {p : Pass} (v : PassIn backward n base start fs us cells ts ns count (n - 2) p) (a : Answer Pass) where
+module _ {backward : Bool} {n base : ℕ} {start : List ℕ} {held : PassSlices} {count : ℕ} {p : Pass} (v : PassIn backward n base start held count (n - 2) p) (a : Answer Pass) where
   -- there is none
-  pub alternate-none : a ≡ given p → PassAs a backward n base start fs us cells ts ns (n - 1) (left (p .done) n + 1) (Queued count)
+  pub alternate-none : a ≡ given p → PassAs a backward n base start held (n - 1) (left (p .done) n + 1) (Queued count)
   alternate-none e = pass-after (left (p .done) n + 1) e (omega arith) (stays v (n - 1) (omega arith) (left (p .done) n + 1) (omega arith))
 
   -- it gets done and is queued
   pub alternate-some : (k : ℕ) → 0 < k → k < n → (t : Float) (e : Entry) → e .node ≡ k → a ≡ queued (isNan (e .time) || isNan (e .sub)) (doneAt p k t) e → {gs : List Float} {vs flags : List ℕ}
-      → (gs ≡ setTime (tableOf fs us) k t .floats) × ((vs ≡ setTime (tableOf fs us) k t .numbers) × (flags ≡ set cells (base + k) 1)) → {ts′ : List Float} {ns′ : List ℕ} {r : Passed}
-      → EnqueuedAs backward ts ns ts′ ns′ count e r → length ts ≡ length ts′ → length ns ≡ length ns′ → PassAs a backward n base start gs vs flags ts′ ns′ (n - 1) (left (p .done) n + 1) r
+      → (gs ≡ setTime (tableIn held) k t .floats) × ((vs ≡ setTime (tableIn held) k t .numbers) × (flags ≡ set (held .cells) (base + k) 1)) → {ts′ : List Float} {ns′ : List ℕ} {r : Passed}
+      → EnqueuedAs backward (held .times) (held .nodes) ts′ ns′ count e r → length (held .times) ≡ length ts′ → length (held .nodes) ≡ length ns′ → PassAs a backward n base start (slices gs vs flags ts′ ns′) (n - 1) (left (p .done) n + 1) r
   alternate-some k z h t e j i {gs} {vs} {flags} d q lt ln =
       pass-after (left (p .done) n + 1) i (omega arith) (enqueued-in (in-done v k h t gs vs flags d) e (omega arith) q lt ln (n - 1) (omega arith) (left (p .done) n + 1) (omega (arith, left-kept (p .done) k n)))

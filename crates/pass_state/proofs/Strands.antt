@@ -15,17 +15,17 @@ use Rattle.pass_rules.specs.Net.{Pass}
 use Rattle.pass_rules.specs.Walks.{doneIn}
 use Rattle.pass_state.specs.declared.Stands.{Stands}
 use Rattle.pass_state.specs.declared.Stands.the-variants.{On, Nowhere}
-use Rattle.pass_state.specs.Held.{left, PassIn, Working, Gives, StandsAs}
+use Rattle.pass_state.specs.Held.{PassSlices, slices, left, PassIn, Working, Gives, StandsAs}
 use Rattle.pass_state.proofs.Left.{left-most}
 use Rattle.pass_state.proofs.Kept.{works, node-in}
 
 -- the slices have kept their lengths
-pub record SameLengths (fs₀ : List Float) (us₀ cs₀ : List ℕ) (ts₀ : List Float) (ns₀ : List ℕ) (fs : List Float) (us cs : List ℕ) (ts : List Float) (ns : List ℕ) : Type 0 where
-  pub floats : length fs ≡ length fs₀
-  pub numbers : length us ≡ length us₀
-  pub cells : length cs ≡ length cs₀
-  pub times : length ts ≡ length ts₀
-  pub nodes : length ns ≡ length ns₀
+pub record SameLengths (held₀ : PassSlices) (held : PassSlices) : Type 0 where
+  pub floats : length (held .floats) ≡ length (held₀ .floats)
+  pub numbers : length (held .numbers) ≡ length (held₀ .numbers)
+  pub cells : length (held .cells) ≡ length (held₀ .cells)
+  pub times : length (held .times) ≡ length (held₀ .times)
+  pub nodes : length (held .nodes) ≡ length (held₀ .nodes)
 
 -- a strand of either pass: on unless it stops
 pub record Walker : Type 1 where
@@ -55,53 +55,53 @@ stopsBy alt x = not (eqb (alt x) 0) || isFake x
 pub stops-by : (alt : EstTime → ℕ) (x y : EstTime) (fake : Bool) → x ≡ y → fake ≡ fakeKind (x .«link_event» .«est_type») → (not (eqb (alt x) 0) || fake) ≡ stopsBy alt y
 stops-by alt x y fake e f = ap (λ (b : Bool). not (eqb (alt x) 0) || b) f ∙ ap (stopsBy alt) e
 
-pub stops-in : (alt : EstTime → ℕ) {backward : Bool} {n base : ℕ} {start : List ℕ} {fs : List Float} {us cells : List ℕ} {ts : List Float} {ns : List ℕ} {count most : ℕ} {p : Pass}
-    → PassIn backward n base start fs us cells ts ns count most p → (k : ℕ) (t : Bool) → t ≡ stopsBy alt (nodeAt fs us k) → t ≡ stopsBy alt (at (p .table) k)
-stops-in alt {backward} {n} {base} {start} {fs} {us} v k t e = e ∙ ap (stopsBy alt) (node-in v k (nodeAt fs us k) refl)
+pub stops-in : (alt : EstTime → ℕ) {backward : Bool} {n base : ℕ} {start : List ℕ} {held : PassSlices} {count most : ℕ} {p : Pass}
+    → PassIn backward n base start held count most p → (k : ℕ) (t : Bool) → t ≡ stopsBy alt (nodeAt (held .floats) (held .numbers) k) → t ≡ stopsBy alt (at (p .table) k)
+stops-in alt {backward} {n} {base} {start} {held} v k t e = e ∙ ap (stopsBy alt) (node-in v k (nodeAt (held .floats) (held .numbers) k) refl)
 
 -- what is sought is what the strand of what is left gives
-pub record Reached (w : Walker) (goal : Answer (w .A)) (backward : Bool) (n base : ℕ) (start : List ℕ) (fs : List Float) (us cells : List ℕ) (ts : List Float) (ns : List ℕ) (count most bound here ahead : ℕ) : Type 0 where
+pub record Reached (w : Walker) (goal : Answer (w .A)) (backward : Bool) (n base : ℕ) (start : List ℕ) (held : PassSlices) (count most bound here ahead : ℕ) : Type 0 where
   pub pass : Pass
   pub fuel : ℕ
   pub is : goal ≡ w .strand fuel (w .form here ahead pass)
-  pub holds : PassIn backward n base start fs us cells ts ns count most pass
+  pub holds : PassIn backward n base start held count most pass
   pub enough : left (pass .done) n ≤ fuel
   pub fewer : left (pass .done) n ≤ bound
 
 -- where the loop stands
-pub record Stranding (w : Walker) (backward : Bool) (n base most : ℕ) (fs₀ : List Float) (us₀ cells₀ : List ℕ) (ts₀ : List Float) (ns₀ : List ℕ) (count₀ curr next : ℕ)
-    (fs : List Float) (us cells : List ℕ) (ts : List Float) (ns : List ℕ) (count here ahead : ℕ) : Type 0 where
-  pub lengths : SameLengths fs₀ us₀ cells₀ ts₀ ns₀ fs us cells ts ns
-  pub working : Working backward n base fs us cells ts ns count most
+pub record Stranding (w : Walker) (backward : Bool) (n base most : ℕ) (held₀ : PassSlices) (count₀ curr next : ℕ)
+    (held : PassSlices) (count here ahead : ℕ) : Type 0 where
+  pub lengths : SameLengths held₀ held
+  pub working : Working backward n base held count most
   pub stands : here < n
   pub looks : ahead < n
-  pub sought : (p : Pass) (start : List ℕ) → PassIn backward n base start fs₀ us₀ cells₀ ts₀ ns₀ count₀ most p
-      → Reached w (w .strand n (w .form curr next p)) backward n base start fs us cells ts ns count most (left (p .done) n) here ahead
+  pub sought : (p : Pass) (start : List ℕ) → PassIn backward n base start held₀ count₀ most p
+      → Reached w (w .strand n (w .form curr next p)) backward n base start held count most (left (p .done) n) here ahead
 
-pub lengths-same : (fs : List Float) (us cells : List ℕ) (ts : List Float) (ns : List ℕ) → SameLengths fs us cells ts ns fs us cells ts ns
-lengths-same fs us cells ts ns = record { floats = refl; numbers = refl; cells = refl; times = refl; nodes = refl }
+pub lengths-same : (held : PassSlices) → SameLengths held held
+lengths-same held = record { floats = refl; numbers = refl; cells = refl; times = refl; nodes = refl }
 
-pub strand-start : (w : Walker) {backward : Bool} {n base most : ℕ} {fs : List Float} {us cells : List ℕ} {ts : List Float} {ns : List ℕ} {count : ℕ} → Working backward n base fs us cells ts ns count most
-    → {curr next : ℕ} → curr < n → next < n → Stranding w backward n base most fs us cells ts ns count curr next fs us cells ts ns count curr next
-strand-start w {backward} {n} {base} {most} {fs} {us} {cells} {ts} {ns} {count} o {curr} {next} h k = record {
-  lengths = lengths-same fs us cells ts ns;
+pub strand-start : (w : Walker) {backward : Bool} {n base most : ℕ} {held : PassSlices} {count : ℕ} → Working backward n base held count most
+    → {curr next : ℕ} → curr < n → next < n → Stranding w backward n base most held count curr next held count curr next
+strand-start w {backward} {n} {base} {most} {held} {count} o {curr} {next} h k = record {
+  lengths = lengths-same held;
   working = o;
   stands = h;
   looks = k;
   sought = λ p start v. record { pass = p; fuel = n; is = refl; holds = v; enough = left-most (p .done) n; fewer = omega arith };
 }
 
-module _ (w : Walker) {backward : Bool} {n base most : ℕ} {fs₀ : List Float} {us₀ cells₀ : List ℕ} {ts₀ : List Float} {ns₀ : List ℕ} {count₀ curr next : ℕ}
-    {fs : List Float} {us cells : List ℕ} {ts : List Float} {ns : List ℕ} {count here ahead : ℕ} (s : Stranding w backward n base most fs₀ us₀ cells₀ ts₀ ns₀ count₀ curr next fs us cells ts ns count here ahead)
-    {gs : List Float} {vs flags : List ℕ} {us′ : List Float} {vs′ : List ℕ} (r : Stands)
-    (e : (p : Pass) (start : List ℕ) → PassIn backward n base start fs us cells ts ns count most p
-    → StandsAs (w .step (w .form here ahead p)) (w .form) backward n base start gs vs flags us′ vs′ most (left (p .done) n) r) where
+module _ (w : Walker) {backward : Bool} {n base most : ℕ} {held₀ : PassSlices} {count₀ curr next : ℕ}
+    {held : PassSlices} {count here ahead : ℕ} (s : Stranding w backward n base most held₀ count₀ curr next held count here ahead)
+    {after : PassSlices} (r : Stands)
+    (e : (p : Pass) (start : List ℕ) → PassIn backward n base start held count most p
+    → StandsAs (w .step (w .form here ahead p)) (w .form) backward n base start after most (left (p .done) n) r) where
   -- a step fails
-  pub strand-falls : r ≡ Nowhere → (p : Pass) (start : List ℕ) → PassIn backward n base start fs₀ us₀ cells₀ ts₀ ns₀ count₀ most p
-      → StandsAs (w .strand n (w .form curr next p)) (w .form) backward n base start gs vs flags us′ vs′ most (left (p .done) n) Nowhere
+  pub strand-falls : r ≡ Nowhere → (p : Pass) (start : List ℕ) → PassIn backward n base start held₀ count₀ most p
+      → StandsAs (w .strand n (w .form curr next p)) (w .form) backward n base start after most (left (p .done) n) Nowhere
   strand-falls q p start v =
       let k = s .sought p start v in
-      let g : StandsAs (w .step (w .form here ahead (k .pass))) (w .form) backward n base start gs vs flags us′ vs′ most (left (k .pass .done) n) Nowhere = subst (StandsAs (w .step (w .form here ahead (k .pass))) (w .form) backward n base start gs vs flags us′ vs′ most (left (k .pass .done) n)) q (e (k .pass) start (k .holds)) in
+      let g : StandsAs (w .step (w .form here ahead (k .pass))) (w .form) backward n base start after most (left (k .pass .done) n) Nowhere = subst (StandsAs (w .step (w .form here ahead (k .pass))) (w .form) backward n base start after most (left (k .pass .done) n)) q (e (k .pass) start (k .holds)) in
       record { told = k .is ∙ go (k .fuel) (w .form here ahead (k .pass)) (g .told) }
     where
       go : (f : ℕ) (a : w .A) → w .step a ≡ refused 15 → w .strand f a ≡ refused 15
@@ -109,26 +109,26 @@ module _ (w : Walker) {backward : Bool} {n base most : ℕ} {fs₀ : List Float}
       go (suc f) a h = after-step w f a (refused 15) h
 
   module _ (i k more : ℕ) (q : r ≡ On i k more) where
-    given-by : (p : Pass) (start : List ℕ) → PassIn backward n base start fs us cells ts ns count most p
-        → StandsAs (w .step (w .form here ahead p)) (w .form) backward n base start gs vs flags us′ vs′ most (left (p .done) n) (On i k more)
-    given-by p start v = subst (StandsAs (w .step (w .form here ahead p)) (w .form) backward n base start gs vs flags us′ vs′ most (left (p .done) n)) q (e p start v)
+    given-by : (p : Pass) (start : List ℕ) → PassIn backward n base start held count most p
+        → StandsAs (w .step (w .form here ahead p)) (w .form) backward n base start after most (left (p .done) n) (On i k more)
+    given-by p start v = subst (StandsAs (w .step (w .form here ahead p)) (w .form) backward n base start after most (left (p .done) n)) q (e p start v)
 
     pub strand-looks : k < n
     strand-looks = given-by (s .working .pass) (s .working .start) (s .working .holds) .told .1 .1
 
     -- one fewer is left
-    pub strand-less : left (doneIn flags base) n < left (doneIn cells base) n
+    pub strand-less : left (doneIn (after .cells) base) n < left (doneIn (held .cells) base) n
     strand-less =
         let o = s .working in
         let g = given-by (o .pass) (o .start) (o .holds) .told .0 in
-        let a : left (g .pass .done) n ≡ left (doneIn flags base) n = ap (λ (f : ℕ → Bool). left f n) (g .holds .done) in
-        let b : left (o .pass .done) n ≡ left (doneIn cells base) n = ap (λ (f : ℕ → Bool). left f n) (o .holds .done) in
+        let a : left (g .pass .done) n ≡ left (doneIn (after .cells) base) n = ap (λ (f : ℕ → Bool). left f n) (g .holds .done) in
+        let b : left (o .pass .done) n ≡ left (doneIn (held .cells) base) n = ap (λ (f : ℕ → Bool). left f n) (o .holds .done) in
         omega (arith, g .fewer)
 
-    module _ (t : Bool) (stop : (p : Pass) (start : List ℕ) → PassIn backward n base start gs vs flags us′ vs′ more most p → t ≡ w .stops (w .form i k p)) where
+    module _ (t : Bool) (stop : (p : Pass) (start : List ℕ) → PassIn backward n base start after more most p → t ≡ w .stops (w .form i k p)) where
       -- the walk stops
-      pub strand-ends : t ≡ true → (p : Pass) (start : List ℕ) → PassIn backward n base start fs₀ us₀ cells₀ ts₀ ns₀ count₀ most p
-          → StandsAs (w .strand n (w .form curr next p)) (w .form) backward n base start gs vs flags us′ vs′ most (left (p .done) n) (On i k more)
+      pub strand-ends : t ≡ true → (p : Pass) (start : List ℕ) → PassIn backward n base start held₀ count₀ most p
+          → StandsAs (w .strand n (w .form curr next p)) (w .form) backward n base start after most (left (p .done) n) (On i k more)
       strand-ends h p start v =
           let m = s .sought p start v in
           let g = given-by (m .pass) start (m .holds) .told in
@@ -140,7 +140,7 @@ module _ (w : Walker) {backward : Bool} {n base most : ℕ} {fs₀ : List Float}
           go {p} (suc f) l b d z u = after-stop w f (w .form here ahead p) (w .form i k b) true d u ∙ w .stopped (w .form i k b) (w .strand f)
 
       -- the walk goes on
-      pub strand-goes : t ≡ false → SameLengths fs us cells ts ns gs vs flags us′ vs′ → Stranding w backward n base most fs₀ us₀ cells₀ ts₀ ns₀ count₀ curr next gs vs flags us′ vs′ more i k
+      pub strand-goes : t ≡ false → SameLengths held after → Stranding w backward n base most held₀ count₀ curr next after more i k
       strand-goes h l =
           let o = s .working in
           let g = given-by (o .pass) (o .start) (o .holds) .told in
@@ -159,7 +159,7 @@ module _ (w : Walker) {backward : Bool} {n base most : ℕ} {fs₀ : List Float}
           }
         where
           further : {goal : Answer (w .A)} {p : Pass} {start : List ℕ} {bound : ℕ} (f : ℕ) → goal ≡ w .strand f (w .form here ahead p) → left (p .done) n ≤ f → left (p .done) n ≤ bound
-              → Gives (w .step (w .form here ahead p)) (w .form i k) backward n base start gs vs flags us′ vs′ more most (left (p .done) n) → Reached w goal backward n base start gs vs flags us′ vs′ more most bound i k
+              → Gives (w .step (w .form here ahead p)) (w .form i k) backward n base start after more most (left (p .done) n) → Reached w goal backward n base start after more most bound i k
           further zero is l m g = absurd (not-suc-le-zero (le-trans (g .fewer) l))
           further {goal} {p} {start} (suc f) is l m g =
               record {
@@ -171,6 +171,6 @@ module _ (w : Walker) {backward : Bool} {n base most : ℕ} {fs₀ : List Float}
                 fewer = omega (arith, g .fewer);
               }
 
-          on : (p : Pass) (start : List ℕ) → Reached w (w .strand n (w .form curr next p)) backward n base start fs us cells ts ns count most (left (p .done) n) here ahead
-              → Reached w (w .strand n (w .form curr next p)) backward n base start gs vs flags us′ vs′ more most (left (p .done) n) i k
+          on : (p : Pass) (start : List ℕ) → Reached w (w .strand n (w .form curr next p)) backward n base start held count most (left (p .done) n) here ahead
+              → Reached w (w .strand n (w .form curr next p)) backward n base start after more most (left (p .done) n) i k
           on p start m = further (m .fuel) (m .is) (m .enough) (m .fewer) (given-by (m .pass) start (m .holds) .told .0)

@@ -14,7 +14,7 @@ use Rattle.pass_rules.specs.Net.{Pass}
 use Rattle.pass_rules.specs.Walks.{doneIn}
 use Rattle.pass_state.specs.declared.Passed.{Passed}
 use Rattle.pass_state.specs.declared.Passed.the-variants.{Queued, Fails}
-use Rattle.pass_state.specs.Held.{left, PassIn, Working, Gives, PassAs, Ends}
+use Rattle.pass_state.specs.Held.{PassSlices, tableIn, slices, left, PassIn, Working, Gives, PassAs, Ends}
 use Rattle.pass_state.proofs.Kept.{queueing, works, Popped, in-pop, none-queued}
 use Rattle.pass_state.proofs.Strands.{SameLengths, lengths-same}
 
@@ -30,74 +30,74 @@ after-turn : (w : Turner) (k : ℕ) (p : Pass) (x : Entry) (xs : List Entry) →
 after-turn w k p x xs q a e = w .more k p x xs q ∙ ap (λ (b : Answer Pass). andThen b (w .turns k)) e
 
 -- what is sought is what the turns left give
-pub record Taken (w : Turner) (goal : Answer Pass) (n base : ℕ) (start : List ℕ) (fs : List Float) (us cells : List ℕ) (ts : List Float) (ns : List ℕ) (count : ℕ) : Type 0 where
+pub record Taken (w : Turner) (goal : Answer Pass) (n base : ℕ) (start : List ℕ) (held : PassSlices) (count : ℕ) : Type 0 where
   pub pass : Pass
   pub fuel : ℕ
   pub is : goal ≡ w .turns (suc fuel) pass
-  pub holds : PassIn (w .backward) n base start fs us cells ts ns count (n - 1) pass
+  pub holds : PassIn (w .backward) n base start held count (n - 1) pass
   pub enough : left (pass .done) n ≤ fuel
 
 -- where the loop stands
-pub record Turning (w : Turner) (n base : ℕ) (fs₀ : List Float) (us₀ cells₀ : List ℕ) (ts₀ : List Float) (ns₀ : List ℕ) (count₀ : ℕ) (fs : List Float) (us cells : List ℕ) (ts : List Float) (ns : List ℕ) (count : ℕ) : Type 0 where
-  pub lengths : SameLengths fs₀ us₀ cells₀ ts₀ ns₀ fs us cells ts ns
-  pub working : Working (w .backward) n base fs us cells ts ns count (n - 1)
-  pub sought : (p : Pass) (start : List ℕ) → PassIn (w .backward) n base start fs₀ us₀ cells₀ ts₀ ns₀ count₀ (n - 1) p → Taken w (w .turns n p) n base start fs us cells ts ns count
+pub record Turning (w : Turner) (n base : ℕ) (held₀ : PassSlices) (count₀ : ℕ) (held : PassSlices) (count : ℕ) : Type 0 where
+  pub lengths : SameLengths held₀ held
+  pub working : Working (w .backward) n base held count (n - 1)
+  pub sought : (p : Pass) (start : List ℕ) → PassIn (w .backward) n base start held₀ count₀ (n - 1) p → Taken w (w .turns n p) n base start held count
 
-pub turning-start : (w : Turner) {n base : ℕ} {fs : List Float} {us cells : List ℕ} {ts : List Float} {ns : List ℕ} {count : ℕ} → 0 < n → Working (w .backward) n base fs us cells ts ns count (n - 1)
-    → Turning w n base fs us cells ts ns count fs us cells ts ns count
-turning-start w {n} {base} {fs} {us} {cells} {ts} {ns} h o = record {
-  lengths = lengths-same fs us cells ts ns;
+pub turning-start : (w : Turner) {n base : ℕ} {held : PassSlices} {count : ℕ} → 0 < n → Working (w .backward) n base held count (n - 1)
+    → Turning w n base held count held count
+turning-start w {n} {base} {held} h o = record {
+  lengths = lengths-same held;
   working = o;
   sought = λ p start v. record { pass = p; fuel = n - 1; is = let e : n ≡ suc (n - 1) = omega arith in ap (λ (k : ℕ). w .turns k p) e; holds = v; enough = omega (arith, v .few) };
 }
 
-module _ (w : Turner) {n base : ℕ} {fs₀ : List Float} {us₀ cells₀ : List ℕ} {ts₀ : List Float} {ns₀ : List ℕ} {count₀ : ℕ} {fs : List Float} {us cells : List ℕ} {ts : List Float} {ns : List ℕ} {count : ℕ}
-    (s : Turning w n base fs₀ us₀ cells₀ ts₀ ns₀ count₀ fs us cells ts ns count) where
+module _ (w : Turner) {n base : ℕ} {held₀ : PassSlices} {count₀ : ℕ} {held : PassSlices} {count : ℕ}
+    (s : Turning w n base held₀ count₀ held count) where
   -- no entry is left
-  pub turning-ends : count ≤ 0 → (p : Pass) (start : List ℕ) → PassIn (w .backward) n base start fs₀ us₀ cells₀ ts₀ ns₀ count₀ (n - 1) p → Ends (w .turns n p) n base start fs us cells
+  pub turning-ends : count ≤ 0 → (p : Pass) (start : List ℕ) → PassIn (w .backward) n base start held₀ count₀ (n - 1) p → Ends (w .turns n p) n base start (tableIn held) (held .cells)
   turning-ends h p start v =
       let m = s .sought p start v in
       let q = m .holds in
       record { pass = m .pass; is = m .is ∙ w .ended (m .fuel) (m .pass) (none-queued q (omega arith)); table = q .table; done = q .done; elsewhere = q .elsewhere; inside = q .inside }
 
   module _ (h : 0 < count) (e : Entry) {ts′ : List Float} {ns′ : List ℕ}
-      (o : (x : Entry) (es : List Entry) → Holds (w .backward) ts ns count (x ∷ es) → (e ≡ best (w .backward) x es) × Holds (w .backward) ts′ ns′ (count - 1) (others (w .backward) x es))
-      (lt : length ts ≡ length ts′) (ln : length ns ≡ length ns′) where
-    taken-out : {start : List ℕ} {p : Pass} (v : PassIn (w .backward) n base start fs us cells ts ns count (n - 1) p) → Popped v e ts′ ns′ (n - 2)
+      (o : (x : Entry) (es : List Entry) → Holds (w .backward) (held .times) (held .nodes) count (x ∷ es) → (e ≡ best (w .backward) x es) × Holds (w .backward) ts′ ns′ (count - 1) (others (w .backward) x es))
+      (lt : length (held .times) ≡ length ts′) (ln : length (held .nodes) ≡ length ns′) where
+    taken-out : {start : List ℕ} {p : Pass} (v : PassIn (w .backward) n base start held count (n - 1) p) → Popped v e ts′ ns′ (n - 2)
     taken-out v = in-pop v h e ts′ ns′ o lt ln (n - 2) (omega arith)
 
-    pub turning-works : Working (w .backward) n base fs us cells ts′ ns′ (count - 1) (n - 2)
+    pub turning-works : Working (w .backward) n base (slices (held .floats) (held .numbers) (held .cells) ts′ ns′) (count - 1) (n - 2)
     turning-works = works (taken-out (s .working .holds) .holds)
 
     pub turning-within : e .node < n
     turning-within = taken-out (s .working .holds) .within
 
-    module _ {gs : List Float} {vs flags : List ℕ} {us′ : List Float} {vs′ : List ℕ} (r : Passed)
-        (a : (p : Pass) (start : List ℕ) → PassIn (w .backward) n base start fs us cells ts′ ns′ (count - 1) (n - 2) p → PassAs (w .turn p e) (w .backward) n base start gs vs flags us′ vs′ (n - 1) (left (p .done) n) r) where
+    module _ {after : PassSlices} (r : Passed)
+        (a : (p : Pass) (start : List ℕ) → PassIn (w .backward) n base start (slices (held .floats) (held .numbers) (held .cells) ts′ ns′) (count - 1) (n - 2) p → PassAs (w .turn p e) (w .backward) n base start after (n - 1) (left (p .done) n) r) where
       -- a turn fails
-      pub turning-falls : r ≡ Fails → (p : Pass) (start : List ℕ) → PassIn (w .backward) n base start fs₀ us₀ cells₀ ts₀ ns₀ count₀ (n - 1) p → w .turns n p ≡ refused 15
+      pub turning-falls : r ≡ Fails → (p : Pass) (start : List ℕ) → PassIn (w .backward) n base start held₀ count₀ (n - 1) p → w .turns n p ≡ refused 15
       turning-falls q p start v =
           let m = s .sought p start v in
           let t = taken-out (m .holds) in
           let k = queueing (m .pass) (others (w .backward) (t .first) (t .rest)) in
-          let g : PassAs (w .turn k e) (w .backward) n base start gs vs flags us′ vs′ (n - 1) (left (k .done) n) Fails = subst (PassAs (w .turn k e) (w .backward) n base start gs vs flags us′ vs′ (n - 1) (left (k .done) n)) q (a k start (t .holds)) in
+          let g : PassAs (w .turn k e) (w .backward) n base start after (n - 1) (left (k .done) n) Fails = subst (PassAs (w .turn k e) (w .backward) n base start after (n - 1) (left (k .done) n)) q (a k start (t .holds)) in
           m .is ∙ after-turn w (m .fuel) (m .pass) (t .first) (t .rest) (t .list) (refused 15) (ap (w .turn k) (sym (t .taken)) ∙ g .told)
 
       module _ (more : ℕ) (q : r ≡ Queued more) where
-        given-by : (p : Pass) (start : List ℕ) → PassIn (w .backward) n base start fs us cells ts′ ns′ (count - 1) (n - 2) p → PassAs (w .turn p e) (w .backward) n base start gs vs flags us′ vs′ (n - 1) (left (p .done) n) (Queued more)
-        given-by p start v = subst (PassAs (w .turn p e) (w .backward) n base start gs vs flags us′ vs′ (n - 1) (left (p .done) n)) q (a p start v)
+        given-by : (p : Pass) (start : List ℕ) → PassIn (w .backward) n base start (slices (held .floats) (held .numbers) (held .cells) ts′ ns′) (count - 1) (n - 2) p → PassAs (w .turn p e) (w .backward) n base start after (n - 1) (left (p .done) n) (Queued more)
+        given-by p start v = subst (PassAs (w .turn p e) (w .backward) n base start after (n - 1) (left (p .done) n)) q (a p start v)
 
         -- one fewer is left
-        pub turning-less : left (doneIn flags base) n < left (doneIn cells base) n
+        pub turning-less : left (doneIn (after .cells) base) n < left (doneIn (held .cells) base) n
         turning-less =
             let v = taken-out (s .working .holds) .holds in
             let g = given-by (queueing (s .working .pass) (others (w .backward) (taken-out (s .working .holds) .first) (taken-out (s .working .holds) .rest))) (s .working .start) v .told in
-            let x : left (g .pass .done) n ≡ left (doneIn flags base) n = ap (λ (f : ℕ → Bool). left f n) (g .holds .done) in
-            let y : left (s .working .pass .done) n ≡ left (doneIn cells base) n = ap (λ (f : ℕ → Bool). left f n) (s .working .holds .done) in
+            let x : left (g .pass .done) n ≡ left (doneIn (after .cells) base) n = ap (λ (f : ℕ → Bool). left f n) (g .holds .done) in
+            let y : left (s .working .pass .done) n ≡ left (doneIn (held .cells) base) n = ap (λ (f : ℕ → Bool). left f n) (s .working .holds .done) in
             omega (arith, g .fewer)
 
         -- the turn is over
-        pub turning-goes : SameLengths fs us cells ts ns gs vs flags us′ vs′ → Turning w n base fs₀ us₀ cells₀ ts₀ ns₀ count₀ gs vs flags us′ vs′ more
+        pub turning-goes : SameLengths held after → Turning w n base held₀ count₀ after more
         turning-goes l =
             let v = taken-out (s .working .holds) in
             let g = given-by (queueing (s .working .pass) (others (w .backward) (v .first) (v .rest))) (s .working .start) (v .holds) .told in
@@ -114,7 +114,7 @@ module _ (w : Turner) {n base : ℕ} {fs₀ : List Float} {us₀ cells₀ : List
             }
           where
             further : {goal : Answer Pass} {start : List ℕ} (p : Pass) (x : Entry) (xs : List Entry) (f : ℕ) → goal ≡ w .turns (suc f) p → left (p .done) n ≤ f → p .queue ≡ x ∷ xs → e ≡ best (w .backward) x xs
-                → Gives (w .turn (queueing p (others (w .backward) x xs)) e) (λ p. p) (w .backward) n base start gs vs flags us′ vs′ more (n - 1) (left (p .done) n) → Taken w goal n base start gs vs flags us′ vs′ more
+                → Gives (w .turn (queueing p (others (w .backward) x xs)) e) (λ p. p) (w .backward) n base start after more (n - 1) (left (p .done) n) → Taken w goal n base start after more
             further p x xs zero is l c b g = absurd (not-suc-le-zero (le-trans (g .fewer) l))
             further p x xs (suc f) is l c b g = record {
               pass = g .pass;
@@ -124,7 +124,7 @@ module _ (w : Turner) {n base : ℕ} {fs₀ : List Float} {us₀ cells₀ : List
               enough = omega (arith, g .fewer);
             }
 
-            on : (p : Pass) (start : List ℕ) → Taken w (w .turns n p) n base start fs us cells ts ns count → Taken w (w .turns n p) n base start gs vs flags us′ vs′ more
+            on : (p : Pass) (start : List ℕ) → Taken w (w .turns n p) n base start held count → Taken w (w .turns n p) n base start after more
             on p start m =
                 let t = taken-out (m .holds) in
                 further (m .pass) (t .first) (t .rest) (m .fuel) (m .is) (m .enough) (t .list) (t .taken) (given-by (queueing (m .pass) (others (w .backward) (t .first) (t .rest))) start (t .holds) .told)

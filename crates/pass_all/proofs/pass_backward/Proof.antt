@@ -10,19 +10,19 @@ update-times-backward-requires c κs =
     let p = c .before .before .before .before .before .before .before .before .before .before .pre in (p .0, (p .1 .0, (p .1 .1 .0, (omega (arith, p .1 .1 .1 .1 .0), (p .1 .1 .1 .1 .1 .1, (p .1 .1 .1 .0, p .1 .1 .1 .1 .1 .0))))))
 
 returns : tie.Need-returns
-returns c = told-backward _ _ _ (failed _ _ _ _ _ _ _ (c .before .before .before .before .before .before .before .before .before .before .before .update-times-backward .result) (c .before .before .before .before .before .before .before .before .before .before .before .update-times-backward .ensures) (c .if1 .taken))
+returns c = told-backward _ _ _ (failed _ _ _ _ _ _ (c .before .before .before .before .before .before .before .before .before .before .before .update-times-backward .result) (c .before .before .before .before .before .before .before .before .before .before .before .update-times-backward .ensures) (c .if1 .taken))
 
 some-left-requires : tie.Need-some-left-requires
 some-left-requires c κs = omega (arith, c .before .before .before .before .before .before .before .before .before .before .before .before .before .before .before .before .before .before .before .before .before .before .before .pre .1 .1 .1 .1 .0, c .before .before .before .before .before .before .before .before .before .before .before .before .update-times-backward .kept)
 
 returns-2 : tie.Need-returns-2
-returns-2 c = told-unpassed _ _ _ (ended _ _ _ _ _ _ _ (c .before .before .before .before .before .before .before .before .before .before .before .before .before .before .update-times-backward .result) (c .before .before .before .before .before .before .before .before .before .before .before .before .before .before .update-times-backward .ensures) (c .before .before .before .if1 .left)) _ (c .before .some-left .ensures) (c .if2 .taken)
+returns-2 c = told-unpassed _ _ _ (ended _ _ _ _ _ _ (c .before .before .before .before .before .before .before .before .before .before .before .before .before .before .update-times-backward .result) (c .before .before .before .before .before .before .before .before .before .before .before .before .before .before .update-times-backward .ensures) (c .before .before .before .if1 .left)) _ (c .before .some-left .ensures) (c .if2 .taken)
 
 all-zero-requires : tie.Need-all-zero-requires
 all-zero-requires c κs = let k = c .before .before .before .before .before .before .before .before .before .before .before .before .before .before .before .before .update-times-backward .kept in room-kept _ _ _ _ _ (c .before .before .before .before .before .before .before .before .before .before .before .before .before .before .before .before .before .before .before .before .before .before .before .before .before .before .before .pre .0) (k .0) (k .1 .0)
 
 returns-3 : tie.Need-returns-3
-returns-3 c = told-times _ _ _ (ended _ _ _ _ _ _ _ (c .before .before .before .before .before .before .before .before .before .before .before .before .before .before .before .before .before .before .update-times-backward .result) (c .before .before .before .before .before .before .before .before .before .before .before .before .before .before .before .before .before .before .update-times-backward .ensures) (c .before .before .before .before .before .before .before .if1 .left)) _ (c .before .before .before .before .before .some-left .ensures) (c .before .before .before .before .if2 .left) _ (c .before .all-zero .ensures) _ (c .sixteen-if .ensures)
+returns-3 c = told-times _ _ _ (ended _ _ _ _ _ _ (c .before .before .before .before .before .before .before .before .before .before .before .before .before .before .before .before .before .before .update-times-backward .result) (c .before .before .before .before .before .before .before .before .before .before .before .before .before .before .before .before .before .before .update-times-backward .ensures) (c .before .before .before .before .before .before .before .if1 .left)) _ (c .before .before .before .before .before .some-left .ensures) (c .before .before .before .before .if2 .left) _ (c .before .all-zero .ensures) _ (c .sixteen-if .ensures)
 
 pub pass-backward-spec : {M : Type 1} → statement M
 pass-backward-spec =

@@ -2,7 +2,7 @@
 use borrow.Author.Needs.{needs}
 use native.Mathlib.Omega.{arith}
 use Rattle.pass_rules.specs.Walks.{doneIn}
-use Rattle.pass_state.specs.Held.{left}
+use Rattle.pass_state.specs.Held.{slices, left}
 use Rattle.pass_state.proofs.Turns.{Turning, turning-start, turning-ends, turning-works, turning-within, turning-falls, turning-less, turning-goes}
 use Rattle.pass_backward.proofs.Parts.{turner}
 use Rattle.pass_backward.proofs.turns.Statement.{statement}
@@ -10,7 +10,7 @@ use Rattle.pass_backward.proofs.turns.Tie as tie
 
 abbrev Inv-loop : tie.InvT-loop
 Inv-loop floats₀ numbers₀ n cells₀ done-at times₀ nodes₀ count queued₀ floats numbers cells times nodes queued =
-    Turning (turner n) n done-at floats₀ numbers₀ cells₀ times₀ nodes₀ count floats numbers cells times nodes queued
+    Turning (turner n) n done-at (slices floats₀ numbers₀ cells₀ times₀ nodes₀) count (slices floats numbers cells times nodes) queued
 
 abbrev μ-loop : tie.MeasureT-loop
 μ-loop floats₀ numbers₀ n cells₀ done-at times₀ nodes₀ count queued₀ floats numbers cells times nodes queued = left (doneIn cells done-at) n
