@@ -8,14 +8,15 @@ use native.Mathlib.Omega.{arith}
 use borrow.Author.Tests.{eq-eqb, ne-eqb, ltb-true}
 use lib.Dec.{eqb, ltb}
 use lib.Ieee.{binary64, ofBits}
-use Rattle.net_node.proofs.Tables.{RoomIn, put-room}
+use Rattle.net_node.proofs.Tables.{RoomIn, put-room, either}
 use Rattle.laws.proofs.Answers.{Holds, holds-then}
 use Rattle.laws.proofs.Below.{or-right}
 use Rattle.net_node.specs.declared.EstTime.{EstTime}
 use Rattle.net_node.specs.Table.{blank, noLinkEvent, Table, put, at, isFake}
 use Rattle.grow_rules.specs.Run.{Arc, memberOf}
 use Rattle.grow_rules.specs.Growth.{fakeNode, leadsToEnd, Tail, roomFor, endFakes}
-use Rattle.arcs_growth.proofs.Answers.{All, either, clash, below}
+use Rattle.laws.proofs.Members.{All}
+use Rattle.laws.proofs.Cases.{not-both, below}
 use Rattle.arcs_growth.proofs.Labels.{stop, baseRole, receives, itself, Labels, Extends, labelled, labelled-old, new-role, new-goal}
 use Rattle.arcs_growth.proofs.NewNodes.{Attached}
 use Rattle.arcs_growth.proofs.Weights.{arcThere, arcOut}
@@ -192,14 +193,14 @@ module _ {b : List ℕ} {places : ℕ} {arcs : List Arc} {k : ℕ} (i : ℕ) (is
   }
     where
       ended : (j : ℕ) → memberOf is j ≡ true → (j ≡ i) ⊎ (j ≡ i → ⊥) → EndAt M (at two) (suc n) j
-      ended j m (inl q) = clash m (ap (memberOf is) q ∙ d .distinct .0)
+      ended j m (inl q) = not-both m (ap (memberOf is) q ∙ d .distinct .0)
       ended j m (inr q) =
           let o = d .ended j (or-right (eqb i j) (memberOf is j) m) in
           let w = o .within in
           record { within = omega arith; empty = attached .other j (o .within) q ∙ o .empty; self = ap itself (x .role j (o .within)) ∙ o .self }
 
       closed : (j : ℕ) → baseRole (M .role j) ≡ true → at two j .«idx_next» ≡ 0 → (j < n) ⊎ (j ≡ n) → (j ≡ i) ⊎ (j ≡ i → ⊥) → memberOf is j ≡ true
-      closed j p z (inr e) q = clash p (ap baseRole (ap (M .role) e ∙ new-role L n stop 0 0 0))
+      closed j p z (inr e) q = not-both p (ap baseRole (ap (M .role) e ∙ new-role L n stop 0 0 0))
       closed j p z (inl h) (inl q) = let c : at two j .«idx_next» ≡ n = ap (λ (m : ℕ). at two m .«idx_next») q ∙ attached .here in let w = d .graph .laid .two in absurd (omega arith)
       closed j p z (inl h) (inr q) = rest j q ∙ d .closed j h (ap baseRole (sym (x .role j h)) ∙ p) (sym (attached .other j h q) ∙ z)
 

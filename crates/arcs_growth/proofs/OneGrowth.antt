@@ -18,11 +18,11 @@ use Rattle.grow_rules.specs.Run.{Net, memberOf}
 use Rattle.grow_rules.specs.Growth.{Growth, departure, fakeNode, firstNodes, growOrigins, drive, leadsToEnd, Tail, roomFor, endFakes, lastNode, Grown, startAs, grownWith, grow}
 use Rattle.arcs_growth.specs.Read.{Read}
 use Rattle.arcs_growth.specs.Grown.{SameGrowth}
-use Rattle.arcs_growth.proofs.Answers.{All, all-so}
+use Rattle.laws.proofs.Members.{All, all-so}
+use Rattle.book_options.proofs.Apart.{kept-apart}
 use Rattle.arcs_growth.proofs.AtEvents.{Driven}
 use Rattle.arcs_growth.proofs.Driving.{drives}
 use Rattle.arcs_growth.proofs.Origins.{Ready, first-rooted, none-used, member-all, origins-ready}
-use Rattle.arcs_growth.proofs.Books.{kept-apart}
 use Rattle.arcs_growth.proofs.Agreeing.{Agree}
 use Rattle.arcs_growth.proofs.Alike.{withTable, Alike}
 use Rattle.arcs_growth.proofs.AlikeDrives.{AlikeGrowth, growth-is, drive-alike, origins-alike}

@@ -21,7 +21,7 @@ use Rattle.arcs_growth.specs.Arcs.{arcsRead, SameArcs}
 use Rattle.arcs_growth.specs.Shape.{Shape}
 use Rattle.arcs_growth.specs.Noted.{AllOfRuns, EndsInside}
 use Rattle.arcs_growth.specs.Read.{Read}
-use Rattle.arcs_growth.proofs.Answers.{All}
+use Rattle.laws.proofs.Members.{All}
 use Rattle.arcs_growth.proofs.Labels.{baseRole}
 use Rattle.arcs_growth.proofs.AtEvents.{Notes, Driven}
 use Rattle.arcs_growth.proofs.Driving.{drives}

@@ -8,14 +8,15 @@ use native.Mathlib.Omega.{arith}
 use borrow.Author.Tests.{ltb-true}
 use lib.Dec.{ltb}
 use lib.Ieee.{binary64, ofBits}
-use Rattle.net_node.proofs.Tables.{RoomIn, put-room}
+use Rattle.net_node.proofs.Tables.{RoomIn, put-room, either}
 use Rattle.laws.proofs.Answers.{Holds}
 use Rattle.laws.specs.Below.{sumBelow}
 use Rattle.net_node.specs.declared.EstTime.{EstTime}
 use Rattle.net_node.specs.Table.{blank, noLinkEvent, Table, put, at, isFake}
 use Rattle.grow_rules.specs.Run.{Arc}
 use Rattle.grow_rules.specs.Growth.{fakeNode, Tail, roomFor, lastNode}
-use Rattle.arcs_growth.proofs.Answers.{All, either, clash, below}
+use Rattle.laws.proofs.Members.{All}
+use Rattle.laws.proofs.Cases.{not-both, below}
 use Rattle.arcs_growth.proofs.Sums.{sum-same, total}
 use Rattle.arcs_growth.proofs.Labels.{baseRole, Labels, Extends}
 use Rattle.arcs_growth.proofs.Laid.{Each, Laid}
@@ -98,7 +99,7 @@ last-keeps {b} {places} {arcs} {k} alt t d = go (ltb (t .nodes) places) refl
     x = record { role = λ i h. refl; owner = λ i h. refl; goal = λ i h. refl; depth = λ i h. refl }
 
     closed : (i : ℕ) → i < n → baseRole (d .labels .role i) ≡ true → (at after i .«idx_next» ≡ 0) ⊎ (at after i .«idx_next» ≡ 0 → ⊥) → 0 < at after i .«idx_next»
-    closed i h p (inl z) = clash (d .closed i h p (sym (ap (λ (y : EstTime). y .«idx_next») (same i h)) ∙ z)) refl
+    closed i h p (inl z) = not-both (d .closed i h p (sym (ap (λ (y : EstTime). y .«idx_next») (same i h)) ∙ z)) refl
     closed i h p (inr z) = omega arith
 
     go : (r : Bool) → ltb (t .nodes) places ≡ r → Holds (Finished b places arcs k) (roomFor r (record { table = put (t .table) (t .nodes) (fakeNode 0 (t .nodes - 1) 0 (ofBits binary64 0)); nodes = suc (t .nodes) }))

@@ -6,6 +6,7 @@ use grow_state::GrowthAnswer;
 use grow_state::Plan;
 use grow_state::State;
 use net_event_map::Layout;
+use net_insertion::Place;
 use report::Report;
 ghost use mathlib.Core.Path.{_≡_};
 ghost use mathlib.Core.Bool.{true, false, not, _&&_};

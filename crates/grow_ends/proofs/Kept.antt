@@ -18,7 +18,8 @@ use Rattle.net_node.specs.Table.{Indexed, blank, noLinkEvent, Table, put, at}
 use Rattle.net_insertion.specs.Insertion.{flagged}
 use Rattle.net_insertion.proofs.Answers.{flagged-set, flagged-clear}
 use Rattle.net_event_map.specs.EventMap.{headOf}
-use Rattle.net_event_map.proofs.Lists.{known, not-both}
+use Rattle.laws.proofs.Below.{or-right}
+use Rattle.laws.proofs.Cases.{known, not-both}
 use Rattle.grow_rules.specs.Run.{Net, Run, memberOf}
 use Rattle.grow_rules.specs.Growth.{Tail, fakeNode, badFinish, leadsToEnd, roomFor, endFakes, lastNode}
 use Rattle.grow_ends.specs.declared.TailAnswer.the-variants.{Nodes}
@@ -29,12 +30,8 @@ use Rattle.grow_ends.specs.Ends.{EndsIn, Below, SomeEnds, TailAs, Marked
 pub member-first : (i : ℕ) (is : List ℕ) → memberOf (i ∷ is) i ≡ true
 member-first i is = ap (λ (b : Bool). b || memberOf is i) (eq-eqb i i refl)
 
-or-true : (a b : Bool) → b ≡ true → (a || b) ≡ true
-or-true true b h = refl
-or-true false b h = h
-
 pub member-more : (i j : ℕ) (is : List ℕ) → memberOf is j ≡ true → memberOf (i ∷ is) j ≡ true
-member-more i j is h = or-true (eqb i j) (memberOf is j) h
+member-more i j is h = or-right (eqb i j) (memberOf is j) h
 
 -- a member and a number that is none differ
 pub member-apart : (is : List ℕ) (i j : ℕ) → memberOf is i ≡ false → memberOf is j ≡ true → j ≡ i → ⊥

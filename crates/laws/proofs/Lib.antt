@@ -1,2 +1,4 @@
 pub mod Below
 pub mod Answers
+pub mod Cases
+pub mod Members

@@ -38,7 +38,7 @@ alternatives (suc k) node e m i es =
 
 -- ---- "With m nonzero, strands"
 
--- a strand walk: the node that it stands on, the alternatives alternativeStacked, and the new list so far
+-- a strand walk: the node that it stands on, the alternatives stacked, and the new list so far
 pub record Strand : Type 0 where
   pub here : ℕ
   pub stack : List ℕ

@@ -134,7 +134,7 @@ fn ends_strand(node: EstTime) -> bool
     arrive | (node.idx_next == 0)
 }
 
-// An entry that does not match yet: strands along nexts, with alternatives alternativeStacked, each up to the event, an Arrive or an end.
+// An entry that does not match yet: strands along nexts, with alternatives stacked, each up to the event, an Arrive or an end.
 fn follow_strands(
     floats: &[f64],
     numbers: &[u32],
