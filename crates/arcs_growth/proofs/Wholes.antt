@@ -14,7 +14,8 @@ use Rattle.laws.specs.Below.{sumBelow}
 use Rattle.net_node.specs.declared.EstTime.{EstTime}
 use Rattle.net_node.specs.Table.{blank, noLinkEvent, Table, put, at, isFake}
 use Rattle.grow_rules.specs.Run.{Arc}
-use Rattle.grow_rules.specs.Growth.{fakeNode, Tail, roomFor, lastNode}
+use Rattle.grow_rules.specs.Growth.{fakeNode, roomFor, lastNode}
+use Rattle.net_node.specs.Left.{Network}
 use Rattle.laws.proofs.Members.{All}
 use Rattle.laws.proofs.Cases.{not-both, below}
 use Rattle.arcs_growth.proofs.Sums.{sum-same, total}
@@ -69,7 +70,7 @@ pub record Whole (L : Labels) (node : ℕ → EstTime) (n : ℕ) (arcs : List Ar
   pub last-prev : node n .«idx_prev» ≡ n - 1
   pub last-prev-alt : node n .«idx_prev_alt» ≡ 0
 
-pub record Finished (b : List ℕ) (places : ℕ) (arcs : List Arc) (k : ℕ) (t : Tail) : Type 0 where
+pub record Finished (b : List ℕ) (places : ℕ) (arcs : List Arc) (k : ℕ) (t : Network) : Type 0 where
   pub room : RoomIn (t .table) places
   pub inside : t .nodes ≤ places
   pub labels : Labels
@@ -79,7 +80,7 @@ pub record Finished (b : List ℕ) (places : ℕ) (arcs : List Arc) (k : ℕ) (t
   pub notes : All (Notes b (at (t .table)) (t .nodes)) arcs
   pub linked : Linked (at (t .table)) (t .nodes) (t .nodes)
 
-pub last-keeps : {b : List ℕ} {places : ℕ} {arcs : List Arc} {k : ℕ} (alt : ℕ) (t : Tail) → Ending b places arcs k [] alt t → Holds (Finished b places arcs k) (lastNode places t)
+pub last-keeps : {b : List ℕ} {places : ℕ} {arcs : List Arc} {k : ℕ} (alt : ℕ) (t : Network) → Ending b places arcs k [] alt t → Holds (Finished b places arcs k) (lastNode places t)
 unfolding lastNode fakeNode blank noLinkEvent
 last-keeps {b} {places} {arcs} {k} alt t d = go (ltb (t .nodes) places) refl
   where
