@@ -18,13 +18,13 @@ use Rattle.grow_path.specs.Path.{linkOf, legCourse, legEvents}
 use Rattle.grow_rules.specs.Run.{Net, Run, After, memberOf, insertEvent, Outcome, Ended, On, runEvents}
 use Rattle.grow_rules.specs.Growth.{Growth, joinGap, originRun, takes, seekLeg, saves, growOrigin, growOrigins, badFinish, finishedAt, finishAs, waiting, onOver, fitsIn, saveOver, onAs, goOn, finishes, legEndAs, legDone, legAs, takeLeg, drive}
 use Rattle.arcs_growth.specs.Read.{Read}
-use Rattle.arcs_growth.proofs.Answers.{All}
+use Rattle.laws.proofs.Members.{All}
+use Rattle.book_options.proofs.Apart.{Other, Apart}
 use Rattle.arcs_growth.proofs.Insertions.{Inserts}
 use Rattle.arcs_growth.proofs.Paths.{events-real}
 use Rattle.arcs_growth.proofs.AtEvents.{Driven, Running}
 use Rattle.arcs_growth.proofs.Running.{Came, events-run}
 use Rattle.arcs_growth.proofs.Driving.{LegIn, Turned, takes-leg}
-use Rattle.arcs_growth.proofs.Books.{Other, Apart}
 use Rattle.arcs_growth.proofs.Origins.{Rooted, RootedWith, KeptAll, Unused, arrive, clear, arrive-keeps, origin-keeps}
 use Rattle.arcs_growth.proofs.Agreeing.{Agree}
 use Rattle.arcs_growth.proofs.Alike.{withTable, Alike, AlikeAfter, insert-alike}

@@ -18,7 +18,7 @@ use Rattle.net_joins.specs.declared.SpeedJoin.{SpeedJoin}
 use Rattle.net_joins.specs.Joins as Joins
 use Rattle.net_joins.specs.Joins.{chainEndAs, chainEnd, joinAt, joinedTable, closest, closestOf, appended, rebuilt, chosenAs, chosen, joinStep}
 use Rattle.grow_rules.specs.Run.{Net, Run, After, insertEvent, joinedTo, Outcome, Ended, On, goesOn, withJoins, joinedAs, eventAs, runEvent, nextEvent, runEvents}
-use Rattle.arcs_growth.proofs.Answers.{All, all-so}
+use Rattle.laws.proofs.Members.{All, all-so}
 use Rattle.arcs_growth.proofs.Labels.{Labels}
 use Rattle.arcs_growth.proofs.Invariant.{Grows, Listed, Stands}
 use Rattle.arcs_growth.proofs.Entries.{Stepped, step-right, Given, Good, GoodAll, rebuilt-good}

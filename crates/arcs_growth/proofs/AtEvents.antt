@@ -1,7 +1,7 @@
 -- A run between two events: which of its events it stands on, and which come next. Noted arcs lead between neighbouring events.
 use mathlib.Core.Path.{_≡_, refl, sym, ap, _∙_, subst}
 use mathlib.Core.Logic.{inl, inr}
-use mathlib.Core.List.{List, [], _∷_, _++_}
+use mathlib.Core.List.{List, [], _∷_, _++_, append-assoc}
 use Prim.Native.Nat.{ℕ, _<_, _≤_}
 use native.Mathlib.Omega.{arith}
 use lib.Ieee.{binary64, sub}
@@ -12,10 +12,9 @@ use Rattle.grow_path.specs.Path.{legEvents}
 use Rattle.grow_rules.specs.Run.{Arc, Net, Run, arcTo}
 use Rattle.arcs_growth.specs.Runs.{runEventsTo, NextTo, Follows}
 use Rattle.arcs_growth.specs.Noted.{OfRun}
-use Rattle.arcs_growth.proofs.Answers.{All, all-so}
+use Rattle.laws.proofs.Members.{All, all-so}
 use Rattle.arcs_growth.proofs.Labels.{Labels, Extends}
 use Rattle.arcs_growth.proofs.Invariant.{Grows, Waits}
-use Rattle.arcs_growth.proofs.Paths.{append-assoc}
 
 -- the run stands on the node of its last event, with that event's own numbers, and has es to come; its place is no origin's Arrive
 pub record AtEvent (b : List ℕ) (L : Labels) (node : ℕ → EstTime) (n : ℕ) (run : Run) (es : List TimedEvent) : Type 0 where

@@ -7,7 +7,7 @@ use Prim.Native.Nat.{ℕ, suc, _+_, _<_, _≤_}
 use native.Mathlib.Numerals.{add-one}
 use native.Mathlib.Omega.{arith}
 use lib.Ieee.{binary64, sub}
-use Rattle.net_node.proofs.Tables.{RoomIn}
+use Rattle.net_node.proofs.Tables.{RoomIn, either}
 use Rattle.net_node.specs.declared.EstTime.{EstTime}
 use Rattle.net_node.specs.declared.TimedEvent.{TimedEvent}
 use Rattle.net_node.specs.Table.{Indexed, blank, noLinkEvent, Table, at, isFake, fakeKind, withNextAlt}
@@ -15,7 +15,7 @@ use Rattle.net_insertion.specs.declared.Place.{Place}
 use Rattle.net_insertion.specs.Insertion.{linkedTo, eventNode, splitFake, addBehind, splitAt}
 use Rattle.net_insertion.proofs.Puts.{add-found, add-new, add-indexed, add-other, add-room, split-found, split-new, split-indexed, split-other, split-room}
 use Rattle.grow_rules.specs.Run.{Arc, memberOf}
-use Rattle.arcs_growth.proofs.Answers.{clash, below, either}
+use Rattle.laws.proofs.Cases.{not-both, below}
 use Rattle.arcs_growth.proofs.Labels.{Role, nought, start, event, split, join, stop, baseRole, lands, itself, Labels, Extends, labelled, labelled-old, new-role, new-goal}
 use Rattle.arcs_growth.proofs.NewNodes.{Attached, Alternated, NoStops, apart}
 use Rattle.arcs_growth.proofs.Weights.{arcThere}
@@ -158,7 +158,7 @@ module _ {L : Labels} {places : ℕ} {t : Table} {n : ℕ} {ends : List ℕ} {ar
           absurd (omega arith)
 
       ending : (j : ℕ) → memberOf ends j ≡ true → EndAt L (at t) n j → (j ≡ i) ⊎ (j ≡ i → ⊥) → EndAt M after (suc n) j
-      ending j m f (inl q) = clash m (ap (memberOf ends) q ∙ out)
+      ending j m f (inl q) = not-both m (ap (memberOf ends) q ∙ out)
       ending j m f (inr q) = let w = f .within in record { within = omega arith; empty = ap (λ (x : EstTime). x .«idx_next») (other j (f .within) q) ∙ f .empty; self = ap itself (x .role j (f .within)) ∙ f .self }
 
 -- ---- a split's Fake as the alternative of node i
@@ -235,7 +235,7 @@ module _ {L : Labels} {places : ℕ} {t : Table} {n : ℕ} {ends : List ℕ} {ar
           let w : a < n = subst (λ (m : ℕ). m < n) o (v .indexed .prev-alt j l) in
           let c = v .chains j a l o r (ap lands (sym (x .role j l)) ∙ s) in
           (ap lands (x .role a w) ∙ c .0, x .goal a w ∙ c .1 ∙ sym (x .goal j l))
-      chain j a q r s (inr y) = clash s (ap lands (ap (M .role) y ∙ new-role L n split (L .owner i) 0 0))
+      chain j a q r s (inr y) = not-both s (ap lands (ap (M .role) y ∙ new-role L n split (L .owner i) 0 0))
 
       ending : (j : ℕ) → EndAt L (at t) n j → EndAt M half (suc n) j
       ending j f = let w = f .within in record { within = omega arith; empty = split-column (λ (x : EstTime). x .«idx_next») refl j (f .within) ∙ f .empty; self = ap itself (x .role j (f .within)) ∙ f .self }

@@ -2,7 +2,7 @@
 use mathlib.Core.Path.{_≡_, refl, sym, ap, _∙_, subst}
 use mathlib.Core.Logic.{inl, inr}
 use mathlib.Core.Bool.{Bool, true, false}
-use mathlib.Core.List.{List, [], _∷_, _++_}
+use mathlib.Core.List.{List, [], _∷_, _++_, append-assoc}
 use Prim.Native.Nat.{ℕ, zero, suc, _+_, _-_, _<_, _≤_}
 use native.Mathlib.Omega.{arith}
 use borrow.Author.Tests.{eqb-true, eqb-false}
@@ -21,11 +21,12 @@ use Rattle.grow_rules.specs.Growth.{Growth, joinGap, takes, seekLeg, badFinish,
 use Rattle.arcs_growth.specs.Arcs.{one}
 use Rattle.arcs_growth.specs.Runs.{runEventsTo}
 use Rattle.arcs_growth.specs.Read.{Read}
-use Rattle.arcs_growth.proofs.Answers.{All}
+use Rattle.laws.proofs.Members.{All}
+use Rattle.book_legs.proofs.Found.{LegOf, leg-found}
 use Rattle.arcs_growth.proofs.Labels.{Labels}
 use Rattle.arcs_growth.proofs.Invariant.{Stands, Waits, Owned}
 use Rattle.arcs_growth.proofs.Finishing.{finish-tip, finish-keeps}
-use Rattle.arcs_growth.proofs.Paths.{append-assoc, LegOf, leg-found, run-events-more, events-real}
+use Rattle.arcs_growth.proofs.Paths.{run-events-more, events-real}
 use Rattle.arcs_growth.proofs.AtEvents.{AtEvent, Driven, Running}
 use Rattle.arcs_growth.proofs.Running.{Came, events-run}
 use Rattle.arcs_growth.proofs.Loads.{legCount, load, load-same, Kids, load-less}

@@ -8,14 +8,16 @@ use native.Mathlib.Omega.{arith}
 use borrow.Author.Tests.{eq-eqb, ne-eqb, ltb-true}
 use lib.Dec.{eqb, ltb}
 use lib.Ieee.{binary64, ofBits}
-use Rattle.net_node.proofs.Tables.{RoomIn, put-room}
+use Rattle.net_node.proofs.Tables.{RoomIn, put-room, either}
 use Rattle.laws.proofs.Answers.{Holds, holds-then}
 use Rattle.laws.proofs.Below.{or-right}
 use Rattle.net_node.specs.declared.EstTime.{EstTime}
 use Rattle.net_node.specs.Table.{blank, noLinkEvent, Table, put, at, isFake}
 use Rattle.grow_rules.specs.Run.{Arc, memberOf}
-use Rattle.grow_rules.specs.Growth.{fakeNode, leadsToEnd, Tail, roomFor, endFakes}
-use Rattle.arcs_growth.proofs.Answers.{All, either, clash, below}
+use Rattle.grow_rules.specs.Growth.{fakeNode, leadsToEnd, roomFor, endFakes}
+use Rattle.net_node.specs.Left.{Network}
+use Rattle.laws.proofs.Members.{All}
+use Rattle.laws.proofs.Cases.{not-both, below}
 use Rattle.arcs_growth.proofs.Labels.{stop, baseRole, receives, itself, Labels, Extends, labelled, labelled-old, new-role, new-goal}
 use Rattle.arcs_growth.proofs.NewNodes.{Attached}
 use Rattle.arcs_growth.proofs.Weights.{arcThere, arcOut}
@@ -33,7 +35,7 @@ pub record Linked (node : ℕ → EstTime) (n m : ℕ) : Type 0 where
   pub prev-alt : (i : ℕ) → i < n → node i .«idx_prev_alt» < n
 
 -- the network with these ends left; the last end Fake's next is the node to come
-pub record Ending (b : List ℕ) (places : ℕ) (arcs : List Arc) (k : ℕ) (is : List ℕ) (alt : ℕ) (t : Tail) : Type 0 where
+pub record Ending (b : List ℕ) (places : ℕ) (arcs : List Arc) (k : ℕ) (is : List ℕ) (alt : ℕ) (t : Network) : Type 0 where
   pub labels : Labels
   pub room : RoomIn (t .table) places
   pub graph : Graph labels (at (t .table)) (t .nodes) is arcs k
@@ -45,12 +47,12 @@ pub record Ending (b : List ℕ) (places : ℕ) (arcs : List Arc) (k : ℕ) (is 
   pub linked : Linked (at (t .table)) (t .nodes) (suc (t .nodes))
 
 -- the table with one end Fake more
-abbrev endTable : ℕ → ℕ → Tail → Table
+abbrev endTable : ℕ → ℕ → Network → Table
 endTable i alt t =
     put (put (t .table) (t .nodes) (fakeNode (suc (t .nodes)) i alt (ofBits binary64 0))) i
     (leadsToEnd (at (put (t .table) (t .nodes) (fakeNode (suc (t .nodes)) i alt (ofBits binary64 0))) i) (t .nodes))
 
-module _ {b : List ℕ} {places : ℕ} {arcs : List Arc} {k : ℕ} (i : ℕ) (is : List ℕ) (alt : ℕ) (t : Tail) (d : Ending b places arcs k (i ∷ is) alt t) (more : t .nodes < places) where
+module _ {b : List ℕ} {places : ℕ} {arcs : List Arc} {k : ℕ} (i : ℕ) (is : List ℕ) (alt : ℕ) (t : Network) (d : Ending b places arcs k (i ∷ is) alt t) (more : t .nodes < places) where
   abbrev n : ℕ
   n = t .nodes
 
@@ -192,23 +194,23 @@ module _ {b : List ℕ} {places : ℕ} {arcs : List Arc} {k : ℕ} (i : ℕ) (is
   }
     where
       ended : (j : ℕ) → memberOf is j ≡ true → (j ≡ i) ⊎ (j ≡ i → ⊥) → EndAt M (at two) (suc n) j
-      ended j m (inl q) = clash m (ap (memberOf is) q ∙ d .distinct .0)
+      ended j m (inl q) = not-both m (ap (memberOf is) q ∙ d .distinct .0)
       ended j m (inr q) =
           let o = d .ended j (or-right (eqb i j) (memberOf is j) m) in
           let w = o .within in
           record { within = omega arith; empty = attached .other j (o .within) q ∙ o .empty; self = ap itself (x .role j (o .within)) ∙ o .self }
 
       closed : (j : ℕ) → baseRole (M .role j) ≡ true → at two j .«idx_next» ≡ 0 → (j < n) ⊎ (j ≡ n) → (j ≡ i) ⊎ (j ≡ i → ⊥) → memberOf is j ≡ true
-      closed j p z (inr e) q = clash p (ap baseRole (ap (M .role) e ∙ new-role L n stop 0 0 0))
+      closed j p z (inr e) q = not-both p (ap baseRole (ap (M .role) e ∙ new-role L n stop 0 0 0))
       closed j p z (inl h) (inl q) = let c : at two j .«idx_next» ≡ n = ap (λ (m : ℕ). at two m .«idx_next») q ∙ attached .here in let w = d .graph .laid .two in absurd (omega arith)
       closed j p z (inl h) (inr q) = rest j q ∙ d .closed j h (ap baseRole (sym (x .role j h)) ∙ p) (sym (attached .other j h q) ∙ z)
 
 -- no end is left
-pub record Ended (b : List ℕ) (places : ℕ) (arcs : List Arc) (k : ℕ) (t : Tail) : Type 0 where
+pub record Ended (b : List ℕ) (places : ℕ) (arcs : List Arc) (k : ℕ) (t : Network) : Type 0 where
   pub alt : ℕ
   pub ending : Ending b places arcs k [] alt t
 
-pub ends-keep : {b : List ℕ} {places : ℕ} {arcs : List Arc} {k : ℕ} (is : List ℕ) (alt : ℕ) (t : Tail) → Ending b places arcs k is alt t → Holds (Ended b places arcs k) (endFakes places is alt t)
+pub ends-keep : {b : List ℕ} {places : ℕ} {arcs : List Arc} {k : ℕ} (is : List ℕ) (alt : ℕ) (t : Network) → Ending b places arcs k is alt t → Holds (Ended b places arcs k) (endFakes places is alt t)
 unfolding endFakes
 ends-keep [] alt t d = record { alt = alt; ending = d }
 ends-keep {b} {places} {arcs} {k} (i ∷ is) alt t d =

@@ -23,7 +23,8 @@ use Rattle.net_strands.specs.Entries.{entry, push, pushedAs, andThen}
 use Rattle.net_strands.specs.Space.{isArrive, pushedIf, onward, alternatives, Strand, strandFrom, Turn, Whole, Over, More, popped, poppedAfter, alternativeStacked, turnAs, turn, strandsOn, strands, followed, extendedAs, extended, extendedAll}
 use Rattle.net_joins.specs.declared.SpeedJoin.{SpeedJoin}
 use Rattle.net_joins.specs.Joins.{closerAs, closer, closestOf, closest, names, appendedIf, appendedAll, appended, rebuilt, JoinStep, JoinsTo, GoesOn, Beyond, stepWith, chosenAs, chosen, joinStep}
-use Rattle.arcs_growth.proofs.Answers.{All, all-so, clash}
+use Rattle.laws.proofs.Members.{All, all-so}
+use Rattle.laws.proofs.Cases.{not-both}
 use Rattle.arcs_growth.proofs.Invariant.{Listed}
 
 abbrev pub Given : (List EstJoinPath → Type 0) → Option (List EstJoinPath) → Type 0
@@ -134,7 +135,7 @@ module _ (node : ℕ → EstTime) (n : ℕ) (e : LinkEvent) where
         go : (a b c d : Bool) → (eqb (x .«link_idx_match») 0 || eqb (x .«link_idx_match») (e .«link_idx»)) ≡ c → Given GoodAll (extendedAs a b c d node n e x es)
         go true b c d q = g
         go false false false d q =
-            pushed Good es x g (h, λ (z : x .«link_idx_match» ≡ 0). clash (eq-eqb (x .«link_idx_match») 0 z) (none-left (eqb (x .«link_idx_match») 0) (eqb (x .«link_idx_match») (e .«link_idx»)) q))
+            pushed Good es x g (h, λ (z : x .«link_idx_match» ≡ 0). not-both (eq-eqb (x .«link_idx_match») 0 z) (none-left (eqb (x .«link_idx_match») 0) (eqb (x .«link_idx_match») (e .«link_idx»)) q))
         go false true c false q = g
         go false false true false q = g
         go false true c true q = followed-good (x .«link_idx_match») (x .«link_idx_match») (x .«est_idx_next») es h g
@@ -222,7 +223,7 @@ step-right node n places limit e old w l = go (rebuilt node n (e .«link_event»
         → Stepped node n places (e .«link_event») (chosenAs a b (c .«est_idx_join») (appended node n (e .«link_event») es))
     choose es g c (inl q) true b r s =
         let z : lt limit limit ≡ true = ap (λ (x : Float). lt x limit) (sym q) ∙ r in
-        clash z (lt-asym limit limit z)
+        not-both z (lt-asym limit limit z)
     choose es g c (inr q) true true r s = (q .0, (q .1, ltb-true n places s))
     choose es g c (inr q) true false r s = tt
     choose es g c d false b r s = list (appended node n (e .«link_event») es) (appended-listed node n (e .«link_event») es (all-so (Good node n (e .«link_event»)) (λ (x : EstJoinPath). x .«est_idx_next» < n) good es g))

@@ -14,7 +14,9 @@ use Rattle.laws.proofs.Below.{none-left, none-right}
 use Rattle.net_node.specs.declared.EstTime.{EstTime}
 use Rattle.grow_rules.specs.Run.{Arc, Net, Run, arcToEnd, memberOf}
 use Rattle.grow_rules.specs.Growth.{badFinish, finishedAt}
-use Rattle.arcs_growth.proofs.Answers.{all-so, clash, either}
+use Rattle.laws.proofs.Members.{all-so}
+use Rattle.laws.proofs.Cases.{not-both}
+use Rattle.net_node.proofs.Tables.{either}
 use Rattle.arcs_growth.proofs.Sums.{sum-point, total, total-more}
 use Rattle.arcs_growth.proofs.Labels.{baseRole, Labels, Extends}
 use Rattle.arcs_growth.proofs.Laid.{Laid}
@@ -107,7 +109,7 @@ module _ {L : Labels} {places : ℕ} {net : Net} {run : Run} {saved : List Run} 
       distinct = (tip .no-end, g .distinct);
     };
     waits = record {
-      owned = λ i h b z o. owned-popped L run saved (u .owned i h b z (none-right (eqb p i) (memberOf (net .ends) i) o)) (λ (q : i ≡ p). clash (ap (memberOf (p ∷ net .ends)) q ∙ here) o);
+      owned = λ i h b z o. owned-popped L run saved (u .owned i h b z (none-right (eqb p i) (memberOf (net .ends) i) o)) (λ (q : i ≡ p). not-both (ap (memberOf (p ∷ net .ends)) q ∙ here) o);
       stand = all-so (Stands L net) (Stands L more) (stands-more later) saved (u .stand .1);
       last = last-popped more saved (u .last .1);
     };

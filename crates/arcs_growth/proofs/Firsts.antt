@@ -12,7 +12,7 @@ use Rattle.net_node.specs.Table.{Indexed, blank, noLinkEvent, Table, put, at, i
 use Rattle.laws.specs.Below.{sumBelow}
 use Rattle.grow_rules.specs.Run.{Arc}
 use Rattle.grow_rules.specs.Growth.{departure, fakeNode, firstNodes, originRun}
-use Rattle.arcs_growth.proofs.Answers.{clash}
+use Rattle.laws.proofs.Cases.{not-both}
 use Rattle.arcs_growth.proofs.Sums.{total}
 use Rattle.arcs_growth.proofs.Labels.{Role, nought, start, event, split, join, stop, baseRole, lands, Labels}
 use Rattle.arcs_growth.proofs.Laid.{Each, Laid}
@@ -115,8 +115,8 @@ module _ (b : List ℕ) (t : Table) (places : ℕ) (room : RoomIn t places) (mor
           splits = λ p e q. apart isNought {m = nought} refl q refl refl;
           own = λ q. refl;
           owned = λ q. omega arith;
-          next = λ r e h q. clash q refl;
-          prev = λ c e q. clash q refl;
+          next = λ r e h q. not-both q refl;
+          prev = λ c e q. not-both q refl;
           events = λ q. apart isNought {m = nought} refl q refl refl;
           joins = λ r e q. apart isNought {m = nought} refl q refl refl;
           stops = λ q. apart isNought {m = nought} refl q refl refl;
@@ -129,7 +129,7 @@ module _ (b : List ℕ) (t : Table) (places : ℕ) (room : RoomIn t places) (mor
           own = λ q. refl;
           owned = λ q. omega arith;
           next = λ r e h q. absurd (closed r e h);
-          prev = λ c e q. clash q refl;
+          prev = λ c e q. not-both q refl;
           events = λ q. apart isStart {m = start} refl q refl refl;
           joins = λ r e q. apart isStart {m = start} refl q refl refl;
           stops = λ q. apart isStart {m = start} refl q refl refl;
@@ -155,8 +155,8 @@ module _ (b : List ℕ) (t : Table) (places : ℕ) (room : RoomIn t places) (mor
       indexed = first-indexed;
       graph = record { laid = first-laid; bases = refl; noted = first-noted };
       no-stops = both (λ (i : ℕ). firstRole i ≡ stop → ⊥) (λ q. apart isNought {m = nought} refl q refl refl) (λ q. apart isStart {m = start} refl q refl refl);
-      chains = λ i a h e p q. both (λ (j : ℕ). lands (firstRole j) ≡ true → (lands (firstRole a) ≡ true) × (_≡_ {A = ℕ} 0 0)) (λ z. clash z refl) (λ z. clash z refl) i h q;
-      ended = λ i o. clash o refl;
+      chains = λ i a h e p q. both (λ (j : ℕ). lands (firstRole j) ≡ true → (lands (firstRole a) ≡ true) × (_≡_ {A = ℕ} 0 0)) (λ z. not-both z refl) (λ z. not-both z refl) i h q;
+      ended = λ i o. not-both o refl;
       bottom = refl;
     };
     within = more;
@@ -167,7 +167,7 @@ module _ (b : List ℕ) (t : Table) (places : ℕ) (room : RoomIn t places) (mor
   pub first-waits : Waits firstLabels (firstNodes b t) (originRun b ∷ [])
   unfolding firstNodes originRun fakeNode blank
   first-waits = record {
-    owned = both (λ (i : ℕ). baseRole (firstRole i) ≡ true → at after i .«idx_next» ≡ 0 → false ≡ false → (i ≡ 1) ⊎ (((0 ≡ 2) × ⊥))) (λ q z o. clash q refl) (λ q z o. inl refl);
+    owned = both (λ (i : ℕ). baseRole (firstRole i) ≡ true → at after i .«idx_next» ≡ 0 → false ≡ false → (i ≡ 1) ⊎ (((0 ≡ 2) × ⊥))) (λ q z o. not-both q refl) (λ q z o. inl refl);
     stand = (record { within = omega arith; self = refl; holds = λ z o. (ap (λ (x : EstTime). x .«time_to_next») at-one, ap (λ (x : EstTime). x .«dist_to_next») at-one); listed = tt }, tt);
-    last = ((λ w. clash w refl), tt);
+    last = ((λ w. not-both w refl), tt);
   }

@@ -10,7 +10,7 @@ use Rattle.net_node.specs.declared.EstTime.{EstTime}
 use Rattle.laws.specs.Below.{sumBelow}
 use Rattle.grow_rules.specs.Run.{Arc, memberOf}
 use Rattle.arcs_growth.specs.Arcs.{one}
-use Rattle.arcs_growth.proofs.Answers.{either}
+use Rattle.net_node.proofs.Tables.{either}
 use Rattle.arcs_growth.proofs.Sums.{sum-same, sum-suc, total, total-more}
 use Rattle.arcs_growth.proofs.Labels.{Role, event, split, join, stop, baseRole, lands, Labels, Extends, labelled, labelled-old, new-role}
 use Rattle.arcs_growth.proofs.Laid.{Laid}

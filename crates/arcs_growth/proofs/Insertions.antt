@@ -21,7 +21,9 @@ use Rattle.net_insertion.specs.declared.Inserted.{Inserted}
 use Rattle.net_insertion.specs.declared.Inserted.the-variants.{Added, Moved, Refused}
 use Rattle.net_insertion.specs.Insertion.{matches, placeAt, addBehind, splitAt, inserted, insertedTable}
 use Rattle.grow_rules.specs.Run.{Net, Run, After, arcTo, addedTo, movedTo, memberOf, insertedRun, insertEvent}
-use Rattle.arcs_growth.proofs.Answers.{some-all, clash, below, either}
+use Rattle.laws.proofs.Members.{some-all}
+use Rattle.laws.proofs.Cases.{not-both, below, and-left, and-right}
+use Rattle.net_node.proofs.Tables.{either}
 use Rattle.arcs_growth.proofs.Labels.{Role, nought, start, event, split, join, stop, fakeRole, baseRole, itself, Labels, Extends, labelled, labelled-old, new-role, new-owner, new-depth}
 use Rattle.arcs_growth.proofs.Laid.{EventOf, NextOf, Laid}
 use Rattle.arcs_growth.proofs.NewNodes.{Attached}
@@ -31,14 +33,6 @@ use Rattle.arcs_growth.proofs.Bodies.{Body, self-base, new-end, event-b
 use Rattle.arcs_growth.proofs.Invariant.{Grows, Stands, Owned, Tip, Waits, Later, listed-more, waits-added}
 
 -- ---- events that are equal
-
-and-left : (a b : Bool) → (a && b) ≡ true → a ≡ true
-and-left true b e = refl
-and-left false b e = e
-
-and-right : (a b : Bool) → (a && b) ≡ true → b ≡ true
-and-right true b e = e
-and-right false b e = clash e refl
 
 pub same-event : (a b : LinkEvent) → sameEvent a b ≡ true → a ≡ b
 unfolding sameEvent sameKind
@@ -53,12 +47,12 @@ unfolding matches
 match-event limit e x h = same-event (x .«link_event») (e .«link_event») (and-left (sameEvent (x .«link_event») (e .«link_event»)) (lt (gap (e .speed) (x .speed)) limit) h)
 
 pub real-event : (r : Role) → fakeRole r ≡ false → r ≡ event
-real-event nought e = clash refl e
-real-event start e = clash refl e
+real-event nought e = not-both refl e
+real-event start e = not-both refl e
 real-event event e = refl
-real-event split e = clash refl e
-real-event join e = clash refl e
-real-event stop e = clash refl e
+real-event split e = not-both refl e
+real-event join e = not-both refl e
+real-event stop e = not-both refl e
 
 -- ---- what holds after it
 
@@ -113,7 +107,7 @@ module _ {L : Labels} {places : ℕ} {net : Net} {run : Run} {saved : List Run} 
   split-closed i h r z o = go (u .owned i h (ap baseRole r) z o)
     where
       not-self : (k : ℕ) → i ≡ k → itself (L .role k) ≡ true → ⊥
-      not-self k q m = clash m (ap (λ (j : ℕ). itself (L .role j)) (sym q) ∙ ap itself r)
+      not-self k q m = not-both m (ap (λ (j : ℕ). itself (L .role j)) (sym q) ∙ ap itself r)
 
       go : Owned L i (run ∷ saved) → ⊥
       go (inl q) = not-self p q (s .self)

@@ -10,7 +10,7 @@ use lib.ListN.{length}
 use Rattle.net_node.specs.Table.{at}
 use Rattle.net_strands.specs.declared.EstJoinPath.{EstJoinPath}
 use Rattle.grow_rules.specs.Run.{Net, Run, memberOf}
-use Rattle.arcs_growth.proofs.Answers.{All, Some, all-so}
+use Rattle.laws.proofs.Members.{All, Some, all-so}
 use Rattle.arcs_growth.proofs.Labels.{baseRole, itself, Labels, Extends}
 use Rattle.arcs_growth.proofs.Bodies.{Body}
 

@@ -6,7 +6,7 @@ use mathlib.Core.List.{List, [], _∷_}
 use Prim.Native.Nat.{ℕ, zero, suc, _+_, _-_, _<_, _≤_}
 use native.Mathlib.Omega.{arith}
 use lib.Ieee.{binary64, sub}
-use Rattle.net_node.proofs.Tables.{RoomIn, put-room}
+use Rattle.net_node.proofs.Tables.{RoomIn, put-room, either}
 use Rattle.net_node.specs.declared.LinkEvent.{LinkEvent}
 use Rattle.net_node.specs.declared.EstTime.{EstTime}
 use Rattle.net_node.specs.declared.TimedEvent.{TimedEvent}
@@ -14,7 +14,8 @@ use Rattle.net_node.specs.Table.{Indexed, blank, noLinkEvent, Table, put, at, i
 use Rattle.net_insertion.specs.Insertion.{linkedTo}
 use Rattle.net_joins.specs.Joins.{chainEndAs, chainEnd, joinFake, joinAt, joinedTable}
 use Rattle.grow_rules.specs.Run.{Net, Run, arcTo, memberOf, joinedTo}
-use Rattle.arcs_growth.proofs.Answers.{All, all-so, clash, below, either}
+use Rattle.laws.proofs.Members.{All, all-so}
+use Rattle.laws.proofs.Cases.{not-both, below}
 use Rattle.arcs_growth.proofs.Labels.{event, join, stop, baseRole, lands, itself, Labels, Extends, labelled, labelled-old, new-role, new-goal}
 use Rattle.arcs_growth.proofs.Laid.{Laid}
 use Rattle.arcs_growth.proofs.NewNodes.{Attached, apart}
@@ -207,7 +208,7 @@ owned-with {i = i} x h (r ∷ runs) (inr q) = inr (x .depth i h ∙ q .0, q .1)
 
 pub last-popped : (net : Net) (saved : List Run) → All (λ (s : Run). s .«has_split» ≡ false) saved → Last net saved
 last-popped net [] h = tt
-last-popped net (s ∷ saved) h = (λ w. clash w (h .0), h .1)
+last-popped net (s ∷ saved) h = (λ w. not-both w (h .0), h .1)
 
 module _ {L : Labels} {places : ℕ} {net : Net} {run : Run} {saved : List Run} (g : Grows L places net) (u : Waits L net (run ∷ saved)) (tip : Tip net run) (e : TimedEvent) (target : ℕ)
     (inside : target < net .nodes) (same : at (net .table) target .«link_event» ≡ e .«link_event») (real : fakeKind (e .«link_event» .«est_type») ≡ false) (room : net .nodes < places) where
@@ -304,7 +305,7 @@ module _ {L : Labels} {places : ℕ} {net : Net} {run : Run} {saved : List Run} 
   ending : (j : ℕ) → memberOf (net .ends) j ≡ true → EndAt L (at t) n j → EndAt M (at after) (suc n) j
   ending j o f =
       let w = f .within in
-      record { within = omega arith; empty = attached .other j (f .within) (λ (q : j ≡ n - 1). clash o (ap (memberOf (net .ends)) q ∙ last-out)) ∙ f .empty; self = ap itself (x .role j (f .within)) ∙ f .self }
+      record { within = omega arith; empty = attached .other j (f .within) (λ (q : j ≡ n - 1). not-both o (ap (memberOf (net .ends)) q ∙ last-out)) ∙ f .empty; self = ap itself (x .role j (f .within)) ∙ f .self }
 
   -- the last node has a next now
   closed : (j : ℕ) → j ≡ n - 1 → at after j .«idx_next» ≡ 0 → ⊥
@@ -359,4 +360,4 @@ module _ {L : Labels} {places : ℕ} {net : Net} {run : Run} {saved : List Run} 
       owned j b z o (inl l) =
           owned-with x l saved
           (owned-popped L run saved (u .owned j l (ap baseRole (sym (x .role j l)) ∙ b) (still j l z (either j (n - 1)) .0) o) (λ (q : j ≡ p). closed j (q ∙ sym last-is) z))
-      owned j b z o (inr y) = clash b (ap baseRole (ap (M .role) y ∙ m))
+      owned j b z o (inr y) = not-both b (ap baseRole (ap (M .role) y ∙ m))

@@ -8,7 +8,7 @@ use native.Mathlib.Omega.{arith}
 use Rattle.net_node.specs.Table.{isFake, fakeKind}
 use Rattle.net_node.specs.declared.EstTime.{EstTime}
 use Rattle.net_node.specs.declared.LinkEvent.{LinkEvent}
-use Rattle.arcs_growth.proofs.Answers.{clash, below}
+use Rattle.laws.proofs.Cases.{not-both, below}
 use Rattle.arcs_growth.proofs.Labels.{Role, nought, start, event, split, join, stop, fakeRole, baseRole, receives, lands, itself, Labels, Extends}
 
 -- a is the next alternative of i: a later node, a split's Fake, whose prev is i
@@ -87,8 +87,8 @@ pub record Laid (L : Labels) (node : ℕ → EstTime) (n : ℕ) : Type 0 where
 
 -- a receiver is neither node 0 nor the start, and no more is a split's Fake
 pub past-first : {L : Labels} {node : ℕ → EstTime} {n : ℕ} → Laid L node n → (P : Role → Bool) → P nought ≡ false → P start ≡ false → (i : ℕ) → P (L .role i) ≡ true → 1 < i
-past-first v P p q zero h = clash h (ap P (v .zeroth) ∙ p)
-past-first v P p q (suc zero) h = clash h (ap P (v .first) ∙ q)
+past-first v P p q zero h = not-both h (ap P (v .zeroth) ∙ p)
+past-first v P p q (suc zero) h = not-both h (ap P (v .first) ∙ q)
 past-first v P p q (suc (suc i)) h = omega arith
 
 -- ---- a step

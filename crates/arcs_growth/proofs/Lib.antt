@@ -1,4 +1,3 @@
-pub mod Answers
 pub mod Sums
 pub mod Labels
 pub mod Laid

@@ -11,7 +11,8 @@ use Rattle.book_format.specs.Format.{legs, legParent}
 use Rattle.grow_rules.specs.Run.{Run}
 use Rattle.arcs_growth.specs.Arcs.{one}
 use Rattle.arcs_growth.specs.Read.{Read}
-use Rattle.arcs_growth.proofs.Answers.{either, below}
+use Rattle.laws.proofs.Cases.{below}
+use Rattle.net_node.proofs.Tables.{either}
 use Rattle.arcs_growth.proofs.Sums.{sum-same}
 
 -- the sum of what the legs of a path count, from leg i back to its first, in so many steps

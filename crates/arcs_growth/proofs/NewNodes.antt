@@ -6,7 +6,8 @@ use Prim.Native.Nat.{ℕ, suc, _<_, _≤_}
 use native.Mathlib.Omega.{arith}
 use Rattle.net_node.specs.Table.{isFake}
 use Rattle.net_node.specs.declared.EstTime.{EstTime}
-use Rattle.arcs_growth.proofs.Answers.{clash, either}
+use Rattle.laws.proofs.Cases.{not-both}
+use Rattle.net_node.proofs.Tables.{either}
 use Rattle.arcs_growth.proofs.Labels.{Role, nought, start, event, split, join, stop, fakeRole, baseRole, receives, lands, itself, Labels, Extends, labelled, labelled-old, new-role, new-owner, new-goal, new-depth}
 use Rattle.arcs_growth.proofs.Laid.{SplitOf, PrevOf, JoinOf, Laid, Step, laterRole, step-laid}
 
@@ -28,7 +29,7 @@ isStop stop = true
 
 -- two roles that a property tells apart
 pub apart : {X : Type 0} (P : Role → Bool) {m r s : Role} → m ≡ r → m ≡ s → P r ≡ true → P s ≡ false → X
-apart P e f p q = clash (ap P e ∙ p) (ap P f ∙ q)
+apart P e f p q = not-both (ap P e ∙ p) (ap P f ∙ q)
 
 -- node n is new, behind base b
 pub record Attached (node after : ℕ → EstTime) (n b : ℕ) : Type 0 where
@@ -73,8 +74,8 @@ module _ {L : Labels} {node after : ℕ → EstTime} {n b : ℕ} (v : Laid L nod
     next = λ i h. next i h (either i b);
     alt = λ i h. inl (a .alt i h);
     prev-alt = λ i h. prev-alt i h (a .prev-alt i h);
-    joins = λ i h e. a .other i h (λ (q : i ≡ b). clash base (ap (λ (k : ℕ). baseRole (L .role k)) (sym q) ∙ ap baseRole e));
-    stops = λ i h e. (a .other i h (λ (q : i ≡ b). clash base (ap (λ (k : ℕ). baseRole (L .role k)) (sym q) ∙ ap baseRole e)), s i h e);
+    joins = λ i h e. a .other i h (λ (q : i ≡ b). not-both base (ap (λ (k : ℕ). baseRole (L .role k)) (sym q) ∙ ap baseRole e));
+    stops = λ i h e. (a .other i h (λ (q : i ≡ b). not-both base (ap (λ (k : ℕ). baseRole (L .role k)) (sym q) ∙ ap baseRole e)), s i h e);
   }
     where
       next : (i : ℕ) → i < n → (i ≡ b) ⊎ (i ≡ b → ⊥)
@@ -140,9 +141,9 @@ module _ {L : Labels} {node after : ℕ → EstTime} {n b : ℕ} (v : Laid L nod
     kind = k ∙ ap fakeRole (sym m);
     alt = λ c e p. absurd (none c e p);
     splits = λ p e q. apart isSplit q m refl refl;
-    own = λ q. clash q (ap itself m);
-    owned = λ q. clash q (ap baseRole m);
-    next = λ c e p q. clash q (ap baseRole m);
+    own = λ q. not-both q (ap itself m);
+    owned = λ q. not-both q (ap baseRole m);
+    next = λ c e p q. not-both q (ap baseRole m);
     prev = λ c e q. new-prev-of M x c e;
     events = λ q. apart baseRole q m refl refl;
     joins = λ c e q. joins c e;
@@ -176,9 +177,9 @@ module _ {L : Labels} {node after : ℕ → EstTime} {n b : ℕ} (v : Laid L nod
     kind = k ∙ ap fakeRole (sym m);
     alt = λ c e p. absurd (none c e p);
     splits = λ p e q. apart isSplit q m refl refl;
-    own = λ q. clash q (ap itself m);
-    owned = λ q. clash q (ap baseRole m);
-    next = λ c e p q. clash q (ap baseRole m);
+    own = λ q. not-both q (ap itself m);
+    owned = λ q. not-both q (ap baseRole m);
+    next = λ c e p q. not-both q (ap baseRole m);
     prev = λ c e q. new-prev-of M x c e;
     events = λ q. apart baseRole q m refl refl;
     joins = λ c e q. apart lands q m refl refl;
@@ -213,10 +214,10 @@ split-laid {L} {node} {after} {n} {p} v a base empty s k = step-laid v (record {
   kind = k ∙ ap fakeRole (sym m);
   alt = λ c e q. absurd (none c e q);
   splits = λ c e q. splits c e;
-  own = λ q. clash q (ap itself m);
+  own = λ q. not-both q (ap itself m);
   owned = λ q. subst (λ (j : ℕ). j ≤ n) (sym o) (omega (arith, v .each p (a .within) .owned base, a .within));
   next = λ r e q t. absurd (closed r e q);
-  prev = λ c e q. clash q (ap receives m);
+  prev = λ c e q. not-both q (ap receives m);
   events = λ q. apart isSplit m q refl refl;
   joins = λ r e q. apart isSplit m q refl refl;
   stops = λ q. apart isSplit m q refl refl;

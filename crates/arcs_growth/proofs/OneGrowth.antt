@@ -15,14 +15,15 @@ use Rattle.book_options.specs.Options.{keptOrigins}
 use Rattle.net_node.specs.declared.EstTime.{EstTime}
 use Rattle.net_node.specs.Table.{Room, Table, put, at}
 use Rattle.grow_rules.specs.Run.{Net, memberOf}
-use Rattle.grow_rules.specs.Growth.{Growth, departure, fakeNode, firstNodes, growOrigins, drive, leadsToEnd, Tail, roomFor, endFakes, lastNode, Grown, startAs, grownWith, grow}
+use Rattle.grow_rules.specs.Growth.{Growth, departure, fakeNode, firstNodes, growOrigins, drive, leadsToEnd, roomFor, endFakes, lastNode, Grown, startAs, grownWith, grow}
+use Rattle.net_node.specs.Left.{Network}
 use Rattle.arcs_growth.specs.Read.{Read}
 use Rattle.arcs_growth.specs.Grown.{SameGrowth}
-use Rattle.arcs_growth.proofs.Answers.{All, all-so}
+use Rattle.laws.proofs.Members.{All, all-so}
+use Rattle.book_options.proofs.Apart.{kept-apart}
 use Rattle.arcs_growth.proofs.AtEvents.{Driven}
 use Rattle.arcs_growth.proofs.Driving.{drives}
 use Rattle.arcs_growth.proofs.Origins.{Ready, first-rooted, none-used, member-all, origins-ready}
-use Rattle.arcs_growth.proofs.Books.{kept-apart}
 use Rattle.arcs_growth.proofs.Agreeing.{Agree}
 use Rattle.arcs_growth.proofs.Alike.{withTable, Alike}
 use Rattle.arcs_growth.proofs.AlikeDrives.{AlikeGrowth, growth-is, drive-alike, origins-alike}
@@ -30,14 +31,14 @@ use Rattle.arcs_growth.proofs.Writes.{put-agree, put-more}
 
 -- ---- the ends
 
-pub record AlikeTail (places others : ℕ) (t other : Tail) : Type 0 where
+pub record AlikeTail (places others : ℕ) (t other : Network) : Type 0 where
   pub nodes : other .nodes ≡ t .nodes
   pub agree : Agree (t .nodes) (at (t .table)) (at (other .table))
   pub room : RoomIn (t .table) places
   pub room-other : RoomIn (other .table) others
 
 module _ (places others : ℕ) where
-  ends-alike : (is : List ℕ) (alt : ℕ) (t : Tail) (u : Table) → All (λ (i : ℕ). i < t .nodes) is → Agree (t .nodes) (at (t .table)) (at u) → RoomIn (t .table) places → RoomIn u others
+  ends-alike : (is : List ℕ) (alt : ℕ) (t : Network) (u : Table) → All (λ (i : ℕ). i < t .nodes) is → Agree (t .nodes) (at (t .table)) (at u) → RoomIn (t .table) places → RoomIn u others
       → Both (AlikeTail places others) (endFakes places is alt t) (endFakes others is alt (record { table = u; nodes = t .nodes }))
   unfolding endFakes
   ends-alike [] alt t u h ag r q = record { nodes = refl; agree = ag; room = r; room-other = q }
@@ -64,7 +65,7 @@ module _ (places others : ℕ) where
       u2 = put u1 i (leadsToEnd (at u1 i) n)
 
       go : (x y : Bool) → ltb n places ≡ x → ltb n others ≡ y
-          → ((s : Tail) (w : Table) → All (λ (j : ℕ). j < s .nodes) is → Agree (s .nodes) (at (s .table)) (at w) → RoomIn (s .table) places → RoomIn w others
+          → ((s : Network) (w : Table) → All (λ (j : ℕ). j < s .nodes) is → Agree (s .nodes) (at (s .table)) (at w) → RoomIn (s .table) places → RoomIn w others
           → Both (AlikeTail places others) (endFakes places is n s) (endFakes others is n (record { table = w; nodes = s .nodes })))
           → Both (AlikeTail places others) (andThen (roomFor x (record { table = t2; nodes = suc n })) (endFakes places is n)) (andThen (roomFor y (record { table = u2; nodes = suc n })) (endFakes others is n))
       go false y e f ih = tt
@@ -80,7 +81,7 @@ module _ (places others : ℕ) where
           (put-agree t1 u1 places others r1 q1 (suc n) i (leadsToEnd (at t1 i) n) (leadsToEnd (at u1 i) n) a1 (omega arith) (omega arith) (ap (λ (z : EstTime). leadsToEnd z n) (a1 i (omega arith))))
           (put-room t1 i (leadsToEnd (at t1 i) n) places r1) (put-room u1 i (leadsToEnd (at u1 i) n) others q1)
 
-  last-alike : (t other : Tail) → AlikeTail places others t other → Both (AlikeTail places others) (lastNode places t) (lastNode others other)
+  last-alike : (t other : Network) → AlikeTail places others t other → Both (AlikeTail places others) (lastNode places t) (lastNode others other)
   unfolding lastNode
   last-alike t other d =
       subst (λ (m : ℕ). Both (AlikeTail places others) (roomFor (ltb n places) (record { table = put (t .table) n (node n); nodes = suc n })) (roomFor (ltb m others) (record { table = put (other .table) m (node m); nodes = suc m }))) (sym (d .nodes))
@@ -111,17 +112,17 @@ all-ends is n f = all-so (λ (i : ℕ). memberOf is i ≡ true) (λ (i : ℕ). i
 -- from the network that the driver leaves
 tail-alike : {b : List ℕ} {places others : ℕ} (net other : Net) → Driven b places net [] → Alike others net other
     → Both SameGrowth
-    (andThen (endFakes places (net .ends) 0 (record { table = net .table; nodes = net .nodes })) (λ (u : Tail). andThen (lastNode places u) (λ (v : Tail). given (grownWith net v))))
-    (andThen (endFakes others (other .ends) 0 (record { table = other .table; nodes = other .nodes })) (λ (u : Tail). andThen (lastNode others u) (λ (v : Tail). given (grownWith other v))))
+    (andThen (endFakes places (net .ends) 0 (record { table = net .table; nodes = net .nodes })) (λ (u : Network). andThen (lastNode places u) (λ (v : Network). given (grownWith net v))))
+    (andThen (endFakes others (other .ends) 0 (record { table = other .table; nodes = other .nodes })) (λ (u : Network). andThen (lastNode others u) (λ (v : Network). given (grownWith other v))))
 unfolding grownWith
 tail-alike {b} {places} {others} net other d l =
     subst (λ (m : Net). Both SameGrowth
-    (andThen (endFakes places (net .ends) 0 (record { table = net .table; nodes = net .nodes })) (λ (u : Tail). andThen (lastNode places u) (λ (v : Tail). given (grownWith net v))))
-    (andThen (endFakes others (m .ends) 0 (record { table = m .table; nodes = m .nodes })) (λ (u : Tail). andThen (lastNode others u) (λ (v : Tail). given (grownWith m v))))) (sym (l .is))
+    (andThen (endFakes places (net .ends) 0 (record { table = net .table; nodes = net .nodes })) (λ (u : Network). andThen (lastNode places u) (λ (v : Network). given (grownWith net v))))
+    (andThen (endFakes others (m .ends) 0 (record { table = m .table; nodes = m .nodes })) (λ (u : Network). andThen (lastNode others u) (λ (v : Network). given (grownWith m v))))) (sym (l .is))
     (both-then (AlikeTail places others) SameGrowth (endFakes places (net .ends) 0 (record { table = net .table; nodes = net .nodes })) (endFakes others (net .ends) 0 (record { table = l .table; nodes = net .nodes }))
-    (λ (u : Tail). andThen (lastNode places u) (λ (v : Tail). given (grownWith net v))) (λ (u : Tail). andThen (lastNode others u) (λ (v : Tail). given (grownWith (withTable net (l .table)) v)))
+    (λ (u : Network). andThen (lastNode places u) (λ (v : Network). given (grownWith net v))) (λ (u : Network). andThen (lastNode others u) (λ (v : Network). given (grownWith (withTable net (l .table)) v)))
     (ends-alike places others (net .ends) 0 (record { table = net .table; nodes = net .nodes }) (l .table) (all-ends (net .ends) (net .nodes) (λ i m. d .grows .body .ended i m .within)) (l .agree) (d .grows .body .room) (l .room))
-    (λ u w e. both-then (AlikeTail places others) SameGrowth (lastNode places u) (lastNode others w) (λ (v : Tail). given (grownWith net v)) (λ (v : Tail). given (grownWith (withTable net (l .table)) v)) (last-alike places others u w e)
+    (λ u w e. both-then (AlikeTail places others) SameGrowth (lastNode places u) (lastNode others w) (λ (v : Network). given (grownWith net v)) (λ (v : Network). given (grownWith (withTable net (l .table)) v)) (last-alike places others u w e)
     (λ v x f. record { nodes = f .nodes; added = refl; splits = refl; joined = refl; finished = refl; noted = refl; table = f .agree })))
 
 module _ (b : List ℕ) (places others : ℕ) (t u : Table) (r : Read b) (room : RoomIn t places) (room-other : RoomIn u others) where
@@ -129,19 +130,19 @@ module _ (b : List ℕ) (places others : ℕ) (t u : Table) (r : Read b) (room :
   rest : ℕ → Growth → Answer Grown
   rest p s = andThen (growOrigins b p (keptOrigins b) s)
       (λ (g : Growth). andThen (drive (legs b) b p (g .net) (g .saved))
-      (λ (net : Net). andThen (endFakes p (net .ends) 0 (record { table = net .table; nodes = net .nodes })) (λ (v : Tail). andThen (lastNode p v) (λ (w : Tail). given (grownWith net w)))))
+      (λ (net : Net). andThen (endFakes p (net .ends) 0 (record { table = net .table; nodes = net .nodes })) (λ (v : Network). andThen (lastNode p v) (λ (w : Network). given (grownWith net w)))))
 
   onward : ℕ → Growth → Answer Grown
   onward p g = andThen (drive (legs b) b p (g .net) (g .saved))
-      (λ (net : Net). andThen (endFakes p (net .ends) 0 (record { table = net .table; nodes = net .nodes })) (λ (v : Tail). andThen (lastNode p v) (λ (w : Tail). given (grownWith net w))))
+      (λ (net : Net). andThen (endFakes p (net .ends) 0 (record { table = net .table; nodes = net .nodes })) (λ (v : Network). andThen (lastNode p v) (λ (w : Network). given (grownWith net w))))
 
   onward-alike : (g other : Growth) → Ready b places g → AlikeGrowth others g other → Both SameGrowth (onward places g) (onward others other)
   unfolding onward
   onward-alike g other d l =
       growth-is g other l (λ (z : Growth). Both SameGrowth (onward places g) (onward others z))
       (λ v ag q. both-then (λ (m w : Net). Driven b places m [] × Alike others m w) SameGrowth (drive (legs b) b places (g .net) (g .saved)) (drive (legs b) b others (withTable (g .net) v) (g .saved))
-      (λ (net : Net). andThen (endFakes places (net .ends) 0 (record { table = net .table; nodes = net .nodes })) (λ (x : Tail). andThen (lastNode places x) (λ (w : Tail). given (grownWith net w))))
-      (λ (net : Net). andThen (endFakes others (net .ends) 0 (record { table = net .table; nodes = net .nodes })) (λ (x : Tail). andThen (lastNode others x) (λ (w : Tail). given (grownWith net w))))
+      (λ (net : Net). andThen (endFakes places (net .ends) 0 (record { table = net .table; nodes = net .nodes })) (λ (x : Network). andThen (lastNode places x) (λ (w : Network). given (grownWith net w))))
+      (λ (net : Net). andThen (endFakes others (net .ends) 0 (record { table = net .table; nodes = net .nodes })) (λ (x : Network). andThen (lastNode others x) (λ (w : Network). given (grownWith net w))))
       (both-with (λ (m : Net). Driven b places m []) (Alike others) (drive (legs b) b places (g .net) (g .saved)) (drive (legs b) b others (withTable (g .net) v) (g .saved))
       (drives r (legs b) (g .net) (g .saved) (d .driven) (d .legs-in) (d .light)) (drive-alike r others (legs b) (g .net) (g .saved) (d .driven) (d .legs-in) v ag q))
       (λ m w f. tail-alike m w (f .0) (f .1)))

@@ -8,7 +8,7 @@ use native.Mathlib.Omega.{arith}
 use borrow.Author.Tests.{eqb-true, eq-eqb}
 use lib.Dec.{eqb}
 use lib.Ieee.{Float, binary64, add, sub, ofBits}
-use Rattle.net_node.proofs.Tables.{RoomIn}
+use Rattle.net_node.proofs.Tables.{RoomIn, either}
 use Rattle.net_node.specs.Table.{Table, at}
 use Rattle.laws.proofs.Answers.{Holds, holds-then, holds-so}
 use Rattle.laws.specs.Answer.{given, andThen}
@@ -24,18 +24,20 @@ use Rattle.arcs_growth.specs.Arcs.{one}
 use Rattle.arcs_growth.specs.Runs.{runEventsTo, NextTo, Follows}
 use Rattle.arcs_growth.specs.Read.{SomeKept, Read}
 use Rattle.laws.proofs.Below.{or-right}
-use Rattle.arcs_growth.proofs.Answers.{All, Some, all-so, either, clash}
+use Rattle.laws.proofs.Members.{All, Some, all-so}
+use Rattle.laws.proofs.Cases.{not-both}
+use Rattle.book_legs.proofs.Found.{LegOf, leg-found}
+use Rattle.book_options.proofs.Apart.{Other, Apart, kept-apart}
 use Rattle.arcs_growth.proofs.Labels.{event, fakeRole, baseRole, Labels}
 use Rattle.arcs_growth.proofs.NewNodes.{apart}
 use Rattle.arcs_growth.proofs.Invariant.{Grows, Stands, Owned, Waits, stands-more, owned-popped}
 use Rattle.arcs_growth.proofs.Insertions.{Inserts, Safe, insert-keeps}
 use Rattle.arcs_growth.proofs.Joining.{last-popped}
-use Rattle.arcs_growth.proofs.Paths.{LegOf, leg-found, run-events-first}
+use Rattle.arcs_growth.proofs.Paths.{run-events-first}
 use Rattle.arcs_growth.proofs.AtEvents.{AtEvent, Notes, waiting-more, notes-more, Driven}
 use Rattle.arcs_growth.proofs.Running.{next-deeper}
 use Rattle.arcs_growth.proofs.Firsts.{firstLabels, first-grows, first-waits}
 use Rattle.arcs_growth.proofs.Driving.{withLeg, LegIn}
-use Rattle.arcs_growth.proofs.Books.{Other, Apart, kept-apart}
 use Rattle.arcs_growth.proofs.Loads.{legCount, load, Kids, firsts-load}
 
 -- where a train that waits at its origin ends
@@ -132,7 +134,7 @@ module _ {b : List ℕ} (r : Read b) (places : ℕ) (idx : ℕ) (kept : memberOf
       origin-waits k = record {
         owned = λ x h p z o. go x (j .waits .owned x h p z o);
         stand = (stands-more (j .later) (originRun b) (stands-more (i .later) (originRun b) (d .waits .stand .0)), (record { within = s .within; self = s .self; holds = s .holds; listed = s .listed }, j .waits .stand .1));
-        last = ((λ w. clash w refl), (refl, j .waits .last .1));
+        last = ((λ w. not-both w refl), (refl, j .waits .last .1));
       }
         where
           s : Stands (j .labels) (c .net) (c .run)

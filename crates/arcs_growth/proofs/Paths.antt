@@ -1,7 +1,7 @@
 -- A run's path and its events: a leg more, and that every event is an Arrive or a Clear.
 use mathlib.Core.Path.{_≡_, refl, sym, ap, _∙_}
 use mathlib.Core.Bool.{Bool, true, false, _&&_, cond}
-use mathlib.Core.List.{List, [], _∷_, _++_}
+use mathlib.Core.List.{List, [], _∷_, _++_, append-nil, append-assoc}
 use Prim.Native.Nat.{ℕ, zero, suc, _-_, _<_, _≤_}
 use native.Mathlib.Omega.{arith}
 use borrow.Author.Tests.{eqb-true}
@@ -19,60 +19,16 @@ use Rattle.event_walk.specs.declared.PassedPoint.{PassedPoint}
 use Rattle.event_walk.specs.Course.{Course}
 use Rattle.event_walk.specs.Walk.{offsetNext, clearsNext, emits, turn, passedAs, passedNext, walk, turnsLeft, passedFrom, pointsPassed, start}
 use Rattle.grow_path.specs.Path.{legsTo, pathOf, linkOf, legCourse, eventAt, eventsAt, legEvents}
+use Rattle.grow_path.proofs.Paths.{path-more}
 use Rattle.grow_rules.specs.Growth.{originEvent}
 use Rattle.arcs_growth.specs.Runs.{eventsOfLegs, originEvents, runEventsTo}
 use Rattle.arcs_growth.specs.Read.{Read}
-use Rattle.arcs_growth.proofs.Answers.{All}
-
--- ---- lists
-
-pub append-nil : {A : Type 0} (xs : List A) → xs ++ [] ≡ xs
-append-nil [] = refl
-append-nil {A} (x ∷ xs) = ap {B = List A} (λ (ys : List A). x ∷ ys) (append-nil xs)
-
-pub append-assoc : {A : Type 0} (xs ys zs : List A) → (xs ++ ys) ++ zs ≡ xs ++ (ys ++ zs)
-append-assoc [] ys zs = refl
-append-assoc {A} (x ∷ xs) ys zs = ap {B = List A} (λ (ws : List A). x ∷ ws) (append-assoc xs ys zs)
-
--- ---- the leg with a parent and a link
-
-pub record LegOf (b : List ℕ) (n p l i : ℕ) : Type 0 where
-  pub within : i < n
-  pub parent : legParent b i ≡ p
-  pub link : legLink b i ≡ l
-
-pub leg-found : (b : List ℕ) (n p l i : ℕ) → legBelow b n p l ≡ suc i → LegOf b n p l i
-unfolding legBelow
-leg-found b zero p l i e = absurd (omega arith)
-leg-found b (suc n) p l i e = go (eqb (legParent b n) p) (eqb (legLink b n) l) refl refl e (leg-found b n p l i)
-  where
-    go : (x y : Bool) → eqb (legParent b n) p ≡ x → eqb (legLink b n) l ≡ y → cond (x && y) (suc n) (legBelow b n p l) ≡ suc i → (legBelow b n p l ≡ suc i → LegOf b n p l i) → LegOf b (suc n) p l i
-    go true true r s q ih =
-        let d : n ≡ i = omega arith in
-        record { within = omega arith; parent = ap (legParent b) (sym d) ∙ eqb-true (legParent b n) p r; link = ap (legLink b) (sym d) ∙ eqb-true (legLink b n) l s }
-    go true false r s q ih = let o = ih q in let w = o .within in record { within = omega arith; parent = o .parent; link = o .link }
-    go false y r s q ih = let o = ih q in let w = o .within in record { within = omega arith; parent = o .parent; link = o .link }
+use Rattle.laws.proofs.Members.{All}
 
 -- ---- paths
 
-legs-enough : {b : List ℕ} → Read b → (k m p : ℕ) → p ≤ k → p ≤ m → p ≤ legs b → legsTo k b p ≡ legsTo m b p
-unfolding legsTo
-legs-enough r zero zero p h g l = refl
-legs-enough r zero (suc m) zero h g l = refl
-legs-enough r zero (suc m) (suc p) h g l = absurd (omega arith)
-legs-enough r (suc k) zero zero h g l = refl
-legs-enough r (suc k) zero (suc p) h g l = absurd (omega arith)
-legs-enough r (suc k) (suc m) zero h g l = refl
-legs-enough {b} r (suc k) (suc m) (suc p) h g l =
-    let q = r .parents p (omega arith) in
-    ap (λ (xs : List ℕ). xs ++ (suc p ∷ [])) (legs-enough r k m (legParent b p) (omega arith) (omega arith) (omega arith))
-
--- a leg's path is its parent's and itself
-path-more : {b : List ℕ} → Read b → (i p : ℕ) → i < legs b → legParent b i ≡ p → pathOf b (suc i) ≡ pathOf b p ++ (suc i ∷ [])
-unfolding pathOf legsTo
-path-more {b} r i p h e =
-    let q = r .parents i h in
-    ap (λ (xs : List ℕ). xs ++ (suc i ∷ [])) (ap (legsTo i b) e ∙ legs-enough r i p p (omega arith) (omega arith) (omega arith))
+path : {b : List ℕ} → Read b → (i p : ℕ) → i < legs b → legParent b i ≡ p → pathOf b (suc i) ≡ pathOf b p ++ (suc i ∷ [])
+path {b} r i p h e = path-more (record { parents = r .parents }) i h ∙ ap (λ (q : ℕ). pathOf b q ++ (suc i ∷ [])) e
 
 events-more : (b js : List ℕ) (j : ℕ) → eventsOfLegs b (js ++ (j ∷ [])) ≡ eventsOfLegs b js ++ legEvents b j
 unfolding eventsOfLegs
@@ -88,7 +44,7 @@ pub run-events-more : {b : List ℕ} → Read b → (i p : ℕ) → i < legs b �
 unfolding runEventsTo pathOf legsTo
 run-events-more {b} r i p h e =
     let js : List ℕ = legsTo p b (legParent b p) ++ (suc p ∷ []) in
-    ap (λ (xs : List ℕ). originEvents b xs ++ eventsOfLegs b xs) (path-more r i (suc p) h e)
+    ap (λ (xs : List ℕ). originEvents b xs ++ eventsOfLegs b xs) (path r i (suc p) h e)
     ∙ ap (λ (xs : List TimedEvent). xs ++ eventsOfLegs b (js ++ (suc i ∷ []))) (origin-same b (legsTo p b (legParent b p)) (suc p) (suc i))
     ∙ ap (λ (xs : List TimedEvent). originEvents b js ++ xs) (events-more b js (suc i))
     ∙ sym (append-assoc (originEvents b js) (eventsOfLegs b js) (legEvents b (suc i)))
@@ -99,7 +55,7 @@ pub run-events-first : {b : List ℕ} → Read b → (i : ℕ) → i < legs b �
     ≡ originEvent b (legLink b i) Arrive (ofBits binary64 0) ∷ originEvent b (legLink b i) Clear (add binary64 (ofBits binary64 0) (floatOf (lengthBits b))) ∷ legEvents b (suc i)
 unfolding runEventsTo pathOf legsTo eventsOfLegs linkOf
 run-events-first {b} r i h e =
-    ap (λ (xs : List ℕ). originEvents b xs ++ eventsOfLegs b xs) (path-more r i 0 h e)
+    ap (λ (xs : List ℕ). originEvents b xs ++ eventsOfLegs b xs) (path r i 0 h e)
     ∙ ap (λ (m : ℕ). originEvent b (legLink b m) Arrive (ofBits binary64 0) ∷ originEvent b (legLink b m) Clear (add binary64 (ofBits binary64 0) (floatOf (lengthBits b))) ∷ (legEvents b (suc i) ++ [])) less
     ∙ ap (λ (xs : List TimedEvent). originEvent b (legLink b i) Arrive (ofBits binary64 0) ∷ originEvent b (legLink b i) Clear (add binary64 (ofBits binary64 0) (floatOf (lengthBits b))) ∷ xs) (append-nil (legEvents b (suc i)))
   where

@@ -15,7 +15,7 @@ use Rattle.net_insertion.specs.Insertion.{matches}
 use Rattle.net_strands.specs.declared.EstJoinPath.{EstJoinPath}
 use Rattle.net_joins.specs.Joins.{JoinStep, JoinsTo, GoesOn, Beyond, joinStep}
 use Rattle.grow_rules.specs.Run.{Net, Run, After, arcTo, insertEvent, joinedTo, Outcome, Ended, On, goesOn, withJoins, joinedAs, eventAs, runEvent, nextEvent, runEvents}
-use Rattle.arcs_growth.proofs.Answers.{All}
+use Rattle.laws.proofs.Members.{All}
 use Rattle.arcs_growth.proofs.Labels.{event, baseRole, itself, Labels}
 use Rattle.arcs_growth.proofs.Laid.{NextOf}
 use Rattle.arcs_growth.proofs.Seeks.{Reached}

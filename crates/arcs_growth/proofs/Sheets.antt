@@ -14,7 +14,8 @@ use Rattle.net_node.specs.declared.EstTime.{EstTime}
 use Rattle.grow_rules.specs.Run.{Arc}
 use Rattle.arcs_growth.specs.Arcs.{isAlternative, isBase, alternativeOf, sourceOf, goalOf, arcOf}
 use Rattle.arcs_growth.specs.Shape.{isReceiver, Shape}
-use Rattle.arcs_growth.proofs.Answers.{either, clash, below}
+use Rattle.net_node.proofs.Tables.{either}
+use Rattle.laws.proofs.Cases.{not-both, below}
 use Rattle.arcs_growth.proofs.Labels.{Role, nought, start, event, split, join, stop, fakeRole, baseRole, receives, lands, itself, Labels}
 use Rattle.arcs_growth.proofs.Laid.{AltOf, SplitOf, StopOf, laterRole, past-first}
 use Rattle.arcs_growth.proofs.NewNodes.{apart}
@@ -23,13 +24,13 @@ use Rattle.arcs_growth.proofs.Wholes.{Whole}
 
 some-found : (n : ℕ) (p : ℕ → Bool) (X : Type 0) → someBelow n p ≡ true → ((k : ℕ) → k < n → p k ≡ true → X) → X
 unfolding someBelow
-some-found zero p X e f = clash e refl
+some-found zero p X e f = not-both e refl
 some-found (suc n) p X e f = go (someBelow n p) refl (some-found n p X) (p n) refl e
   where
     go : (a : Bool) → someBelow n p ≡ a → (someBelow n p ≡ true → ((k : ℕ) → k < n → p k ≡ true → X) → X) → (c : Bool) → p n ≡ c → (a || c) ≡ true → X
     go true q ih c r s = ih q (λ k h. f k (omega arith))
     go false q ih true r s = f n (omega arith) r
-    go false q ih false r s = clash s refl
+    go false q ih false r s = not-both s refl
 
 abbrev splitRole : Role → Bool
 splitRole nought = false
@@ -40,25 +41,25 @@ splitRole join = false
 splitRole stop = false
 
 is-split : (r : Role) → splitRole r ≡ true → r ≡ split
-is-split nought e = clash e refl
-is-split start e = clash e refl
-is-split event e = clash e refl
+is-split nought e = not-both e refl
+is-split start e = not-both e refl
+is-split event e = not-both e refl
 is-split split e = refl
-is-split join e = clash e refl
-is-split stop e = clash e refl
+is-split join e = not-both e refl
+is-split stop e = not-both e refl
 
 -- what a later node's role says
 later-base : (r : Role) → laterRole r ≡ true → (not (fakeRole r) || splitRole r) ≡ baseRole r
 later-base nought e = refl
-later-base start e = clash e refl
+later-base start e = not-both e refl
 later-base event e = refl
 later-base split e = refl
 later-base join e = refl
 later-base stop e = refl
 
 later-receives : (r : Role) → laterRole r ≡ true → not (splitRole r) ≡ receives r
-later-receives nought e = clash e refl
-later-receives start e = clash e refl
+later-receives nought e = not-both e refl
+later-receives start e = not-both e refl
 later-receives event e = refl
 later-receives split e = refl
 later-receives join e = refl
@@ -66,20 +67,20 @@ later-receives stop e = refl
 
 -- a receiver leads to an event, or is an end Fake
 which-receiver : (r : Role) → receives r ≡ true → (lands r ≡ true) ⊎ (r ≡ stop)
-which-receiver nought e = clash e refl
-which-receiver start e = clash e refl
+which-receiver nought e = not-both e refl
+which-receiver start e = not-both e refl
 which-receiver event e = inl refl
-which-receiver split e = clash e refl
+which-receiver split e = not-both e refl
 which-receiver join e = inl refl
 which-receiver stop e = inr refl
 
 which-lands : (r : Role) → lands r ≡ true → (r ≡ event) ⊎ (r ≡ join)
-which-lands nought e = clash e refl
-which-lands start e = clash e refl
+which-lands nought e = not-both e refl
+which-lands start e = not-both e refl
 which-lands event e = inl refl
-which-lands split e = clash e refl
+which-lands split e = not-both e refl
 which-lands join e = inr refl
-which-lands stop e = clash e refl
+which-lands stop e = not-both e refl
 
 lands-receives : (r : Role) → lands r ≡ true → receives r ≡ true
 lands-receives nought e = e
@@ -104,7 +105,7 @@ module _ {L : Labels} {node : ℕ → EstTime} {n : ℕ} {arcs : List Arc} {k : 
 
   alternative-split : (i : ℕ) → isAlternative node all i ≡ true → (i < n) × (L .role i ≡ split)
   unfolding isAlternative
-  alternative-split zero e = clash e refl
+  alternative-split zero e = not-both e refl
   alternative-split (suc i) e = some-found all (λ j. eqb (node j .«idx_next_alt») (suc i)) ((suc i < n) × (L .role (suc i) ≡ split)) (sym (alternative-suc i) ∙ e) (λ j h q. go j (below j n h) (eqb-true (node j .«idx_next_alt») (suc i) q))
     where
       go : (j : ℕ) → (j < n) ⊎ (j ≡ n) → node j .«idx_next_alt» ≡ suc i → (suc i < n) × (L .role (suc i) ≡ split)
@@ -123,8 +124,8 @@ module _ {L : Labels} {node : ℕ → EstTime} {n : ℕ} {arcs : List Arc} {k : 
     where
       go : (a c : Bool) → splitRole (L .role i) ≡ a → isAlternative node all i ≡ c → c ≡ a
       go true true e f = refl
-      go true false e f = clash (split-alternative i h (is-split (L .role i) e)) f
-      go false true e f = clash (ap splitRole (alternative-split i f .1)) e
+      go true false e f = not-both (split-alternative i h (is-split (L .role i) e)) f
+      go false true e f = not-both (ap splitRole (alternative-split i f .1)) e
       go false false e f = refl
 
   last-no-alternative : isAlternative node all n ≡ false
@@ -156,7 +157,7 @@ module _ {L : Labels} {node : ℕ → EstTime} {n : ℕ} {arcs : List Arc} {k : 
     where
       go : (i < n) ⊎ (i ≡ n) → (i < n) × (baseRole (L .role i) ≡ true)
       go (inl l) = (l, sym (base-is i l) ∙ e)
-      go (inr q) = clash e (ap (isBase node all) q ∙ last-no-base)
+      go (inr q) = not-both e (ap (isBase node all) q ∙ last-no-base)
 
   receiver-is : (i : ℕ) → i < n → receives (L .role i) ≡ true → isReceiver node all i ≡ true
   unfolding isReceiver
@@ -173,8 +174,8 @@ module _ {L : Labels} {node : ℕ → EstTime} {n : ℕ} {arcs : List Arc} {k : 
   receiver-role i e = go (ltb 1 i) (ltb i (all - 1)) refl refl e
     where
       go : (a c : Bool) → ltb 1 i ≡ a → ltb i (all - 1) ≡ c → ((a && c) && not (isAlternative node all i)) ≡ true → (1 < i) × ((i < n) × (receives (L .role i) ≡ true))
-      go false c p q r = clash r refl
-      go true false p q r = clash r refl
+      go false c p q r = not-both r refl
+      go true false p q r = not-both r refl
       go true true p q r =
           let l : i < n = subst (λ (m : ℕ). i < m) last-is (ltb-true i (all - 1) q) in
           (ltb-true 1 i p, (l, sym (ap not (alternative-is i l) ∙ later-receives (L .role i) (v .laid .later i (ltb-true 1 i p) l)) ∙ r))
@@ -273,10 +274,10 @@ module _ {L : Labels} {node : ℕ → EstTime} {n : ℕ} {arcs : List Arc} {k : 
           one : (j : ℕ) → L .role i ≡ start → (i ≡ 0) ⊎ (i ≡ 0 → ⊥) → (i ≡ 1) ⊎ (i ≡ 1 → ⊥) → i ≡ 1
           one j q (inl z) d = apart itself q (ap (L .role) z ∙ v .laid .zeroth) refl refl
           one j q (inr z) (inl d) = d
-          one j q (inr z) (inr d) = clash (v .laid .later i (omega arith) h) (ap laterRole q)
+          one j q (inr z) (inr d) = not-both (v .laid .later i (omega arith) h) (ap laterRole q)
 
       go : (r : Role) → L .role i ≡ r → baseRole r ≡ true → ((s : ℕ) → s < n → s < m → baseRole (L .role s) ≡ true → sourceOf node all m s ≡ L .owner s) → sourceOf node all (suc m) i ≡ L .owner i
-      go nought q b ih = clash b refl
+      go nought q b ih = not-both b refl
       go start q b ih = itself-is (ap itself q) (ap (λ (c : Bool). c || not (isFake (node i))) (eq-eqb i 1 (is-start q)))
       go event q b ih = itself-is (ap itself q) (either-true (eqb i 1) (not (isFake (node i))) (ap not (v .laid .each i h .kind ∙ ap fakeRole q)))
       go split q b ih =
@@ -288,8 +289,8 @@ module _ {L : Labels} {node : ℕ → EstTime} {n : ℕ} {arcs : List Arc} {k : 
           ∙ ap (sourceOf node all m) (alternative-of i p (omega arith) h q refl all (omega arith) (omega arith))
           ∙ ih p (omega arith) (omega arith) (s .base)
           ∙ sym (s .owner)
-      go join q b ih = clash b refl
-      go stop q b ih = clash b refl
+      go join q b ih = not-both b refl
+      go stop q b ih = not-both b refl
 
   -- ---- the arc of a base
 
@@ -349,5 +350,5 @@ module _ {L : Labels} {node : ℕ → EstTime} {n : ℕ} {arcs : List Arc} {k : 
           go (inl q) = landing (which-lands (L .role r) q)
             where
               landing : (L .role r ≡ event) ⊎ (L .role r ≡ join) → (isReceiver node all (node r .«idx_next») ≡ true) ⊎ (node r .«idx_next» ≡ all - 1)
-              landing (inl m) = clash f (v .laid .each r h .kind ∙ ap fakeRole m)
+              landing (inl m) = not-both f (v .laid .each r h .kind ∙ ap fakeRole m)
               landing (inr m) = let j = v .laid .each r h .joins (node r .«idx_next») refl m in let s = j .earlier in inl (receiver-is (node r .«idx_next») (omega arith) (lands-receives (L .role (node r .«idx_next»)) (j .lands)))

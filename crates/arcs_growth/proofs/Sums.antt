@@ -6,7 +6,7 @@ use Prim.Native.Nat.{ℕ, zero, suc, _+_, _<_}
 use native.Mathlib.Omega.{arith}
 use Rattle.laws.specs.Below.{sumBelow}
 use Rattle.grow_rules.specs.Run.{Arc}
-use Rattle.arcs_growth.proofs.Answers.{below}
+use Rattle.laws.proofs.Cases.{below}
 
 pub sum-same : (n : ℕ) (f g : ℕ → ℕ) → ((i : ℕ) → i < n → g i ≡ f i) → sumBelow n g ≡ sumBelow n f
 unfolding sumBelow

@@ -16,12 +16,13 @@ use Rattle.book_options.specs.Options.{keptOrigins}
 use Rattle.net_node.specs.declared.EstTime.{EstTime}
 use Rattle.net_node.specs.Table.{Room, Indexed, Table, at}
 use Rattle.grow_rules.specs.Run.{Arc, Net, memberOf}
-use Rattle.grow_rules.specs.Growth.{Growth, firstNodes, growOrigins, drive, Tail, endFakes, lastNode, Grown, startAs, grownWith, grow}
+use Rattle.grow_rules.specs.Growth.{Growth, firstNodes, growOrigins, drive, endFakes, lastNode, Grown, startAs, grownWith, grow}
+use Rattle.net_node.specs.Left.{Network}
 use Rattle.arcs_growth.specs.Arcs.{arcsRead, SameArcs}
 use Rattle.arcs_growth.specs.Shape.{Shape}
 use Rattle.arcs_growth.specs.Noted.{AllOfRuns, EndsInside}
 use Rattle.arcs_growth.specs.Read.{Read}
-use Rattle.arcs_growth.proofs.Answers.{All}
+use Rattle.laws.proofs.Members.{All}
 use Rattle.arcs_growth.proofs.Labels.{baseRole}
 use Rattle.arcs_growth.proofs.AtEvents.{Notes, Driven}
 use Rattle.arcs_growth.proofs.Driving.{drives}
@@ -73,7 +74,7 @@ all-inside : (b : List ℕ) (node : ℕ → EstTime) (n : ℕ) (arcs : List Arc)
 all-inside b node n [] h = tt
 all-inside b node n (arc ∷ arcs) h = ((h .0 .0, h .0 .1 .0), all-inside b node n arcs (h .1))
 
-finished-well : {b : List ℕ} {places : ℕ} (net : Net) → Driven b places net [] → (t : Tail) → Finished b places (net .noted) (1 + net .added + net .splits) t → GrownWell b places (grownWith net t)
+finished-well : {b : List ℕ} {places : ℕ} (net : Net) → Driven b places net [] → (t : Network) → Finished b places (net .noted) (1 + net .added + net .splits) t → GrownWell b places (grownWith net t)
 unfolding grownWith
 finished-well {b} {places} net d t f =
     let c = d .grows .count in
@@ -96,19 +97,19 @@ growth-well b places t r room =
     holds-then (λ (s : Growth). (s ≡ record { net = firstNodes b t; saved = [] }) × (1 < places)) (GrownWell b places) (startAs (ltb 1 places) (firstNodes b t))
     (λ (s : Growth). andThen (growOrigins b places (keptOrigins b) s)
     (λ (g : Growth). andThen (drive (legs b) b places (g .net) (g .saved))
-    (λ (net : Net). andThen (endFakes places (net .ends) 0 (record { table = net .table; nodes = net .nodes })) (λ (u : Tail). andThen (lastNode places u) (λ (v : Tail). given (grownWith net v))))))
+    (λ (net : Net). andThen (endFakes places (net .ends) 0 (record { table = net .table; nodes = net .nodes })) (λ (u : Network). andThen (lastNode places u) (λ (v : Network). given (grownWith net v))))))
     (start (ltb 1 places) refl)
     (λ s h. holds-then (Ready b places) (GrownWell b places) (growOrigins b places (keptOrigins b) s)
     (λ (g : Growth). andThen (drive (legs b) b places (g .net) (g .saved))
-    (λ (net : Net). andThen (endFakes places (net .ends) 0 (record { table = net .table; nodes = net .nodes })) (λ (u : Tail). andThen (lastNode places u) (λ (v : Tail). given (grownWith net v)))))
+    (λ (net : Net). andThen (endFakes places (net .ends) 0 (record { table = net .table; nodes = net .nodes })) (λ (u : Network). andThen (lastNode places u) (λ (v : Network). given (grownWith net v)))))
     (subst (λ (q : Growth). Holds (Ready b places) (growOrigins b places (keptOrigins b) q)) (sym (h .0)) (origins-ready r places t room (h .1)))
     (λ g d. holds-then (λ (net : Net). Driven b places net []) (GrownWell b places) (drive (legs b) b places (g .net) (g .saved))
-    (λ (net : Net). andThen (endFakes places (net .ends) 0 (record { table = net .table; nodes = net .nodes })) (λ (u : Tail). andThen (lastNode places u) (λ (v : Tail). given (grownWith net v))))
+    (λ (net : Net). andThen (endFakes places (net .ends) 0 (record { table = net .table; nodes = net .nodes })) (λ (u : Network). andThen (lastNode places u) (λ (v : Network). given (grownWith net v))))
     (drives r (legs b) (g .net) (g .saved) (d .driven) (d .legs-in) (d .light))
     (λ net e. holds-then (Ended b places (net .noted) (1 + net .added + net .splits)) (GrownWell b places) (endFakes places (net .ends) 0 (record { table = net .table; nodes = net .nodes }))
-    (λ (u : Tail). andThen (lastNode places u) (λ (v : Tail). given (grownWith net v)))
+    (λ (u : Network). andThen (lastNode places u) (λ (v : Network). given (grownWith net v)))
     (ends-keep (net .ends) 0 (record { table = net .table; nodes = net .nodes }) (driven-ending net e))
-    (λ u f. holds-then (Finished b places (net .noted) (1 + net .added + net .splits)) (GrownWell b places) (lastNode places u) (λ (v : Tail). given (grownWith net v)) (last-keeps (f .alt) u (f .ending)) (λ v w. finished-well net e v w)))))
+    (λ u f. holds-then (Finished b places (net .noted) (1 + net .added + net .splits)) (GrownWell b places) (lastNode places u) (λ (v : Network). given (grownWith net v)) (last-keeps (f .alt) u (f .ending)) (λ v w. finished-well net e v w)))))
   where
     start : (c : Bool) → ltb 1 places ≡ c → Holds (λ (s : Growth). (s ≡ record { net = firstNodes b t; saved = [] }) × (1 < places)) (startAs c (firstNodes b t))
     start true e = (refl, ltb-true 1 places e)

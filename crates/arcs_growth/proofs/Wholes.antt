@@ -8,14 +8,16 @@ use native.Mathlib.Omega.{arith}
 use borrow.Author.Tests.{ltb-true}
 use lib.Dec.{ltb}
 use lib.Ieee.{binary64, ofBits}
-use Rattle.net_node.proofs.Tables.{RoomIn, put-room}
+use Rattle.net_node.proofs.Tables.{RoomIn, put-room, either}
 use Rattle.laws.proofs.Answers.{Holds}
 use Rattle.laws.specs.Below.{sumBelow}
 use Rattle.net_node.specs.declared.EstTime.{EstTime}
 use Rattle.net_node.specs.Table.{blank, noLinkEvent, Table, put, at, isFake}
 use Rattle.grow_rules.specs.Run.{Arc}
-use Rattle.grow_rules.specs.Growth.{fakeNode, Tail, roomFor, lastNode}
-use Rattle.arcs_growth.proofs.Answers.{All, either, clash, below}
+use Rattle.grow_rules.specs.Growth.{fakeNode, roomFor, lastNode}
+use Rattle.net_node.specs.Left.{Network}
+use Rattle.laws.proofs.Members.{All}
+use Rattle.laws.proofs.Cases.{not-both, below}
 use Rattle.arcs_growth.proofs.Sums.{sum-same, total}
 use Rattle.arcs_growth.proofs.Labels.{baseRole, Labels, Extends}
 use Rattle.arcs_growth.proofs.Laid.{Each, Laid}
@@ -68,7 +70,7 @@ pub record Whole (L : Labels) (node : ℕ → EstTime) (n : ℕ) (arcs : List Ar
   pub last-prev : node n .«idx_prev» ≡ n - 1
   pub last-prev-alt : node n .«idx_prev_alt» ≡ 0
 
-pub record Finished (b : List ℕ) (places : ℕ) (arcs : List Arc) (k : ℕ) (t : Tail) : Type 0 where
+pub record Finished (b : List ℕ) (places : ℕ) (arcs : List Arc) (k : ℕ) (t : Network) : Type 0 where
   pub room : RoomIn (t .table) places
   pub inside : t .nodes ≤ places
   pub labels : Labels
@@ -78,7 +80,7 @@ pub record Finished (b : List ℕ) (places : ℕ) (arcs : List Arc) (k : ℕ) (t
   pub notes : All (Notes b (at (t .table)) (t .nodes)) arcs
   pub linked : Linked (at (t .table)) (t .nodes) (t .nodes)
 
-pub last-keeps : {b : List ℕ} {places : ℕ} {arcs : List Arc} {k : ℕ} (alt : ℕ) (t : Tail) → Ending b places arcs k [] alt t → Holds (Finished b places arcs k) (lastNode places t)
+pub last-keeps : {b : List ℕ} {places : ℕ} {arcs : List Arc} {k : ℕ} (alt : ℕ) (t : Network) → Ending b places arcs k [] alt t → Holds (Finished b places arcs k) (lastNode places t)
 unfolding lastNode fakeNode blank noLinkEvent
 last-keeps {b} {places} {arcs} {k} alt t d = go (ltb (t .nodes) places) refl
   where
@@ -98,7 +100,7 @@ last-keeps {b} {places} {arcs} {k} alt t d = go (ltb (t .nodes) places) refl
     x = record { role = λ i h. refl; owner = λ i h. refl; goal = λ i h. refl; depth = λ i h. refl }
 
     closed : (i : ℕ) → i < n → baseRole (d .labels .role i) ≡ true → (at after i .«idx_next» ≡ 0) ⊎ (at after i .«idx_next» ≡ 0 → ⊥) → 0 < at after i .«idx_next»
-    closed i h p (inl z) = clash (d .closed i h p (sym (ap (λ (y : EstTime). y .«idx_next») (same i h)) ∙ z)) refl
+    closed i h p (inl z) = not-both (d .closed i h p (sym (ap (λ (y : EstTime). y .«idx_next») (same i h)) ∙ z)) refl
     closed i h p (inr z) = omega arith
 
     go : (r : Bool) → ltb (t .nodes) places ≡ r → Holds (Finished b places arcs k) (roomFor r (record { table = put (t .table) (t .nodes) (fakeNode 0 (t .nodes - 1) 0 (ofBits binary64 0)); nodes = suc (t .nodes) }))

@@ -3,11 +3,11 @@ use mathlib.Core.Path.{_≡_, sym, ap, _∙_}
 use mathlib.Core.Logic.{_⊎_, inl, inr}
 use Prim.Native.Nat.{ℕ, suc, _<_}
 use native.Mathlib.Omega.{arith}
-use Rattle.net_node.proofs.Tables.{RoomIn}
+use Rattle.net_node.proofs.Tables.{RoomIn, either}
 use Rattle.net_node.specs.Table.{Table, put, at}
 use Rattle.net_node.specs.declared.EstTime.{EstTime}
 use Rattle.net_node.proofs.Nodes.{node-put-same, node-put-other}
-use Rattle.arcs_growth.proofs.Answers.{either, below}
+use Rattle.laws.proofs.Cases.{below}
 
 pub put-same : (t : Table) (i : ℕ) (x : EstTime) (places : ℕ) → RoomIn t places → i < places → at (put t i x) i ≡ x
 unfolding put at

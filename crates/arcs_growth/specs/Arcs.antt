@@ -1,7 +1,8 @@
--- The arcs of a sheet, document 01 under "Arcs". "Node 1 is the start, the last node the end; other arc ends are event nodes (Arrive or Clear), by number."
--- Read off the sheet: "each of node 1, event nodes and split Fakes (Fakes that are next alternatives, 0 being none) has one arc, with its own time to next and distance to next.
--- It leads from the event or start whose next alternatives reach it (the start or an event: from itself) to the first non-Fake or the end along next."
--- The network is a function from index to node, of which the first n count. In an arc 0 stands for the end.
+-- The arcs of a sheet, document 01 under "Arcs". "Node 1 is the start, the last node the end; other arc ends are event
+-- nodes (Arrive or Clear), by number." Read off the sheet: "each of node 1, event nodes and split Fakes (Fakes that are
+-- next alternatives, 0 being none) has one arc, with its own time to next and distance to next. It leads from the event
+-- or start whose next alternatives reach it (the start or an event: from itself) to the first non-Fake or the end along
+-- next." The network is a function from index to node, of which the first n count. In an arc 0 stands for the end.
 use mathlib.Core.Path.{_≡_}
 use mathlib.Core.Bool.{Bool, true, false, not, _&&_, _||_, cond}
 use mathlib.Core.List.{List, [], _∷_, _++_}
@@ -56,7 +57,12 @@ module _ (node : ℕ → EstTime) (n : ℕ) where
   -- "with its own time to next and distance to next"
   unfoldable pub arcOf : ℕ → Arc
   unfolding sourceOf goalOf
-  arcOf i = record { from = sourceOf n i; to = goalOf n (node i .«idx_next»); time = node i .«time_to_next»; distance = node i .«dist_to_next» }
+  arcOf i = record {
+    from = sourceOf n i;
+    to = goalOf n (node i .«idx_next»);
+    time = node i .«time_to_next»;
+    distance = node i .«dist_to_next»;
+  }
 
   -- the arcs of the first k nodes
   unfoldable pub arcsBelow : ℕ → List Arc
@@ -72,7 +78,9 @@ module _ (node : ℕ → EstTime) (n : ℕ) where
 -- ---- "the same as often each, both ends and every bit of time and distance"
 
 unfoldable pub sameArc : Arc → Arc → Bool
-sameArc a b = eqb (a .from) (b .from) && eqb (a .to) (b .to) && eqb (toBits binary64 (a .time)) (toBits binary64 (b .time)) && eqb (toBits binary64 (a .distance)) (toBits binary64 (b .distance))
+sameArc a b =
+    eqb (a .from) (b .from) && eqb (a .to) (b .to) && eqb (toBits binary64 (a .time)) (toBits binary64 (b .time)) && eqb
+    (toBits binary64 (a .distance)) (toBits binary64 (b .distance))
 
 abbrev pub one : Bool → ℕ
 one true = 1

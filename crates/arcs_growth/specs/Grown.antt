@@ -1,4 +1,5 @@
--- "The growth rule is a definition over the book alone": two growths are the same when they have the same nodes, counts and noted arcs, whatever lies beyond the nodes in their tables.
+-- "The growth rule is a definition over the book alone": two growths are the same when they have the same nodes, counts
+-- and noted arcs, whatever lies beyond the nodes in their tables.
 use mathlib.Core.Path.{_≡_}
 use Prim.Native.Nat.{ℕ, _<_}
 use Rattle.net_node.specs.Table.{at}

@@ -1,5 +1,6 @@
--- What every noted arc is, document 01 under "Arcs": a finish's, "(place, end) with zeros"; an origin's Arrive's, "(start, its node) with its time minus the book's departure and distance 0";
--- or an arc between two neighbouring events of a run.
+-- What every noted arc is, document 01 under "Arcs": a finish's, "(place, end) with zeros"; an origin's Arrive's,
+-- "(start, its node) with its time minus the book's departure and distance 0"; or an arc between two neighbouring
+-- events of a run.
 use mathlib.Core.Path.{_≡_}
 use mathlib.Core.Logic.{_⊎_}
 use mathlib.Core.Bool.{true}

@@ -16,4 +16,5 @@ pub record Read (b : List ℕ) : Type 0 where
   -- row 7: "parent not below own number", which is the row's number and one more
   pub parents : (i : ℕ) → i < legs b → legParent b i ≤ i
   -- row 5: "next = next alternative, nonzero", of the links that legs have
-  pub forks : (i : ℕ) → i < legs b → linkNext b (legLink b i) ≡ linkNextAlt b (legLink b i) → linkNext b (legLink b i) ≡ 0
+  pub forks : (i : ℕ) → i < legs b → linkNext b (legLink b i) ≡ linkNextAlt b (legLink b i)
+      → linkNext b (legLink b i) ≡ 0

@@ -1,5 +1,6 @@
--- The runs of a book and what an arc between events is, document 01 under "Arcs": "Its events are its origin's Arrive and Clear, then its legs' events in order."
--- Each arc between two events leads from one event of a run to the very next of that run, with that run's own differences.
+-- The runs of a book and what an arc between events is, document 01 under "Arcs": "Its events are its origin's Arrive
+-- and Clear, then its legs' events in order." Each arc between two events leads from one event of a run to the very
+-- next of that run, with that run's own differences.
 use mathlib.Core.Path.{_≡_}
 use mathlib.Core.Logic.{_⊎_}
 use mathlib.Core.List.{List, [], _∷_, _++_}
@@ -22,7 +23,9 @@ eventsOfLegs b (j ∷ js) = legEvents b j ++ eventsOfLegs b js
 -- "its origin's Arrive and Clear": the origin's link is that of the first leg
 abbrev pub originEvents : List ℕ → List ℕ → List TimedEvent
 originEvents b [] = []
-originEvents b (j ∷ js) = originEvent b (linkOf b j) Arrive (ofBits binary64 0) ∷ originEvent b (linkOf b j) Clear (add binary64 (ofBits binary64 0) (floatOf (lengthBits b))) ∷ []
+originEvents b (j ∷ js) =
+    originEvent b (linkOf b j) Arrive (ofBits binary64 0) ∷ originEvent b (linkOf b j) Clear
+    (add binary64 (ofBits binary64 0) (floatOf (lengthBits b))) ∷ []
 
 -- the events of the run that has taken the legs up to leg j
 unfoldable pub runEventsTo : List ℕ → ℕ → List TimedEvent
@@ -35,7 +38,8 @@ NextTo [] a c = ⊥
 NextTo (x ∷ []) a c = ⊥
 NextTo (x ∷ y ∷ xs) a c = ((x ≡ a) × (y ≡ c)) ⊎ NextTo (y ∷ xs) a c
 
--- An arc between two events of the network: two neighbouring events of a run, whose link and kind its ends have, and whose differences it holds.
+-- An arc between two events of the network: two neighbouring events of a run, whose link and kind its ends have, and
+-- whose differences it holds.
 pub record Follows (b : List ℕ) (node : ℕ → EstTime) (arc : Arc) : Type 0 where
   pub leg : ℕ
   pub before : TimedEvent

@@ -5,3 +5,4 @@ pub mod Linking
 pub mod Walking
 pub mod Takes
 pub mod Starts
+pub mod Found

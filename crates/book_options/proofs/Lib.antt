@@ -4,3 +4,4 @@ pub mod Walks
 pub mod Ends
 pub mod Kept
 pub mod Examples
+pub mod Apart

@@ -13,14 +13,15 @@ use Rattle.grow_ends.specs.declared.TailAnswer.the-variants.{Nodes, Full}
 use Rattle.grow_ends.specs.Ends.{EndsIn, SomeEnds, TailAs}
 use Rattle.grow_ends.proofs.Kept.{fakes-counted}
 use Rattle.grow_rules.specs.Run.{Net}
-use Rattle.grow_rules.specs.Growth.{Tail, endFakes, lastNode, grownWith}
-use Rattle.grow_rules.specs.Growth.{Grown as Network}
+use Rattle.grow_rules.specs.Growth.{endFakes, lastNode, grownWith}
+use Rattle.net_node.specs.Left.{Network}
+use Rattle.grow_rules.specs.Growth.{Grown}
 use Rattle.grow_events.specs.declared.Counts.{Counts}
 use Rattle.grow_events.specs.Held.{endsAt}
 use Rattle.grow_book.specs.Answers.{Closing, SomeClosing, closing, WholeAs}
 
-abbrev lastly : ℕ → Net → Tail → Answer Network
-lastly places net u = andThen (lastNode places u) (λ (v : Tail). given (grownWith net v))
+abbrev lastly : ℕ → Net → Network → Answer Grown
+lastly places net u = andThen (lastNode places u) (λ (v : Network). given (grownWith net v))
 
 closing-is : (places : ℕ) (net : Net) → closing places net ≡ andThen (endFakes places (net .ends) 0 (record { table = net .table; nodes = net .nodes })) (lastly places net)
 unfolding closing
@@ -41,7 +42,7 @@ module _ (w : Layout) (fs : List Float) (us cells : List ℕ) (c : Counts) where
           ∙ ap (λ (n : ℕ). andThen (endFakes (w .places) (net .ends) 0 (record { table = record { floats = fs; numbers = us }; nodes = n })) (lastly (w .places) net)) (k .holds .nodes)
 
       pub fakes-full : r ≡ Full → closing (w .places) net ≡ refused 12
-      fakes-full e = tail-is ∙ ap (λ (a : Answer Tail). andThen a (lastly (w .places) net)) (subst (TailAs (endFakes (w .places) (net .ends) 0 (record { table = record { floats = fs; numbers = us }; nodes = c .nodes })) fs′ us′) e (t (net .ends) (k .holds .ends)))
+      fakes-full e = tail-is ∙ ap (λ (a : Answer Network). andThen a (lastly (w .places) net)) (subst (TailAs (endFakes (w .places) (net .ends) 0 (record { table = record { floats = fs; numbers = us }; nodes = c .nodes })) fs′ us′) e (t (net .ends) (k .holds .ends)))
 
       module _ (n : ℕ) (e : r ≡ Nodes n) where
         pushed : TailAs (endFakes (w .places) (net .ends) 0 (record { table = record { floats = fs; numbers = us }; nodes = c .nodes })) fs′ us′ (Nodes n)
@@ -51,18 +52,18 @@ module _ (w : Layout) (fs : List Float) (us cells : List ℕ) (c : Counts) where
         counted = fakes-counted (w .places) (c .nodes) n (net .ends) (record { floats = fs; numbers = us }) fs′ us′ (k .holds .within) pushed
 
         then-last : closing (w .places) net ≡ lastly (w .places) net (record { table = record { floats = fs′; numbers = us′ }; nodes = n })
-        then-last = tail-is ∙ ap (λ (a : Answer Tail). andThen a (lastly (w .places) net)) pushed
+        then-last = tail-is ∙ ap (λ (a : Answer Network). andThen a (lastly (w .places) net)) pushed
 
         module _ (fs″ : List Float) (us″ : List ℕ) (q : TailAnswer) (l : TailAs (lastNode (w .places) (record { table = record { floats = fs′; numbers = us′ }; nodes = n })) fs″ us″ q) where
           pub last-full : q ≡ Full → closing (w .places) net ≡ refused 12
-          last-full d = then-last ∙ ap (λ (a : Answer Tail). andThen a (λ (v : Tail). given (grownWith net v))) (subst (TailAs (lastNode (w .places) (record { table = record { floats = fs′; numbers = us′ }; nodes = n })) fs″ us″) d l)
+          last-full d = then-last ∙ ap (λ (a : Answer Network). andThen a (λ (v : Network). given (grownWith net v))) (subst (TailAs (lastNode (w .places) (record { table = record { floats = fs′; numbers = us′ }; nodes = n })) fs″ us″) d l)
 
           pub closed-whole : (m : ℕ) → q ≡ Nodes m → WholeAs (closing (w .places) net) fs″ us″ m (c .added) (c .splits) (c .joined) (n - c .nodes)
           unfolding grownWith
           closed-whole m d =
               record {
                 network = grownWith net (record { table = record { floats = fs″; numbers = us″ }; nodes = m });
-                is = then-last ∙ ap (λ (a : Answer Tail). andThen a (λ (v : Tail). given (grownWith net v))) (subst (TailAs (lastNode (w .places) (record { table = record { floats = fs′; numbers = us′ }; nodes = n })) fs″ us″) d l);
+                is = then-last ∙ ap (λ (a : Answer Network). andThen a (λ (v : Network). given (grownWith net v))) (subst (TailAs (lastNode (w .places) (record { table = record { floats = fs′; numbers = us′ }; nodes = n })) fs″ us″) d l);
                 floats = refl;
                 numbers = refl;
                 nodes-are = refl;

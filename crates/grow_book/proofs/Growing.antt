@@ -16,7 +16,7 @@ use Rattle.book_format.specs.Format.{links, legs}
 use Rattle.book_options.specs.Options.{keptOrigins}
 use Rattle.book_reader.specs.Reader.{Ready}
 use Rattle.net_node.specs.declared.EstTime.{EstTime}
-use Rattle.net_node.specs.Table.{Room, nodeAt, Table, put, at}
+use Rattle.net_node.specs.Table.{Room, nodeAt, Table, put, at, floatWidth, numberWidth}
 use Rattle.net_event_map.proofs.Kept.{mapped-start}
 use Rattle.grow_ends.proofs.Kept.{ends-none, flag-none, first-room, first-indexed, node-one, zero-fake, one-fake}
 use Rattle.grow_path.specs.Path.{pointOffset}
@@ -122,8 +122,8 @@ grow-from b places t h = grow-is b places t ∙ ap (λ (x : Bool). andThen (star
 -- ---- room for the table
 
 pub record Fits (floats numbers places : ℕ) : Type 0 where
-  pub floats-fit : places * 4 ≤ floats
-  pub numbers-fit : places * 6 ≤ numbers
+  pub floats-fit : places * floatWidth ≤ floats
+  pub numbers-fit : places * numberWidth ≤ numbers
   pub most : places ≤ 65535
 
 pub places-fit : {floats numbers places : ℕ} → places ≡ placesOf floats numbers → Fits floats numbers places

@@ -1,4 +1,5 @@
-// Growth of a book's network: its origins, all runs, the ends. Contracts: grow_rules' specs/Growth.antt, specs/Answers.antt.
+// Growth of a book's network: its origins, all runs, the ends. Contracts: grow_rules' specs/Growth.antt,
+// specs/Answers.antt.
 use book_format::Sections;
 use grow_ends::TailAnswer;
 use grow_events::Counts;
@@ -10,22 +11,20 @@ use net_insertion::Place;
 use report::Report;
 ghost use mathlib.Core.Path.{_≡_};
 ghost use mathlib.Core.Bool.{true, false, not, _&&_};
-ghost use mathlib.Core.List.{List, []};
 ghost use Prim.Native.Nat.{ℕ, _+_, _*_, _≤_};
 ghost use lib.Dec.{eqb};
 ghost use lib.ListN.{length};
-ghost use lib.Ieee.{Float};
 ghost use Rattle.net_node.specs.Left.{placesOf};
 ghost use Rattle.net_node.specs.Table.{nodeAt};
 ghost use Rattle.book_format.specs.Format.{links, origins, destinations, legs};
 ghost use Rattle.book_legs.specs.Legs.{Started};
 ghost use Rattle.book_options.specs.Options.{OptionsIn, keptOrigins};
 ghost use Rattle.book_reader.specs.Reader.{Ready};
-ghost use Rattle.grow_rules.specs.Run.{Net, Run};
-ghost use Rattle.grow_rules.specs.Growth.{drive, grow};
-ghost use Rattle.grow_state.specs.Held.{PlanIn, DriveIn, Driving, SomeDrive, TurnedAs};
-ghost use Rattle.grow_origins.specs.Origins.{startState, OriginsIn, SomeOrigins, OnlyStart};
-ghost use Rattle.grow_book.specs.Answers.{nextTurn, DriveAs, Closing, SomeClosing, closing, grownFrom, GrownAs};
+ghost use Rattle.grow_rules.specs.Growth.{grow};
+ghost use Rattle.grow_state.specs.Held.{PlanIn, Driving, SomeDrive, SameDrive, listsAtEntry, listsAtExit};
+ghost use Rattle.grow_origins.specs.Origins.{startState, SomeOrigins, OnlyStart};
+ghost use Rattle.net_node.specs.Lent.{tableAtEntry, tableAtExit};
+ghost use Rattle.grow_book.specs.Answers.{SomeClosing, GrownAs, TakesNext, Drives, Closes, GrowsFirst};
 
 // The counts of a network that has grown, or the number of a refusal.
 pub enum GrownBook {
@@ -47,7 +46,8 @@ fn to_front(reals: &[f64], cells: &[u32], joins: &mut [u32], p: Plan, g: State) 
     requires { ⌜ 2048 ≤ length (now joins) ⌝ }
     requires { ⌜ (not (g .front .moves) && eqb (g .top) 0) ≡ false ⌝ }
     ensures moves { λ r. ⌜ r .front .moves ≡ true ⌝ }
-    ensures held { λ r. ⌜ ((b : List ℕ) (fs : List Float) (us path : List ℕ) (net : Net) (runs : List Run) → DriveIn b p fs us (now (reals .entry)) (now (cells .entry)) (now (joins .entry)) path g net runs → DriveIn b p fs us (now (reals .entry)) (now (cells .entry)) (now (joins .exit)) path r net runs) ⌝ }
+    ensures held { λ r. ⌜ SameDrive p (now (reals .entry)) (now (cells .entry)) (now (joins .entry)) (now (joins .exit))
+        g r ⌝ }
 {
     let front = g.front;
     if front.moves {
@@ -78,7 +78,8 @@ fn next_turn(
     requires { ⌜ 2048 ≤ length (now scratch) ⌝ }
     requires { ⌜ 4096 ≤ length (now stack) ⌝ }
     requires { ⌜ (not (g .front .moves) && eqb (g .top) 0) ≡ false ⌝ }
-    ensures { λ r. ⌜ ((path : List ℕ) (net : Net) (runs : List Run) → DriveIn (now (book .entry)) p (now (floats .entry)) (now (numbers .entry)) (now (reals .entry)) (now (cells .entry)) (now (joins .entry)) path g net runs → TurnedAs (nextTurn (now (book .entry)) (p .w .places) net runs) (now (book .entry)) p (now (floats .exit)) (now (numbers .exit)) (now (reals .exit)) (now (cells .exit)) (now (joins .exit)) r) ⌝ }
+    ensures { λ r. ⌜ TakesNext (now (book .entry)) p g (listsAtEntry floats numbers reals cells joins)
+        (listsAtExit floats numbers reals cells joins) r ⌝ }
 {
     let h = to_front(reals, cells, joins, p, g);
     grow_leg::turn(
@@ -96,7 +97,8 @@ fn next_turn(
     )
 }
 
-// All runs, a leg to a turn: "last saved run first". A leg is taken at most once, so as many turns as there are legs are enough.
+// All runs, a leg to a turn: "last saved run first". A leg is taken at most once, so as many turns as there are legs
+// are enough.
 fn drive(
     book: &[u8],
     floats: &mut [f64],
@@ -117,7 +119,8 @@ fn drive(
     requires { ⌜ 2048 ≤ length (now joins) ⌝ }
     requires { ⌜ 2048 ≤ length (now scratch) ⌝ }
     requires { ⌜ 4096 ≤ length (now stack) ⌝ }
-    ensures { λ r. ⌜ ((path : List ℕ) (net : Net) (runs : List Run) → DriveIn (now (book .entry)) p (now (floats .entry)) (now (numbers .entry)) (now (reals .entry)) (now (cells .entry)) (now (joins .entry)) path g net runs → DriveAs (drive (legs (now (book .entry))) (now (book .entry)) (p .w .places) net runs) p (now (floats .exit)) (now (numbers .exit)) (now (cells .exit)) r) ⌝ }
+    ensures { λ r. ⌜ Drives (now (book .entry)) p g (listsAtEntry floats numbers reals cells joins)
+        (listsAtExit floats numbers reals cells joins) r ⌝ }
 {
     let s = p.s;
     let mut state = g;
@@ -151,7 +154,7 @@ fn drive(
 // The end Fakes and the last node.
 fn close(floats: &mut [f64], numbers: &mut [u32], cells: &[u32], w: Layout, c: Counts) -> GrownBook
     requires { ⌜ SomeClosing w (now floats) (now numbers) (now cells) c ⌝ }
-    ensures { λ r. ⌜ ((net : Net) → Closing w (now (floats .entry)) (now (numbers .entry)) (now (cells .entry)) c net → GrownAs (closing (w .places) net) (now (floats .exit)) (now (numbers .exit)) r) ⌝ }
+    ensures { λ r. ⌜ Closes w c (tableAtEntry floats numbers) (now (cells .entry)) (tableAtExit floats numbers) r ⌝ }
 {
     let fakes = grow_ends::end_fakes(
         floats,
@@ -196,13 +199,15 @@ fn run_all(
     requires { ⌜ OptionsIn (now book) (now marks) ⌝ }
     requires { ⌜ 2 * links (now book) + destinations (now book) + origins (now book) ≤ length (now marks) ⌝ }
     requires { ⌜ kept ≡ length (keptOrigins (now book)) ⌝ }
-    requires { ⌜ SomeOrigins (now book) p (now floats) (now numbers) (now reals) (now cells) (now joins) (keptOrigins (now book)) startState ⌝ }
+    requires { ⌜ SomeOrigins (now book) p (now floats) (now numbers) (now reals) (now cells) (now joins)
+        (keptOrigins (now book)) startState ⌝ }
     requires { ⌜ OnlyStart (nodeAt (now floats) (now numbers)) 2 ⌝ }
     requires { ⌜ Started (now book) (now marks) ⌝ }
     requires { ⌜ 2048 ≤ length (now joins) ⌝ }
     requires { ⌜ 2048 ≤ length (now scratch) ⌝ }
     requires { ⌜ 4096 ≤ length (now stack) ⌝ }
-    ensures { λ r. ⌜ ((net : Net) → OriginsIn (now (book .entry)) p (now (floats .entry)) (now (numbers .entry)) (now (reals .entry)) (now (cells .entry)) (now (joins .entry)) (keptOrigins (now (book .entry))) startState net [] → GrownAs (grownFrom (now (book .entry)) (p .w .places) net) (now (floats .exit)) (now (numbers .exit)) r) ⌝ }
+    ensures { λ r. ⌜ GrowsFirst (now (book .entry)) p (listsAtEntry floats numbers reals cells joins)
+        (tableAtExit floats numbers) r ⌝ }
 {
     let g = grow_origins::first_state();
     let with_origins = grow_origins::origins(
@@ -244,7 +249,8 @@ fn run_all(
     }
 }
 
-// Grows the network of a book that was read, in a table and work space that are lent: the report's counts, or the number of a refusal.
+// Grows the network of a book that was read, in a table and work space that are lent: the report's counts, or the
+// number of a refusal.
 pub fn grow_book(
     book: &[u8],
     s: Sections,
@@ -257,9 +263,12 @@ pub fn grow_book(
 ) -> GrownBook
     requires { ⌜ Ready (now book) s kept (now cells) (now marks) ⌝ }
     requires { ⌜ legs (now book) * 3 + 4 ≤ length (now reals) ⌝ }
-    requires { ⌜ (legs (now book) + 1 + placesOf (length (now floats)) (length (now numbers)) + links (now book)) * 8 ≤ length (now cells) ⌝ }
+    requires { ⌜ (legs (now book) + 1 + placesOf (length (now floats)) (length (now numbers)) + links (now book)) * 8 ≤
+        length (now cells) ⌝ }
     requires { ⌜ 2 * links (now book) + destinations (now book) + origins (now book) ≤ length (now marks) ⌝ }
-    ensures { λ r. ⌜ GrownAs (grow (now (book .entry)) (placesOf (length (now (floats .entry))) (length (now (numbers .entry)))) (record { floats = now (floats .entry); numbers = now (numbers .entry) })) (now (floats .exit)) (now (numbers .exit)) r ⌝ }
+    ensures { λ r. ⌜ GrownAs
+        (grow (now (book .entry)) (placesOf (length (now (floats .entry))) (length (now (numbers .entry))))
+        (tableAtEntry floats numbers)) (now (floats .exit)) (now (numbers .exit)) r ⌝ }
 {
     let places = net_node::places(floats.len(), numbers.len());
     if places < 2 {

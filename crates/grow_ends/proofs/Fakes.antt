@@ -12,13 +12,14 @@ use Rattle.laws.specs.Answer.{refused, given, andThen}
 use Rattle.net_node.specs.declared.EstTime.{EstTime}
 use Rattle.net_node.specs.Table.{nodeAt, putFloats, putNumbers, Table, put, at}
 use Rattle.net_event_map.specs.EventMap.{headOf}
-use Rattle.grow_rules.specs.Growth.{Tail, fakeNode, leadsToEnd, roomFor, endFakes, lastNode}
+use Rattle.grow_rules.specs.Growth.{fakeNode, leadsToEnd, roomFor, endFakes, lastNode}
+use Rattle.net_node.specs.Left.{Network}
 use Rattle.grow_ends.specs.Ends.{EndsIn, Below, SomeEnds}
 
 abbrev tableOf : List Float → List ℕ → Table
 tableOf fs us = record { floats = fs; numbers = us }
 
-abbrev tailOf : Table → ℕ → Tail
+abbrev tailOf : Table → ℕ → Network
 tailOf t k = record { table = t; nodes = k }
 
 -- ---- one store

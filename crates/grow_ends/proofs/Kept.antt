@@ -18,9 +18,11 @@ use Rattle.net_node.specs.Table.{Indexed, blank, noLinkEvent, Table, put, at}
 use Rattle.net_insertion.specs.Insertion.{flagged}
 use Rattle.net_insertion.proofs.Answers.{flagged-set, flagged-clear}
 use Rattle.net_event_map.specs.EventMap.{headOf}
-use Rattle.net_event_map.proofs.Lists.{known, not-both}
+use Rattle.laws.proofs.Below.{or-right}
+use Rattle.laws.proofs.Cases.{known, not-both}
 use Rattle.grow_rules.specs.Run.{Net, Run, memberOf}
-use Rattle.grow_rules.specs.Growth.{Tail, fakeNode, badFinish, leadsToEnd, roomFor, endFakes, lastNode}
+use Rattle.grow_rules.specs.Growth.{fakeNode, badFinish, leadsToEnd, roomFor, endFakes, lastNode}
+use Rattle.net_node.specs.Left.{Network}
 use Rattle.grow_ends.specs.declared.TailAnswer.the-variants.{Nodes}
 use Rattle.grow_ends.specs.Ends.{EndsIn, Below, SomeEnds, TailAs, MarkedAs}
 
@@ -29,12 +31,8 @@ use Rattle.grow_ends.specs.Ends.{EndsIn, Below, SomeEnds, TailAs, Marked
 pub member-first : (i : ℕ) (is : List ℕ) → memberOf (i ∷ is) i ≡ true
 member-first i is = ap (λ (b : Bool). b || memberOf is i) (eq-eqb i i refl)
 
-or-true : (a b : Bool) → b ≡ true → (a || b) ≡ true
-or-true true b h = refl
-or-true false b h = h
-
 pub member-more : (i j : ℕ) (is : List ℕ) → memberOf is j ≡ true → memberOf (i ∷ is) j ≡ true
-member-more i j is h = or-true (eqb i j) (memberOf is j) h
+member-more i j is h = or-right (eqb i j) (memberOf is j) h
 
 -- a member and a number that is none differ
 pub member-apart : (is : List ℕ) (i j : ℕ) → memberOf is i ≡ false → memberOf is j ≡ true → j ≡ i → ⊥
@@ -204,11 +202,11 @@ module _ (t : Table) (time : Float) (places : ℕ) (room : RoomIn t places) (mor
 
 -- ---- how many nodes there are
 
-abbrev Counted : ℕ → ℕ → Answer Tail → Type 0
+abbrev Counted : ℕ → ℕ → Answer Network → Type 0
 Counted m places (refused r) = Unit
 Counted m places (given t) = (t .nodes ≡ m) × (t .nodes ≤ places)
 
-counted-fakes : (places : ℕ) (is : List ℕ) (alt : ℕ) (t : Tail) → t .nodes ≤ places → Counted (t .nodes + length is) places (endFakes places is alt t)
+counted-fakes : (places : ℕ) (is : List ℕ) (alt : ℕ) (t : Network) → t .nodes ≤ places → Counted (t .nodes + length is) places (endFakes places is alt t)
 unfolding endFakes
 counted-fakes places [] alt t h = (omega arith, h)
 counted-fakes places (i ∷ is) alt t h = go (ltb (t .nodes) places) refl (counted-fakes places is (t .nodes) led)
@@ -216,7 +214,7 @@ counted-fakes places (i ∷ is) alt t h = go (ltb (t .nodes) places) refl (count
     fake : Table
     fake = put (t .table) (t .nodes) (fakeNode (suc (t .nodes)) i alt (ofBits binary64 0))
 
-    led : Tail
+    led : Network
     led = record { table = put fake i (leadsToEnd (at fake i) (t .nodes)); nodes = suc (t .nodes) }
 
     go : (b : Bool) → ltb (t .nodes) places ≡ b → (suc (t .nodes) ≤ places → Counted (suc (t .nodes) + length is) places (endFakes places is (t .nodes) led))
@@ -234,7 +232,7 @@ pub last-counted : (places n k : ℕ) (t : Table) (fs : List Float) (us : List �
 unfolding lastNode
 last-counted places n k t fs us e = subst (Counted (suc n) places) e (go (ltb n places) refl)
   where
-    last : Tail
+    last : Network
     last = record { table = put t n (fakeNode 0 (n - 1) 0 (ofBits binary64 0)); nodes = suc n }
 
     go : (b : Bool) → ltb n places ≡ b → Counted (suc n) places (roomFor b last)

@@ -1,14 +1,14 @@
-// Where a network begins and ends: nodes 0 and 1, a run's finish, the end Fakes and the last node. Contracts: grow_rules' specs/Growth.antt, specs/Ends.antt.
+// Where a network begins and ends: nodes 0 and 1, a run's finish, the end Fakes and the last node. Contracts:
+// grow_rules' specs/Growth.antt, specs/Ends.antt.
 use net_insertion::Place;
 use net_node::EstTime;
 ghost use mathlib.Core.Path.{_≡_};
-ghost use mathlib.Core.List.{List};
-ghost use Prim.Native.Nat.{ℕ, _+_, _*_, _≤_, _<_};
+ghost use Prim.Native.Nat.{_+_, _*_, _≤_, _<_};
 ghost use lib.ListN.{length};
-ghost use lib.Ieee.{binary64, ofBits};
-ghost use Rattle.net_node.specs.Table.{Room, put};
-ghost use Rattle.grow_rules.specs.Growth.{fakeNode, leadsToEnd, endFakes, lastNode};
-ghost use Rattle.grow_ends.specs.Ends.{EndsIn, SomeEnds, TailAs, FinishAs, MarkedAs};
+ghost use Rattle.net_node.specs.Table.{Room, floatWidth, numberWidth};
+ghost use Rattle.grow_rules.specs.Growth.{fakeNode, leadsToEnd, lastNode};
+ghost use Rattle.net_node.specs.Lent.{tableAtEntry};
+ghost use Rattle.grow_ends.specs.Ends.{SomeEnds, TailAs, FinishAs, MarkedAs, PushesEnds, firstTwo};
 
 // How many nodes there are then, or that one did not fit (refusal 12).
 pub enum TailAnswer {
@@ -30,10 +30,10 @@ fn fake_node(next: u32, prev: u32, prev_alt: u32, time: f64) -> EstTime
 
 // Node 0 leads to node 1, the start, which holds the departure.
 pub fn first_nodes(floats: &mut [f64], numbers: &mut [u32], departure: f64)
-    requires { ⌜ 8 ≤ length (now floats) ⌝ }
-    requires { ⌜ 12 ≤ length (now numbers) ⌝ }
-    ensures floats { λ _. ⌜ now (floats .exit) ≡ put (put (record { floats = now (floats .entry); numbers = now (numbers .entry) }) 0 (fakeNode 1 0 0 (ofBits binary64 0))) 1 (fakeNode 0 0 0 departure) .floats ⌝ }
-    ensures numbers { λ _. ⌜ now (numbers .exit) ≡ put (put (record { floats = now (floats .entry); numbers = now (numbers .entry) }) 0 (fakeNode 1 0 0 (ofBits binary64 0))) 1 (fakeNode 0 0 0 departure) .numbers ⌝ }
+    requires { ⌜ 2 * floatWidth ≤ length (now floats) ⌝ }
+    requires { ⌜ 2 * numberWidth ≤ length (now numbers) ⌝ }
+    ensures floats { λ _. ⌜ now (floats .exit) ≡ firstTwo (tableAtEntry floats numbers) departure .floats ⌝ }
+    ensures numbers { λ _. ⌜ now (numbers .exit) ≡ firstTwo (tableAtEntry floats numbers) departure .numbers ⌝ }
 {
     let first = fake_node(1, 0, 0, 0.0);
     net_node::store(floats, numbers, 0, first);
@@ -55,8 +55,10 @@ pub fn finish(
     requires { ⌜ 0 < n ⌝ }
     requires { ⌜ «ends_at» + n * 8 ≤ length (now cells) + 7 ⌝ }
     requires { ⌜ «last_end» < n ⌝ }
-    ensures answer { λ r. ⌜ FinishAs (now (floats .entry)) (now (numbers .entry)) (now (cells .entry)) «ends_at» n place r ⌝ }
-    ensures cells { λ r. ⌜ MarkedAs (now (cells .entry)) (now (cells .exit)) «ends_at» «last_end» (place .«idx_prev») r ⌝ }
+    ensures answer { λ r. ⌜ FinishAs (now (floats .entry)) (now (numbers .entry)) (now (cells .entry)) «ends_at» n place
+        r ⌝ }
+    ensures cells { λ r. ⌜ MarkedAs (now (cells .entry)) (now (cells .exit)) «ends_at» «last_end» (place .«idx_prev»)
+        r ⌝ }
 {
     let last = n - 1;
     if place.idx_prev as usize != last {
@@ -99,7 +101,8 @@ pub fn end_fakes(
     requires { ⌜ n ≤ places ⌝ }
     requires { ⌜ «ends_at» + n * 8 ≤ length (now cells) + 7 ⌝ }
     requires { ⌜ SomeEnds (now cells) «ends_at» «last_end» n ⌝ }
-    ensures { λ r. ⌜ ((ends : List ℕ) → EndsIn (now (cells .entry)) «ends_at» «last_end» ends → TailAs (endFakes places ends 0 (record { table = record { floats = now (floats .entry); numbers = now (numbers .entry) }; nodes = n })) (now (floats .exit)) (now (numbers .exit)) r) ⌝ }
+    ensures { λ r. ⌜ PushesEnds (now (cells .entry)) «ends_at» «last_end» places
+        (record { table = tableAtEntry floats numbers; nodes = n }) (now (floats .exit)) (now (numbers .exit)) r ⌝ }
 {
     let mut i = last_end;
     let mut alt: u32 = 0;
@@ -124,7 +127,8 @@ pub fn end_fakes(
 pub fn last_node(floats: &mut [f64], numbers: &mut [u32], n: usize, places: usize) -> TailAnswer
     requires { ⌜ Room (now floats) (now numbers) places ⌝ }
     requires { ⌜ 0 < n ⌝ }
-    ensures { λ r. ⌜ TailAs (lastNode places (record { table = record { floats = now (floats .entry); numbers = now (numbers .entry) }; nodes = n })) (now (floats .exit)) (now (numbers .exit)) r ⌝ }
+    ensures { λ r. ⌜ TailAs (lastNode places (record { table = tableAtEntry floats numbers; nodes = n }))
+        (now (floats .exit)) (now (numbers .exit)) r ⌝ }
 {
     if places <= n {
         return TailAnswer::Full;

@@ -1,4 +1,5 @@
-// A run on its way: one event is joined or inserted, then all of a leg. Contracts: grow_rules' specs/Run.antt, specs/Held.antt.
+// A run on its way: one event is joined or inserted, then all of a leg. Contracts: grow_rules' specs/Run.antt,
+// specs/Held.antt.
 use event_walk::Heads;
 use event_walk::Movement;
 use event_walk::Next;
@@ -8,17 +9,17 @@ use net_insertion::Place;
 use net_joins::Step;
 use net_node::TimedEvent;
 ghost use mathlib.Core.Path.{_≡_};
-ghost use mathlib.Core.List.{List};
 ghost use Prim.Native.Nat.{ℕ, _+_, _≤_, _<_};
 ghost use lib.ListN.{length};
 ghost use Rattle.event_walk.specs.Course.{courseOf, Held, Walkable};
-ghost use Rattle.event_walk.specs.Walk.{passedFrom, pointsPassed, someBad, Within};
-ghost use Rattle.grow_path.specs.Path.{eventsAt};
+ghost use Rattle.event_walk.specs.Walk.{passedFrom, someBad, Within};
 ghost use Rattle.net_event_map.specs.EventMap.{Real};
-ghost use Rattle.grow_rules.specs.Run.{Net, Run, countIf, insertEvent, goesOn, runEvent, runEvents};
-ghost use Rattle.grow_events.specs.Held.{NetIn, RunIn, Growing, Moving, Along, SomePath, OutcomeAs, NotFewer, unlessBad, stoppedAs};
+ghost use Rattle.net_node.specs.Lent.{tableAtEntry, tableAtExit};
+ghost use Rattle.grow_events.specs.Held.{Growing, Moving, SomePath, NotFewer, stoppedAs, netAtEntry, netAtExit};
+ghost use Rattle.grow_events.specs.Held.{InsertsEvent, RunsEvent, RunsLeg, countsAdded, countsJoined};
 
-// What is counted of a network: its nodes, event nodes, split Fakes and joins; and the latest node at which a run has finished, or 0.
+// What is counted of a network: its nodes, event nodes, split Fakes and joins; and the latest node at which a run has
+// finished, or 0.
 pub struct Counts {
     pub nodes: usize,
     pub added: usize,
@@ -45,7 +46,7 @@ pub enum RunAnswer {
 fn with_added(c: Counts, node: u32, split: bool) -> Counts
     requires { ⌜ c .added < 65535 ⌝ }
     requires { ⌜ c .splits < 65535 ⌝ }
-    ensures { λ r. ⌜ r ≡ record { nodes = node + 1; added = c .added + 1; splits = countIf split (c .splits); joined = c .joined; «last_end» = c .«last_end» } ⌝ }
+    ensures { λ r. ⌜ r ≡ countsAdded c node split ⌝ }
 {
     let splits = if split { c.splits + 1 } else { c.splits };
     Counts {
@@ -71,7 +72,8 @@ pub fn insert_event(
     requires { ⌜ Growing w (now floats) (now numbers) (now cells) c ⌝ }
     requires { ⌜ m .place .«idx_prev» < c .nodes ⌝ }
     requires { ⌜ Real (e .«link_event») (w .links) ⌝ }
-    ensures outcome { λ r. ⌜ ((start joins : List ℕ) (leg : ℕ) (net : Net) (run : Run) → NetIn w start (now (floats .entry)) (now (numbers .entry)) (now (cells .entry)) c net → RunIn (c .nodes) leg joins m run → OutcomeAs (goesOn (insertEvent (w .places) join net run e)) w start leg (now (floats .exit)) (now (numbers .exit)) (now (cells .exit)) joins r) ⌝ }
+    ensures outcome { λ r. ⌜ InsertsEvent w join c m e (tableAtEntry floats numbers) (now (cells .entry))
+        (tableAtExit floats numbers) (now (cells .exit)) r ⌝ }
     ensures more { λ r. ⌜ NotFewer c r ⌝ }
 {
     let place = m.place;
@@ -116,7 +118,7 @@ pub fn insert_event(
 fn with_joined(c: Counts) -> Counts
     requires { ⌜ c .nodes < 65535 ⌝ }
     requires { ⌜ c .joined < 65535 ⌝ }
-    ensures { λ r. ⌜ r ≡ record { nodes = c .nodes + 1; added = c .added; splits = c .splits; joined = c .joined + 1; «last_end» = c .«last_end» } ⌝ }
+    ensures { λ r. ⌜ r ≡ countsJoined c ⌝ }
 {
     Counts {
         nodes: c.nodes + 1,
@@ -146,7 +148,8 @@ pub fn run_event(
     requires { ⌜ 2048 ≤ length (now joins) ⌝ }
     requires { ⌜ 2048 ≤ length (now scratch) ⌝ }
     requires { ⌜ 4096 ≤ length (now stack) ⌝ }
-    ensures outcome { λ r. ⌜ ((start : List ℕ) (leg : ℕ) (net : Net) (run : Run) → NetIn w start (now (floats .entry)) (now (numbers .entry)) (now (cells .entry)) c net → RunIn (c .nodes) leg (now (joins .entry)) m run → OutcomeAs (runEvent (w .places) join net run e) w start leg (now (floats .exit)) (now (numbers .exit)) (now (cells .exit)) (now (joins .exit)) r) ⌝ }
+    ensures outcome { λ r. ⌜ RunsEvent w join c m e (netAtEntry floats numbers cells joins)
+        (netAtExit floats numbers cells joins) r ⌝ }
     ensures more { λ r. ⌜ NotFewer c r ⌝ }
 {
     if !m.has_split {
@@ -185,7 +188,8 @@ fn stopped(book: &[u8], reals: &[f64], v: Movement, from: Heads, became: RunAnsw
     requires { ⌜ Held (now book) (now reals) v ⌝ }
     requires { ⌜ Walkable (courseOf (now book) (now reals) v) ⌝ }
     requires { ⌜ Within (courseOf (now book) (now reals) v) from ⌝ }
-    ensures { λ r. ⌜ r ≡ stoppedAs (someBad (passedFrom (courseOf (now (book .entry)) (now (reals .entry)) v) from)) became ⌝ }
+    ensures { λ r. ⌜ r ≡ stoppedAs (someBad (passedFrom (courseOf (now (book .entry)) (now (reals .entry)) v) from))
+        became ⌝ }
 {
     if grow_path::some_bad(book, reals, v, from) {
         return RunAnswer::Refused(11);
@@ -193,8 +197,9 @@ fn stopped(book: &[u8], reals: &[f64], v: Movement, from: Heads, became: RunAnsw
     became
 }
 
-// The events of a leg whose samples don't reach the last point, one after the other, until the run ends. Row 11 goes before all that an event of the leg gives, so each is tested as it comes, and those
-// that are left where the run stops.
+// The events of a leg whose samples don't reach the last point, one after the other, until the run ends. Row 11 goes
+// before all that an event of the leg gives, so each is tested as it comes, and those that are left where the run
+// stops.
 pub fn run_events(
     book: &[u8],
     reals: &[f64],
@@ -217,7 +222,8 @@ pub fn run_events(
     requires { ⌜ 2048 ≤ length (now joins) ⌝ }
     requires { ⌜ 2048 ≤ length (now scratch) ⌝ }
     requires { ⌜ 4096 ≤ length (now stack) ⌝ }
-    ensures outcome { λ r. ⌜ ((start path : List ℕ) (leg : ℕ) (net : Net) (run : Run) → NetIn w start (now (floats .entry)) (now (numbers .entry)) (now (cells .entry)) c net → RunIn (c .nodes) leg (now (joins .entry)) m run → Along (now (book .entry)) (now (reals .entry)) (now (cells .entry)) w (v .points) path → OutcomeAs (unlessBad (someBad (pointsPassed (courseOf (now (book .entry)) (now (reals .entry)) v))) (runEvents (w .places) join (eventsAt (now (book .entry)) path (pointsPassed (courseOf (now (book .entry)) (now (reals .entry)) v))) (record { net = net; run = run }))) w start leg (now (floats .exit)) (now (numbers .exit)) (now (cells .exit)) (now (joins .exit)) r) ⌝ }
+    ensures outcome { λ r. ⌜ RunsLeg (now (book .entry)) (now (reals .entry)) v w join c m
+        (netAtEntry floats numbers cells joins) (netAtExit floats numbers cells joins) r ⌝ }
     ensures more { λ r. ⌜ NotFewer c r ⌝ }
 {
     let mut h = event_walk::start_heads(book, reals, v);

@@ -41,50 +41,6 @@ module _ (b : List ℕ) (link : ℕ) where
   unfolding isDestination
   none-there n e h = sym (subst NoneOf e h)
 
--- ---- row 5
-
-module _ (b : List ℕ) (h : row5 b ≡ false) (l : ℕ) (g : l < links b) where
-  good-link : badLink b l ≡ false
-  unfolding row5
-  good-link =
-      let a = not (linkZero b) in
-      let c = someBelow (links b) (badLink b) in
-      let d = someBelow (origins b) (λ i. noSuchLink b (originLink b i)) in
-      let e = someBelow (destinations b) (λ i. noSuchLink b (destinationLink b i)) in
-      none-at (links b) (badLink b) l g (none-right a c (none-left (a || c) d (none-left ((a || c) || d) e (none-left (((a || c) || d) || e) (someBelow (legs b) (badLegIndex b)) h))))
-
-  abbrev forked : Bool
-  forked = eqb (linkNext b l) (linkNextAlt b l) && ltb 0 (linkNext b l)
-
-  abbrev short : Bool
-  short = ltb 0 l && eqb (linkLength b l) 0
-
-  abbrev nexts : Bool
-  nexts = noSuchLink b (linkNext b l) || noSuchLink b (linkNextAlt b l)
-
-  nexts-named : nexts ≡ false
-  unfolding badLink
-  nexts-named =
-      let p = noSuchLink b (linkPrev b l) in
-      let q = noSuchLink b (linkPrevAlt b l) in
-      none-left nexts p (none-left (nexts || p) q (none-left ((nexts || p) || q) short (none-left (((nexts || p) || q) || short) forked good-link)))
-
-  pub next-named : linkNext b l < links b
-  next-named = leb-false (links b) (linkNext b l) (none-left (noSuchLink b (linkNext b l)) (noSuchLink b (linkNextAlt b l)) nexts-named)
-
-  pub next-alt-named : linkNextAlt b l < links b
-  next-alt-named = leb-false (links b) (linkNextAlt b l) (none-right (noSuchLink b (linkNext b l)) (noSuchLink b (linkNextAlt b l)) nexts-named)
-
-  -- a next that is a link is not its own alternative
-  pub next-other : eqb (linkNext b l) 0 ≡ false → linkNext b l ≡ linkNextAlt b l → ⊥
-  unfolding badLink
-  next-other n e =
-      let w = ((nexts || noSuchLink b (linkPrev b l)) || noSuchLink b (linkPrevAlt b l)) || short in
-      let x : forked ≡ false = none-right w forked good-link in
-      let y : ltb 0 (linkNext b l) ≡ false = sym (ap (λ (t : Bool). t && ltb 0 (linkNext b l)) (eq-eqb (linkNext b l) (linkNextAlt b l) e)) ∙ x in
-      let z : linkNext b l ≤ 0 = ltb-false 0 (linkNext b l) y in
-      eqb-false (linkNext b l) 0 n (omega arith)
-
 -- ---- the ways behind a link
 
 module _ (b : List ℕ) (l : ℕ) {x : Link} (e : x ≡ linkAt b l) where

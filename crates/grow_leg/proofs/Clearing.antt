@@ -6,14 +6,15 @@ use mathlib.Core.List.{List, [], _∷_}
 use Prim.Native.Nat.{ℕ, suc, _≤_, _<_}
 use native.Mathlib.Omega.{arith}
 use Rattle.book_format.specs.Format.{legs, legLink, legParent}
-use Rattle.net_event_map.proofs.Lists.{not-both}
+use Rattle.laws.proofs.Cases.{not-both}
 use Rattle.grow_path.specs.Path.{pathOf}
 use Rattle.grow_waiting.specs.Held.{Waiting}
 use Rattle.grow_waiting.specs.Held.{Untaken}
 use Rattle.grow_rules.specs.Run.{Run, memberOf}
 use Rattle.grow_state.specs.Held.{Separate, SeparateFrom, AllSound, SameRuns}
 use Rattle.grow_leg.specs.OneLeg.{Free}
-use Rattle.grow_leg.proofs.Paths.{Above, member-none, path-own, path-below, path-closed, on-child}
+use Rattle.grow_leg.proofs.Paths.{member-none, path-own, path-below, path-closed, on-child}
+use Rattle.grow_path.proofs.Paths.{Above}
 
 module _ {b : List ℕ} (above : Above b) where
   -- a child, and a leg of which its parent is clear

@@ -26,7 +26,8 @@ use Rattle.grow_leg.specs.declared.Ways.{Ways}
 use Rattle.grow_leg.specs.declared.Ways.the-variants.{None, One, Both}
 use Rattle.grow_leg.specs.OneLeg.{AtEnd, Free, SavedOver, SavedAs, SomeLeg, waysAs}
 use Rattle.grow_leg.proofs.GoingOn.{front-leg, front-some}
-use Rattle.grow_leg.proofs.Choosing.{next-other, go-none, go-one, go-both, both-are}
+use Rattle.grow_leg.proofs.Choosing.{go-none, go-one, go-both, both-are}
+use Rattle.book_legs.proofs.Found.{next-other}
 
 -- ---- the link of a leg
 

@@ -1,7 +1,7 @@
 -- A run goes on over a link: the leg behind its own is found, or row 10 refuses it. A copy of it is saved to go on over another, or row 12 refuses that.
 use mathlib.Core.Path.{_≡_, refl, sym, ap, _∙_, subst}
 use mathlib.Core.Bool.{Bool, true, false}
-use mathlib.Core.List.{List, [], _∷_}
+use mathlib.Core.List.{List, [], _∷_, append-nil}
 use Prim.Native.Nat.{ℕ, zero, suc, _+_, _*_, _≤_, _<_}
 use native.Mathlib.Omega.{arith}
 use borrow.Author.Tests.{lt-ltb, le-ltb}
@@ -29,9 +29,10 @@ use Rattle.grow_state.specs.declared.State.{State}
 use Rattle.grow_state.specs.Held.{PlanIn, GivesAs, RunSound, Begins, Prefixes, pathBefore}
 use Rattle.grow_state.proofs.Keeping.{plan-legs, plan-room, net-same}
 use Rattle.grow_leg.specs.OneLeg.{AtEnd, Free, SavedOver}
-use Rattle.grow_leg.proofs.Paths.{LegOf, leg-found, path-long, before-child}
+use Rattle.grow_leg.proofs.Paths.{path-long, before-child}
+use Rattle.book_legs.proofs.Found.{LegOf, leg-found}
 use Rattle.grow_leg.proofs.Clearing.{free-more, clear-others}
-use Rattle.grow_leg.proofs.Keeping.{plan-above, wait-used, append-nil}
+use Rattle.grow_leg.proofs.Keeping.{plan-above, wait-used}
 
 -- ---- what `book_legs::take_leg` answers
 
@@ -114,7 +115,7 @@ module _ {b : List ℕ} {p : Plan} {fs : List Float} {us : List ℕ} {reals : Li
       sound added = record { some = omega arith; within = child .of .within; stands = a .sound .0 .stands; few = a .sound .0 .few; valid = a .sound .0 .valid }
 
       begins : Begins (pathOf b (run .leg)) (pathBefore b (suc i)) × Prefixes b (pathBefore b (suc i)) rest
-      begins = (record { rest = []; is = sym before ∙ append-nil (pathBefore b (suc i)) }, subst (λ (xs : List ℕ). Prefixes b xs rest) (sym before) (a .prefixes))
+      begins = (record { rest = []; is = sym before ∙ sym (append-nil (pathBefore b (suc i))) }, subst (λ (xs : List ℕ). Prefixes b xs rest) (sym before) (a .prefixes))
 
       on-is : onOver b net run link rest ≡ given (record { net = net; saved = taking (run .«has_split») ∷ rest })
       unfolding onOver seekLeg

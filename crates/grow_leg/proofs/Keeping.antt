@@ -1,6 +1,6 @@
 -- Parents of the plan's legs, how many entries wait, and what a longer path leaves. What a change elsewhere leaves is in state's proofs/Keeping.antt.
 use mathlib.Core.Path.{_≡_, refl, ap, _∙_}
-use mathlib.Core.List.{List, [], _∷_, _++_}
+use mathlib.Core.List.{List, [], _∷_, _++_, append-assoc}
 use Prim.Native.Nat.{ℕ, _-_}
 use native.Mathlib.Omega.{arith}
 use lib.ListN.{length}
@@ -12,7 +12,7 @@ use Rattle.grow_rules.specs.Run.{Run}
 use Rattle.grow_rules.specs.Growth.{waiting}
 use Rattle.grow_state.specs.declared.Plan.{Plan}
 use Rattle.grow_state.specs.Held.{PlanIn, WaitIn, SameRuns, Prefixes, pathBefore}
-use Rattle.grow_leg.proofs.Paths.{Above}
+use Rattle.grow_path.proofs.Paths.{Above}
 
 -- ---- the plan
 
@@ -36,14 +36,6 @@ pub wait-used : {b : List ℕ} {r : Rooms} {reals : List Float} {cells : List �
 wait-used {b} {r} {reals} {cells} {top} {used} {runs} w = used-is b cells reals r top used (w .runs) runs (w .kept) (w .same)
 
 -- ---- a longer path
-
-append-assoc : (xs ys zs : List ℕ) → (xs ++ ys) ++ zs ≡ xs ++ (ys ++ zs)
-append-assoc [] ys zs = refl
-append-assoc (x ∷ xs) ys zs = ap {B = List ℕ} (λ (ws : List ℕ). x ∷ ws) (append-assoc xs ys zs)
-
-pub append-nil : (xs : List ℕ) → xs ≡ xs ++ []
-append-nil [] = refl
-append-nil (x ∷ xs) = ap {B = List ℕ} (λ (ws : List ℕ). x ∷ ws) (append-nil xs)
 
 pub prefixes-more : (b path more : List ℕ) (runs : List Run) → Prefixes b path runs → Prefixes b (path ++ more) runs
 prefixes-more b path more [] h = tt

@@ -1,4 +1,4 @@
--- Paths of legs: a leg that is found is the book's, its path is its parent's and itself, and what is on a path.
+-- Paths of legs: what is on a path, and which links it goes over.
 use mathlib.Core.Path.{_≡_, refl, sym, ap, _∙_, subst}
 use mathlib.Core.Logic.{_⊎_, inl, inr}
 use mathlib.Core.Bool.{Bool, true, false, _&&_, _||_, cond}
@@ -11,32 +11,11 @@ use lib.ListN.{length, length-append}
 use Rattle.laws.proofs.Below.{or-left, or-right}
 use Rattle.book_format.specs.Format.{links, legs, legLink, legParent}
 use Rattle.book_format.specs.Chains.{legBelow}
-use Rattle.net_event_map.proofs.Lists.{known, not-both}
+use Rattle.laws.proofs.Cases.{known, not-both}
 use Rattle.grow_path.specs.Path.{legsTo, pathOf, linkOf, pointLink}
+use Rattle.grow_path.proofs.Paths.{Above, path-more}
 use Rattle.grow_rules.specs.Run.{memberOf}
 use Rattle.grow_state.specs.Held.{pathBefore}
-
--- ---- the leg with a parent and a link
-
-pub record LegOf (b : List ℕ) (n p l i : ℕ) : Type 0 where
-  pub within : i < n
-  pub parent : legParent b i ≡ p
-  pub link : legLink b i ≡ l
-
-pub leg-found : (b : List ℕ) (n p l i : ℕ) → legBelow b n p l ≡ suc i → LegOf b n p l i
-unfolding legBelow
-leg-found b zero p l i e = absurd (omega arith)
-leg-found b (suc n) p l i e = go (eqb (legParent b n) p) (eqb (legLink b n) l) refl refl e (leg-found b n p l i)
-  where
-    later : LegOf b n p l i → LegOf b (suc n) p l i
-    later o = record { within = omega (arith, o .within); parent = o .parent; link = o .link }
-
-    go : (x y : Bool) → eqb (legParent b n) p ≡ x → eqb (legLink b n) l ≡ y → cond (x && y) (suc n) (legBelow b n p l) ≡ suc i → (legBelow b n p l ≡ suc i → LegOf b n p l i) → LegOf b (suc n) p l i
-    go true true r s q ih =
-        let d : n ≡ i = omega arith in
-        record { within = omega arith; parent = ap (legParent b) (sym d) ∙ eqb-true (legParent b n) p r; link = ap (legLink b) (sym d) ∙ eqb-true (legLink b n) l s }
-    go true false r s q ih = later (ih q)
-    go false y r s q ih = later (ih q)
 
 -- ---- members
 
@@ -73,45 +52,11 @@ member-none xs i h = go (known (memberOf xs i))
 
 -- ---- paths
 
--- a parent's number is below its child's
-pub record Above (b : List ℕ) : Type 0 where
-  pub parents : (i : ℕ) → i < legs b → legParent b i ≤ i
-
--- no more legs than the leg's number
-legs-most : (k : ℕ) (b : List ℕ) (j : ℕ) → length (legsTo k b j) ≤ k
-unfolding legsTo
-legs-most zero b j = omega arith
-legs-most (suc k) b zero = omega arith
-legs-most (suc k) b (suc i) = omega (arith, length-append (legsTo k b (legParent b i)) (suc i ∷ []), legs-most k b (legParent b i))
-
-pub path-most : (b : List ℕ) (j : ℕ) → length (pathOf b j) ≤ j
-unfolding pathOf
-path-most b j = legs-most j b j
-
 module _ {b : List ℕ} (above : Above b) where
-  legs-enough : (k m p : ℕ) → p ≤ k → p ≤ m → p ≤ legs b → legsTo k b p ≡ legsTo m b p
-  unfolding legsTo
-  legs-enough zero zero p h g l = refl
-  legs-enough zero (suc m) zero h g l = refl
-  legs-enough zero (suc m) (suc p) h g l = absurd (omega arith)
-  legs-enough (suc k) zero zero h g l = refl
-  legs-enough (suc k) zero (suc p) h g l = absurd (omega arith)
-  legs-enough (suc k) (suc m) zero h g l = refl
-  legs-enough (suc k) (suc m) (suc p) h g l =
-      let q = above .parents p (omega arith) in
-      ap (λ (xs : List ℕ). xs ++ (suc p ∷ [])) (legs-enough k m (legParent b p) (omega arith) (omega arith) (omega arith))
-
-  -- a leg's path is its parent's and itself
-  path-more : (i : ℕ) → i < legs b → pathOf b (suc i) ≡ pathOf b (legParent b i) ++ (suc i ∷ [])
-  unfolding pathOf legsTo
-  path-more i h =
-      let q = above .parents i h in
-      ap (λ (xs : List ℕ). xs ++ (suc i ∷ [])) (legs-enough i (legParent b i) (legParent b i) q (omega arith) (omega arith))
-
   pub path-is : (j : ℕ) → 0 < j → j ≤ legs b → pathOf b j ≡ pathBefore b j ++ (j ∷ [])
   unfolding pathBefore
   path-is zero h l = absurd (omega arith)
-  path-is (suc i) h l = path-more i l ∙ ap (λ (k : ℕ). pathOf b (legParent b k) ++ (suc i ∷ [])) less
+  path-is (suc i) h l = path-more above i l ∙ ap (λ (k : ℕ). pathOf b (legParent b k) ++ (suc i ∷ [])) less
     where
       less : i ≡ suc i - 1
       less = omega arith
@@ -179,7 +124,7 @@ module _ {b : List ℕ} (above : Above b) where
   path-closed j i l o e = closed j j i (omega arith) l o e
 
   pub on-child : (j i s : ℕ) → i < legs b → legParent b i ≡ j → memberOf (pathOf b (suc i)) s ≡ true → (memberOf (pathOf b j) s ≡ true) ⊎ (suc i ≡ s)
-  on-child j i s h e m = member-snoc (pathOf b j) (suc i) s (ap (λ (p : ℕ). memberOf (pathOf b p ++ (suc i ∷ [])) s) (sym e) ∙ ap (λ (xs : List ℕ). memberOf xs s) (sym (path-more i h)) ∙ m)
+  on-child j i s h e m = member-snoc (pathOf b j) (suc i) s (ap (λ (p : ℕ). memberOf (pathOf b p ++ (suc i ∷ [])) s) (sym e) ∙ ap (λ (xs : List ℕ). memberOf xs s) (sym (path-more above i h)) ∙ m)
 
   -- ---- its links
 

@@ -31,7 +31,8 @@ use Rattle.grow_state.specs.declared.GrowthAnswer.{GrowthAnswer}
 use Rattle.grow_state.specs.Held.{PlanIn, DriveIn, WaitIn, AllSound, Prefixes, SeparateFrom, GivesAs, TurnedAs, pathBefore}
 use Rattle.grow_state.proofs.Keeping.{plan-room, chained-same, wait-same, sound-more}
 use Rattle.grow_leg.specs.OneLeg.{outcomeAs, legOutcome, WalkedAs, AtEnd, SomeWay, Free}
-use Rattle.grow_leg.proofs.Paths.{path-is, path-most}
+use Rattle.grow_leg.proofs.Paths.{path-is}
+use Rattle.grow_path.proofs.Paths.{path-most}
 use Rattle.grow_leg.proofs.Clearing.{all-free}
 use Rattle.grow_leg.proofs.Keeping.{plan-above, prefixes-more}
 use Rattle.grow_leg.proofs.Walking.{front-in, wait-in, same-leg, depth-inside}

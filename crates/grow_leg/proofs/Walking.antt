@@ -16,7 +16,7 @@ use Rattle.book_format.specs.Format.{links, legs, samples, samplesAt, legAt, le
 use Rattle.book_format.proofs.Places.{sized-samples-at, follow}
 use Rattle.book_format.proofs.Given.{limits, link-float, leg-named}
 use Rattle.net_event_map.specs.EventMap.{Mapped}
-use Rattle.net_event_map.proofs.Lists.{known}
+use Rattle.laws.proofs.Cases.{known}
 use Rattle.net_event_map.proofs.Kept.{mapped-before}
 use Rattle.book_legs.specs.declared.TakenLeg.{TakenLeg}
 use Rattle.book_legs.proofs.Takes.{leg-of}
@@ -42,7 +42,8 @@ use Rattle.grow_state.specs.declared.State.{State}
 use Rattle.grow_state.specs.Held.{PlanIn, DriveIn, Driving, FrontIn, WaitIn, RunsIn, pathBefore}
 use Rattle.grow_state.proofs.Keeping.{net-same}
 use Rattle.grow_leg.specs.OneLeg.{outcomeAs, legOutcome, WalkedAs}
-use Rattle.grow_leg.proofs.Paths.{path-is, path-long, path-most, path-named}
+use Rattle.grow_leg.proofs.Paths.{path-is, path-long, path-named}
+use Rattle.grow_path.proofs.Paths.{path-most}
 use Rattle.grow_leg.proofs.Keeping.{plan-above}
 use Rattle.grow_leg.proofs.Ending.{link-named}
 

@@ -1,4 +1,4 @@
--- Words of the parts of a turn alone. The turn is `takeLeg` of grow_rules' specs/Growth.antt.
+-- Words of the parts of a turn. The turn is `takeLeg` of grow_rules' specs/Growth.antt.
 use mathlib.Core.Path.{_≡_}
 use mathlib.Core.Logic.{_≢_}
 use mathlib.Core.Bool.{Bool, true, false}
@@ -7,20 +7,28 @@ use Prim.Native.Nat.{ℕ, suc, _+_, _*_, _≤_, _<_}
 use lib.ListN.{length, getD, set}
 use lib.Ieee.{Float, nan}
 use Rattle.laws.specs.Answer.{Answer, refused, given}
-use Rattle.book_format.specs.Format.{legs, legParent, legLink}
+use Rattle.book_format.specs.Format.{legs, legParent, legLink, linkNext, linkNextAlt}
 use Rattle.book_format.specs.Chains.{Chained}
 use Rattle.event_walk.specs.Walk.{row11}
 use Rattle.grow_path.specs.Path.{pathOf, linkOf, legCourse, legEvents}
 use Rattle.grow_path.specs.Kept.{PathIn}
 use Rattle.grow_rules.specs.Run.{Net, Run, Outcome, runEvents}
-use Rattle.grow_rules.specs.Growth.{joinGap}
+use Rattle.grow_rules.specs.Growth.{joinGap, onOver, saveOver, finishAs, badFinish, goOn, legEndAs, finishes, takeLeg}
 use Rattle.grow_events.specs.Held.{NetIn, OutcomeAs}
 use Rattle.grow_events.specs.declared.RunAnswer.{RunAnswer}
 use Rattle.grow_state.specs.declared.Plan.{Plan}
 use Rattle.grow_state.specs.declared.State.{State}
 use Rattle.grow_state.specs.declared.GrowthAnswer.{GrowthAnswer}
 use Rattle.grow_state.specs.declared.GrowthAnswer.the-variants.{On, Refused}
-use Rattle.grow_state.specs.Held.{PlanIn, FrontIn, WaitIn, AllSound, Prefixes, SeparateFrom, AllSeparate}
+use Rattle.grow_state.specs.Held.{PlanIn, FrontIn, WaitIn, AllSound, Prefixes, SeparateFrom, AllSeparate, Lists}
+use Rattle.grow_state.specs.Held.{DriveIn, TurnedAs}
+use lib.Dec.{eqb}
+use denote.Ref.{now}
+use Rattle.space.specs.Lent.{Lent}
+use Rattle.book_options.specs.Options.{inSet}
+use Rattle.net_node.specs.Table.{Table}
+use Rattle.grow_events.specs.declared.Counts.{Counts}
+use Rattle.grow_events.specs.declared.Mover.{Mover}
 use Rattle.grow_leg.specs.declared.Ways.{Ways}
 use Rattle.grow_leg.specs.declared.Ways.the-variants.{None, One, Both}
 
@@ -28,14 +36,18 @@ use Rattle.grow_leg.specs.declared.Ways.the-variants.{None, One, Both}
 
 abbrev pub outcomeAs : Bool → List ℕ → ℕ → Net → Run → Answer Outcome
 outcomeAs true b places net run = refused 11
-outcomeAs false b places net run = runEvents places (joinGap b) (legEvents b (run .leg)) (record { net = net; run = run })
+outcomeAs false b places net run =
+    runEvents places (joinGap b) (legEvents b (run .leg)) (record { net = net; run = run })
 
 -- row 11, then all events of the leg
 unfoldable pub legOutcome : List ℕ → ℕ → Net → Run → Answer Outcome
 legOutcome b places net run = outcomeAs (row11 (legCourse b (run .leg))) b places net run
 
--- What the walk of a leg leaves, whose number is j and behind whose path's first `depth` legs it is put: the path of the leg, and what it made of the network. All else in reals and cells is as it was.
-pub record WalkedAs (b : List ℕ) (p : Plan) (j depth : ℕ) (answer : Answer Outcome) (reals : List Float) (cells : List ℕ) (fs : List Float) (us : List ℕ) (reals′ : List Float) (cells′ joins : List ℕ) (r : RunAnswer) : Type 0 where
+-- What the walk of a leg leaves, whose number is j and behind whose path's first `depth` legs it is put: the path of
+-- the leg, and what it made of the network. All else in reals and cells is as it was.
+pub record WalkedAs (b : List ℕ) (p : Plan) (j depth : ℕ) (answer : Answer Outcome) (reals : List Float)
+    (cells : List ℕ) (fs : List Float) (us : List ℕ) (reals′ : List Float) (cells′ joins : List ℕ)
+    (r : RunAnswer) : Type 0 where
   pub kept : PathIn b reals′ (set cells (depth * 8 + 3) (linkOf b j)) (pathOf b j)
   pub reals-left : (q : ℕ) → q ≢ depth + 1 → getD reals′ q nan ≡ getD reals q nan
   pub outcome : OutcomeAs answer (p .w) (set cells (depth * 8 + 3) (linkOf b j)) j fs us cells′ joins r
@@ -43,7 +55,8 @@ pub record WalkedAs (b : List ℕ) (p : Plan) (j depth : ℕ) (answer : Answer O
 -- ---- the way on
 
 -- The run at the front has done its leg, whose path is kept; the rest wait.
-pub record AtEnd (b : List ℕ) (p : Plan) (fs : List Float) (us : List ℕ) (reals : List Float) (cells joins : List ℕ) (g : State) (net : Net) (run : Run) (rest : List Run) : Type 0 where
+pub record AtEnd (b : List ℕ) (p : Plan) (fs : List Float) (us : List ℕ) (reals : List Float) (cells joins : List ℕ)
+    (g : State) (net : Net) (run : Run) (rest : List Run) : Type 0 where
   pub moves : g .front .moves ≡ true
   pub grown : NetIn (p .w) cells fs us cells (g .counts) net
   pub chained : Chained b cells
@@ -55,7 +68,8 @@ pub record AtEnd (b : List ℕ) (p : Plan) (fs : List Float) (us : List ℕ) (re
   pub prefixes : Prefixes b (pathOf b (run .leg)) rest
   pub separate : AllSeparate b rest
 
-pub record SomeEnd (b : List ℕ) (p : Plan) (fs : List Float) (us : List ℕ) (reals : List Float) (cells joins : List ℕ) (g : State) : Type 0 where
+pub record SomeEnd (b : List ℕ) (p : Plan) (fs : List Float) (us : List ℕ) (reals : List Float) (cells joins : List ℕ)
+    (g : State) : Type 0 where
   pub net : Net
   pub run : Run
   pub rest : List Run
@@ -85,7 +99,8 @@ pub record Free (b : List ℕ) (run : Run) (rest : List Run) (link : ℕ) : Type
   pub legs-separate : (i : ℕ) → i < legs b → legParent b i ≡ run .leg → legLink b i ≡ link → SeparateFrom b (suc i) rest
 
 -- some run is, all of whose legs behind its own are separate from those that wait
-pub record SomeWay (b : List ℕ) (p : Plan) (fs : List Float) (us : List ℕ) (reals : List Float) (cells joins : List ℕ) (g : State) : Type 0 where
+pub record SomeWay (b : List ℕ) (p : Plan) (fs : List Float) (us : List ℕ) (reals : List Float) (cells joins : List ℕ)
+    (g : State) : Type 0 where
   pub net : Net
   pub run : Run
   pub rest : List Run
@@ -98,14 +113,18 @@ pub record SomeGoing (b : List ℕ) (p : Plan) (reals : List Float) (cells joins
   pub way : SomeWay b p fs us reals cells joins g
 
 -- a copy of the run is saved, or a refusal
-pub record SavedOver (answer : Answer (List Run)) (b : List ℕ) (p : Plan) (fs : List Float) (us : List ℕ) (reals : List Float) (cells joins : List ℕ) (g : State) (net : Net) (run : Run) (rest : List Run) (link : ℕ) : Type 0 where
+pub record SavedOver (answer : Answer (List Run)) (b : List ℕ) (p : Plan) (fs : List Float) (us : List ℕ)
+    (reals : List Float) (cells joins : List ℕ) (g : State) (net : Net) (run : Run) (rest : List Run)
+    (link : ℕ) : Type 0 where
   pub more : List Run
   pub is : answer ≡ given more
   pub ends : AtEnd b p fs us reals cells joins g net run more
   pub free : (l : ℕ) → l ≢ link → Free b run rest l → Free b run more l
 
-abbrev pub SavedAs : Answer (List Run) → List ℕ → Plan → List Float → List ℕ → List Float → List ℕ → List ℕ → Net → Run → List Run → ℕ → GrowthAnswer → Type 0
-SavedAs answer b p fs us reals cells joins net run rest link (On g) = SavedOver answer b p fs us reals cells joins g net run rest link
+abbrev pub SavedAs : Answer (List Run) → List ℕ → Plan → List Float → List ℕ → List Float → List ℕ → List ℕ → Net → Run
+    → List Run → ℕ → GrowthAnswer → Type 0
+SavedAs answer b p fs us reals cells joins net run rest link (On g) =
+    SavedOver answer b p fs us reals cells joins g net run rest link
 SavedAs answer b p fs us reals cells joins net run rest link (Refused k) = answer ≡ refused k
 
 -- the links over which a run can go on, by whether next is 0, and whether next and its alternative are in the set
@@ -115,3 +134,94 @@ waysAs false false false next alt = None
 waysAs false true false next alt = One next
 waysAs false false true next alt = One alt
 waysAs false true true next alt = Both next alt
+
+-- the links behind a link over which a run can go on
+abbrev pub waysBehind : List ℕ → ℕ → Ways
+waysBehind b l =
+    waysAs (eqb (linkNext b l) 0) (inSet b (linkNext b l)) (inSet b (linkNextAlt b l)) (linkNext b l) (linkNextAlt b l)
+
+-- a state with other counts, and the run at the front where it stands now
+abbrev pub standingAt : State → Counts → Mover → Bool → State
+standingAt g counts mover moves = record {
+  counts = counts;
+  top = g .top;
+  used = g .used;
+  front = record { moves = moves; mover = mover; leg = g .front .leg; depth = g .front .depth };
+}
+
+-- ---- what the parts of a turn answer, of every network and runs that the slices hold
+
+-- the run at the front finishes, in these cells
+abbrev pub FinishesRun : Plan → State → Table → List ℕ → List ℕ → GrowthAnswer → Type 0
+FinishesRun p g t cells cells′ r =
+    (b : List ℕ) (reals : List Float) (joins : List ℕ) (net : Net) (run : Run) (rest : List Run)
+    → PlanIn b p (length reals) → AtEnd b p (t .floats) (t .numbers) reals cells joins g net run rest
+    → TurnedAs (finishAs (badFinish net run) net run rest) b p (t .floats) (t .numbers) reals cells′ joins r
+
+-- it goes on over a link, where nothing is written
+abbrev pub GoesOver : List ℕ → Plan → State → List ℕ → ℕ → GrowthAnswer → Type 0
+GoesOver b p g cells link r =
+    (fs : List Float) (us : List ℕ) (reals : List Float) (joins : List ℕ) (net : Net) (run : Run) (rest : List Run)
+    → PlanIn b p (length reals) → AtEnd b p fs us reals cells joins g net run rest → Free b run rest link
+    → TurnedAs (onOver b net run link rest) b p fs us reals cells joins r
+
+-- the reals and cells, which are written where a run is saved, and the entries of the run at the front
+pub record Saves : Type 0 where
+  pub reals : List Float
+  pub cells : List ℕ
+  pub joins : List ℕ
+
+-- a copy of it is saved to go on over a link
+abbrev pub SavesOver : List ℕ → Plan → State → ℕ → Saves → Saves → GrowthAnswer → Type 0
+SavesOver b p g link s s′ r =
+    (fs : List Float) (us : List ℕ) (net : Net) (run : Run) (rest : List Run)
+    → AtEnd b p fs us (s .reals) (s .cells) (s .joins) g net run rest → Free b run rest link
+    → SavedAs (saveOver b (p .w .places) run link rest) b p fs us (s′ .reals) (s′ .cells) (s′ .joins) net run rest link
+    r
+
+-- it goes on behind its leg
+abbrev pub GoesBehind : List ℕ → Plan → State → Saves → Saves → GrowthAnswer → Type 0
+GoesBehind b p g s s′ r =
+    (fs : List Float) (us : List ℕ) (net : Net) (run : Run) (rest : List Run)
+    → AtEnd b p fs us (s .reals) (s .cells) (s .joins) g net run rest → ((l : ℕ) → Free b run rest l)
+    → TurnedAs (goOn b (p .w .places) net run rest) b p fs us (s′ .reals) (s′ .cells) (s′ .joins) r
+
+-- it finishes or goes on
+abbrev pub EndsLeg : List ℕ → Plan → State → Table → Saves → Saves → GrowthAnswer → Type 0
+EndsLeg b p g t s s′ r =
+    (net : Net) (run : Run) (rest : List Run)
+    → AtEnd b p (t .floats) (t .numbers) (s .reals) (s .cells) (s .joins) g net run rest
+    → ((l : ℕ) → Free b run rest l)
+    → TurnedAs (legEndAs (finishes b (run .leg)) b (p .w .places) (record { net = net; run = run }) rest)
+    b p (t .floats) (t .numbers) (s′ .reals) (s′ .cells) (s′ .joins) r
+
+-- its leg's events are walked
+abbrev pub WalksLeg : List ℕ → Plan → State → Lists → Lists → RunAnswer → Type 0
+WalksLeg b p g s s′ r =
+    (path : List ℕ) (net : Net) (run : Run) (saved : List Run)
+    → DriveIn b p (s .floats) (s .numbers) (s .reals) (s .cells) (s .joins) path g net (run ∷ saved)
+    → WalkedAs b p (run .leg) (g .front .depth) (legOutcome b (p .w .places) net run) (s .reals) (s .cells)
+    (s′ .floats) (s′ .numbers) (s′ .reals) (s′ .cells) (s′ .joins) r
+
+-- it takes its leg
+abbrev pub TakesLeg : List ℕ → Plan → State → Lists → Lists → GrowthAnswer → Type 0
+TakesLeg b p g s s′ r =
+    (path : List ℕ) (net : Net) (run : Run) (saved : List Run)
+    → DriveIn b p (s .floats) (s .numbers) (s .reals) (s .cells) (s .joins) path g net (run ∷ saved)
+    → TurnedAs (takeLeg b (p .w .places) net run saved)
+    b p (s′ .floats) (s′ .numbers) (s′ .reals) (s′ .cells) (s′ .joins) r
+
+-- the slices that are written where a run is saved, at a function's two moments; the entries are only read
+abbrev pub savesAtEntry : Lent (List Float) → Lent (List ℕ) → Lent (List ℕ) → Saves
+savesAtEntry reals cells joins = record {
+  reals = now (reals .entry);
+  cells = now (cells .entry);
+  joins = now (joins .entry);
+}
+
+abbrev pub savesAtExit : Lent (List Float) → Lent (List ℕ) → Lent (List ℕ) → Saves
+savesAtExit reals cells joins = record {
+  reals = now (reals .exit);
+  cells = now (cells .exit);
+  joins = now (joins .entry);
+}

@@ -1,4 +1,5 @@
-// One leg of the run at the front: its events, then a finish or the way on. Contracts: grow_rules' specs/Growth.antt, grow_state's specs/Held.antt, specs/OneLeg.antt.
+// One leg of the run at the front: its events, then a finish or the way on. Contracts: grow_rules' specs/Growth.antt,
+// grow_state's specs/Held.antt, specs/OneLeg.antt.
 use book_format::Sections;
 use book_legs::Taken;
 use grow_events::Counts;
@@ -9,21 +10,21 @@ use grow_state::GrowthAnswer;
 use grow_state::Plan;
 use grow_state::State;
 ghost use mathlib.Core.Path.{_≡_};
-ghost use mathlib.Core.Bool.{true, false};
-ghost use mathlib.Core.List.{List, _∷_};
+ghost use mathlib.Core.Bool.{true};
 ghost use Prim.Native.Nat.{ℕ, _%_, _≤_, _<_, _+_};
 ghost use lib.Dec.{eqb};
 ghost use lib.ListN.{length, getD};
-ghost use lib.Ieee.{Float};
-ghost use Rattle.book_format.specs.Format.{Sized, links, linkNext, linkNextAlt};
+ghost use Rattle.book_format.specs.Format.{Sized, links};
 ghost use Rattle.book_format.specs.Chains.{Readable};
-ghost use Rattle.book_options.specs.Options.{OptionsIn, inSet};
+ghost use Rattle.book_options.specs.Options.{OptionsIn};
 ghost use Rattle.grow_path.specs.Path.{linkOf};
-ghost use Rattle.grow_rules.specs.Run.{Net, Run};
-ghost use Rattle.grow_rules.specs.Growth.{isDestination, onOver, saveOver, finishAs, badFinish, goOn, legEndAs, finishes, takeLeg};
+ghost use Rattle.grow_rules.specs.Growth.{isDestination};
 ghost use Rattle.grow_events.specs.Held.{NotFewer};
-ghost use Rattle.grow_state.specs.Held.{PlanIn, DriveIn, Driving, TurnedAs};
-ghost use Rattle.grow_leg.specs.OneLeg.{legOutcome, WalkedAs, AtEnd, SomeFinish, SomeLeg, SomeEnding, SomeWay, SomeGoing, Free, SavedAs, waysAs};
+ghost use Rattle.grow_state.specs.Held.{PlanIn, Driving, listsAtEntry, listsAtExit};
+ghost use Rattle.net_node.specs.Lent.{tableAtEntry};
+ghost use Rattle.grow_leg.specs.OneLeg.{SomeFinish, SomeLeg, SomeEnding, SomeWay, SomeGoing, waysBehind};
+ghost use Rattle.grow_leg.specs.OneLeg.{standingAt, FinishesRun, GoesOver, SavesOver, GoesBehind, EndsLeg};
+ghost use Rattle.grow_leg.specs.OneLeg.{WalksLeg, TakesLeg, savesAtEntry, savesAtExit};
 
 // The links over which a run can go on. Of two the alternative is saved.
 pub enum Ways {
@@ -34,7 +35,7 @@ pub enum Ways {
 
 // A state with other counts, and the run at the front where it stands now.
 fn standing(g: State, counts: Counts, mover: Mover, moves: bool) -> State
-    ensures { λ r. ⌜ r ≡ record { counts = counts; top = g .top; used = g .used; front = record { moves = moves; mover = mover; leg = g .front .leg; depth = g .front .depth } } ⌝ }
+    ensures { λ r. ⌜ r ≡ standingAt g counts mover moves ⌝ }
 {
     let front = g.front;
     State {
@@ -79,7 +80,7 @@ fn ways_behind(book: &[u8], s: Sections, marks: &[u32], link_idx: u32) -> Ways
     requires { ⌜ OptionsIn (now book) (now marks) ⌝ }
     requires { ⌜ links (now book) ≤ length (now marks) ⌝ }
     requires { ⌜ «link_idx» < links (now book) ⌝ }
-    ensures { λ r. ⌜ r ≡ waysAs (eqb (linkNext (now (book .entry)) «link_idx») 0) (inSet (now (book .entry)) (linkNext (now (book .entry)) «link_idx»)) (inSet (now (book .entry)) (linkNextAlt (now (book .entry)) «link_idx»)) (linkNext (now (book .entry)) «link_idx») (linkNextAlt (now (book .entry)) «link_idx») ⌝ }
+    ensures { λ r. ⌜ r ≡ waysBehind (now (book .entry)) «link_idx» ⌝ }
 {
     let link = book_format::link_at(book, s, link_idx as usize);
     if link.idx_next == 0 {
@@ -101,7 +102,7 @@ fn ways_behind(book: &[u8], s: Sections, marks: &[u32], link_idx: u32) -> Ways
 // The run at the front finishes, unless row 13 holds.
 fn finish_run(floats: &[f64], numbers: &[u32], cells: &mut [u32], p: Plan, g: State) -> GrowthAnswer
     requires { ⌜ SomeFinish p (now floats) (now numbers) (now cells) g ⌝ }
-    ensures { λ r. ⌜ ((b : List ℕ) (reals : List Float) (joins : List ℕ) (net : Net) (run : Run) (rest : List Run) → PlanIn b p (length reals) → AtEnd b p (now (floats .entry)) (now (numbers .entry)) reals (now (cells .entry)) joins g net run rest → TurnedAs (finishAs (badFinish net run) net run rest) b p (now (floats .entry)) (now (numbers .entry)) reals (now (cells .exit)) joins r) ⌝ }
+    ensures { λ r. ⌜ FinishesRun p g (tableAtEntry floats numbers) (now (cells .entry)) (now (cells .exit)) r ⌝ }
 {
     let counts = g.counts;
     let front = g.front;
@@ -132,7 +133,7 @@ fn finish_run(floats: &[f64], numbers: &[u32], cells: &mut [u32], p: Plan, g: St
 // The run at the front goes on over a link: "The leg is found or the book is refused with 10".
 fn on_over(book: &[u8], cells: &[u32], p: Plan, g: State, link_idx: u32) -> GrowthAnswer
     requires { ⌜ SomeLeg (now book) (now cells) p g ⌝ }
-    ensures { λ r. ⌜ ((fs : List Float) (us : List ℕ) (reals : List Float) (joins : List ℕ) (net : Net) (run : Run) (rest : List Run) → PlanIn (now (book .entry)) p (length reals) → AtEnd (now (book .entry)) p fs us reals (now (cells .entry)) joins g net run rest → Free (now (book .entry)) run rest «link_idx» → TurnedAs (onOver (now (book .entry)) net run «link_idx» rest) (now (book .entry)) p fs us reals (now (cells .entry)) joins r) ⌝ }
+    ensures { λ r. ⌜ GoesOver (now (book .entry)) p g (now (cells .entry)) «link_idx» r ⌝ }
 {
     let s = p.s;
     let counts = g.counts;
@@ -164,7 +165,8 @@ fn waiting_entries(used: usize, count: usize) -> usize
     used + count
 }
 
-// The run at the front goes on over one link, and a copy of it, which has not added, is saved to go on over another. Row 12: the entries of all runs that wait.
+// The run at the front goes on over one link, and a copy of it, which has not added, is saved to go on over another.
+// Row 12: the entries of all runs that wait.
 fn save_over(
     book: &[u8],
     reals: &mut [f64],
@@ -177,7 +179,8 @@ fn save_over(
     requires { ⌜ PlanIn (now book) p (length (now reals)) ⌝ }
     requires { ⌜ SomeEnding (now book) p (now reals) (now cells) (now joins) g ⌝ }
     requires { ⌜ 2048 ≤ length (now joins) ⌝ }
-    ensures { λ r. ⌜ ((fs : List Float) (us : List ℕ) (net : Net) (run : Run) (rest : List Run) → AtEnd (now (book .entry)) p fs us (now (reals .entry)) (now (cells .entry)) (now (joins .entry)) g net run rest → Free (now (book .entry)) run rest «link_idx» → SavedAs (saveOver (now (book .entry)) (p .w .places) run «link_idx» rest) (now (book .entry)) p fs us (now (reals .exit)) (now (cells .exit)) (now (joins .entry)) net run rest «link_idx» r) ⌝ }
+    ensures { λ r. ⌜ SavesOver (now (book .entry)) p g «link_idx» (savesAtEntry reals cells joins)
+        (savesAtExit reals cells joins) r ⌝ }
 {
     let s = p.s;
     let r = p.r;
@@ -230,7 +233,8 @@ fn go_on(
     requires { ⌜ SomeGoing (now book) p (now reals) (now cells) (now joins) g ⌝ }
     requires { ⌜ «link_idx» ≡ linkOf (now book) (g .front .leg) ⌝ }
     requires { ⌜ 2048 ≤ length (now joins) ⌝ }
-    ensures { λ r. ⌜ ((fs : List Float) (us : List ℕ) (net : Net) (run : Run) (rest : List Run) → AtEnd (now (book .entry)) p fs us (now (reals .entry)) (now (cells .entry)) (now (joins .entry)) g net run rest → ((l : ℕ) → Free (now (book .entry)) run rest l) → TurnedAs (goOn (now (book .entry)) (p .w .places) net run rest) (now (book .entry)) p fs us (now (reals .exit)) (now (cells .exit)) (now (joins .entry)) r) ⌝ }
+    ensures { λ r. ⌜ GoesBehind (now (book .entry)) p g (savesAtEntry reals cells joins) (savesAtExit reals cells joins)
+        r ⌝ }
 {
     let s = p.s;
     let ways = ways_behind(book, s, marks, link_idx);
@@ -247,7 +251,8 @@ fn go_on(
     }
 }
 
-// What becomes of the run at the front, which has done its leg: "A run finishes in the leg whose link is a destination, never in its first leg."
+// What becomes of the run at the front, which has done its leg: "A run finishes in the leg whose link is a destination,
+// never in its first leg."
 fn end_leg(
     book: &[u8],
     floats: &[f64],
@@ -264,7 +269,8 @@ fn end_leg(
     requires { ⌜ links (now book) ≤ length (now marks) ⌝ }
     requires { ⌜ SomeWay (now book) p (now floats) (now numbers) (now reals) (now cells) (now joins) g ⌝ }
     requires { ⌜ 2048 ≤ length (now joins) ⌝ }
-    ensures { λ r. ⌜ ((net : Net) (run : Run) (rest : List Run) → AtEnd (now (book .entry)) p (now (floats .entry)) (now (numbers .entry)) (now (reals .entry)) (now (cells .entry)) (now (joins .entry)) g net run rest → ((l : ℕ) → Free (now (book .entry)) run rest l) → TurnedAs (legEndAs (finishes (now (book .entry)) (run .leg)) (now (book .entry)) (p .w .places) (record { net = net; run = run }) rest) (now (book .entry)) p (now (floats .entry)) (now (numbers .entry)) (now (reals .exit)) (now (cells .exit)) (now (joins .entry)) r) ⌝ }
+    ensures { λ r. ⌜ EndsLeg (now (book .entry)) p g (tableAtEntry floats numbers) (savesAtEntry reals cells joins)
+        (savesAtExit reals cells joins) r ⌝ }
 {
     let s = p.s;
     let front = g.front;
@@ -295,7 +301,8 @@ fn walk_leg(
     requires { ⌜ 2048 ≤ length (now joins) ⌝ }
     requires { ⌜ 2048 ≤ length (now scratch) ⌝ }
     requires { ⌜ 4096 ≤ length (now stack) ⌝ }
-    ensures walked { λ r. ⌜ ((path : List ℕ) (net : Net) (run : Run) (saved : List Run) → DriveIn (now (book .entry)) p (now (floats .entry)) (now (numbers .entry)) (now (reals .entry)) (now (cells .entry)) (now (joins .entry)) path g net (run ∷ saved) → WalkedAs (now (book .entry)) p (run .leg) (g .front .depth) (legOutcome (now (book .entry)) (p .w .places) net run) (now (reals .entry)) (now (cells .entry)) (now (floats .exit)) (now (numbers .exit)) (now (reals .exit)) (now (cells .exit)) (now (joins .exit)) r) ⌝ }
+    ensures walked { λ r. ⌜ WalksLeg (now (book .entry)) p g (listsAtEntry floats numbers reals cells joins)
+        (listsAtExit floats numbers reals cells joins) r ⌝ }
     ensures more { λ r. ⌜ NotFewer (g .counts) r ⌝ }
 {
     let s = p.s;
@@ -349,7 +356,8 @@ pub fn turn(
     requires { ⌜ 2048 ≤ length (now joins) ⌝ }
     requires { ⌜ 2048 ≤ length (now scratch) ⌝ }
     requires { ⌜ 4096 ≤ length (now stack) ⌝ }
-    ensures { λ r. ⌜ ((path : List ℕ) (net : Net) (run : Run) (saved : List Run) → DriveIn (now (book .entry)) p (now (floats .entry)) (now (numbers .entry)) (now (reals .entry)) (now (cells .entry)) (now (joins .entry)) path g net (run ∷ saved) → TurnedAs (takeLeg (now (book .entry)) (p .w .places) net run saved) (now (book .entry)) p (now (floats .exit)) (now (numbers .exit)) (now (reals .exit)) (now (cells .exit)) (now (joins .exit)) r) ⌝ }
+    ensures { λ r. ⌜ TakesLeg (now (book .entry)) p g (listsAtEntry floats numbers reals cells joins)
+        (listsAtExit floats numbers reals cells joins) r ⌝ }
 {
     let front = g.front;
     let before = front.mover;

@@ -15,8 +15,7 @@ use Rattle.book_format.proofs.Given.{limits}
 use Rattle.book_format.proofs.Places.{sized-links, sized-destinations}
 use Rattle.book_options.specs.Options.{OptionsIn, keptOrigins}
 use Rattle.book_options.proofs.Kept.{kept-named, kept-most}
-use Rattle.arcs_growth.proofs.Books.{Other, kept-apart}
-use Rattle.arcs_growth.proofs.Books.{Apart as AllOther}
+use Rattle.book_options.proofs.Apart.{Other, kept-apart, Apart as AllOther}
 use Rattle.grow_rules.specs.Run.{Net, Run}
 use Rattle.grow_rules.specs.Growth.{Growth, growOrigin, growOrigins}
 use Rattle.grow_events.specs.declared.Counts.{Counts}

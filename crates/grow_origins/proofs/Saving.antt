@@ -26,7 +26,7 @@ use Rattle.grow_waiting.specs.declared.Rooms.{Rooms}
 use Rattle.grow_waiting.specs.Held.{Waiting, Untaken, SavedIn, waitingOf}
 use Rattle.grow_waiting.specs.Held.{SavedElsewhere}
 use Rattle.grow_waiting.proofs.Kept.{node-left, save-chained, save-path, save-mapped, saved-room}
-use Rattle.arcs_growth.proofs.Paths.{LegOf, leg-found}
+use Rattle.book_legs.proofs.Found.{LegOf, leg-found}
 use Rattle.grow_rules.specs.Run.{Net, Run, memberOf}
 use Rattle.grow_rules.specs.Growth.{takes, seekLeg}
 use Rattle.grow_events.specs.declared.Counts.{Counts}

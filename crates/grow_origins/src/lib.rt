@@ -1,4 +1,5 @@
-// The kept origins of a book, inserted at the start of its network: each one's events, then its run, which waits. Contracts: grow_rules' specs/Growth.antt, specs/Origins.antt.
+// The kept origins of a book, inserted at the start of its network: each one's events, then its run, which waits.
+// Contracts: grow_rules' specs/Growth.antt, specs/Origins.antt.
 use book_format::Sections;
 use book_legs::Taken;
 use grow_events::Counts;
@@ -16,27 +17,28 @@ use net_node::LinkEvent;
 use net_node::TimedEvent;
 ghost use mathlib.Core.Path.{_≡_};
 ghost use mathlib.Core.Logic.{_≢_};
-ghost use mathlib.Core.Bool.{false};
-ghost use mathlib.Core.List.{List, [], _∷_};
 ghost use Prim.Native.Nat.{ℕ, _+_, _*_, _≤_, _<_};
 ghost use lib.ListN.{length};
-ghost use lib.Ieee.{Float, binary64, ofBits};
 ghost use Rattle.net_node.specs.Table.{nodeAt};
 ghost use Rattle.book_format.specs.Format.{links, origins, destinations, legs, originLink};
 ghost use Rattle.book_format.specs.Chains.{Readable};
 ghost use Rattle.book_legs.specs.Legs.{Started};
 ghost use Rattle.book_options.specs.Options.{OptionsIn, keptOrigins};
-ghost use Rattle.grow_rules.specs.Run.{Net, Run};
-ghost use Rattle.grow_rules.specs.Growth.{growOrigin, growOrigins};
-ghost use Rattle.grow_events.specs.Held.{Growing, NetIn, OutcomeAs, NotFewer};
-ghost use Rattle.grow_state.specs.Held.{PlanIn};
-ghost use Rattle.grow_origins.specs.Origins.{startState, originAnswer, OtherLinks, LeadsFrom, OnlyStart, SomeOrigin, SomeOrigins, OriginsIn, OriginsAs, OriginInserted, SomeOriginInserted, savedOrigin};
+ghost use Rattle.grow_events.specs.Held.{Growing, NotFewer};
+ghost use Rattle.grow_state.specs.Held.{PlanIn, listsAtEntry};
+ghost use Rattle.net_node.specs.Lent.{tableAtEntry, tableAtExit};
+ghost use Rattle.grow_waiting.specs.Steps.{stacksAtEntry, stacksAtExit};
+ghost use Rattle.grow_origins.specs.Origins.{startState, LeadsFrom, OnlyStart, SomeOrigin, SomeOrigins};
+ghost use Rattle.grow_origins.specs.Origins.{SomeOriginInserted, tableOf, eventAtRest, moverAt, InsertsOrigin};
+ghost use Rattle.grow_origins.specs.Origins.{SavesOrigin, GrowsOrigin, GrowsOrigins, listsLeft};
 
-// What growth goes by. The legs' units of cells stand first, then the nodes', then the links'; the path's points stand first in the reals, then the pairs of the runs that wait.
+// What growth goes by. The legs' units of cells stand first, then the nodes', then the links'; the path's points stand
+// first in the reals, then the pairs of the runs that wait.
 pub fn plan_of(book: &[u8], s: Sections, places: usize) -> Plan
     requires { ⌜ Readable (now book) s ⌝ }
     requires { ⌜ places ≤ 65535 ⌝ }
-    ensures plan { λ r. ⌜ ((reals : ℕ) → legs (now (book .entry)) * 3 + 4 ≤ reals → PlanIn (now (book .entry)) r reals) ⌝ }
+    ensures plan { λ r. ⌜ ((reals : ℕ) → legs (now (book .entry)) * 3 + 4 ≤ reals
+        → PlanIn (now (book .entry)) r reals) ⌝ }
     ensures places { λ r. ⌜ r .w .places ≡ places ⌝ }
     ensures links { λ r. ⌜ r .w .«links_at» ≡ (legs (now (book .entry)) + 1) * 8 + places * 8 ⌝ }
 {
@@ -66,7 +68,7 @@ pub fn plan_of(book: &[u8], s: Sections, places: usize) -> Plan
 
 // An origin's event, at the departure and at rest.
 fn origin_event(departure: f64, link_idx: u32, est_type: EstType, offset: f64) -> TimedEvent
-    ensures { λ r. ⌜ r ≡ record { time = departure; offset = offset; speed = ofBits binary64 0; «link_event» = record { «link_idx» = «link_idx»; «est_type» = «est_type» } } ⌝ }
+    ensures { λ r. ⌜ r ≡ eventAtRest departure «link_idx» «est_type» offset ⌝ }
 {
     let link_event = LinkEvent { link_idx, est_type };
     TimedEvent {
@@ -79,7 +81,7 @@ fn origin_event(departure: f64, link_idx: u32, est_type: EstType, offset: f64) -
 
 // A run at the start, or at an alternative of it.
 fn origin_run(departure: f64, idx_prev: u32) -> Mover
-    ensures { λ r. ⌜ r ≡ record { place = record { «time_to_next» = departure; «dist_to_next» = ofBits binary64 0; «idx_prev» = «idx_prev» }; «has_split» = false; count = 0 } ⌝ }
+    ensures { λ r. ⌜ r ≡ moverAt departure «idx_prev» ⌝ }
 {
     let place = Place {
         time_to_next: departure,
@@ -119,7 +121,8 @@ pub fn first_state() -> State
     }
 }
 
-// An origin's Arrive at offset 0 and its Clear at the train's length. The Arrive is sought from the start's last alternative on: those before it lead to other links.
+// An origin's Arrive at offset 0 and its Clear at the train's length. The Arrive is sought from the start's last
+// alternative on: those before it lead to other links.
 fn origin_events(
     floats: &mut [f64],
     numbers: &mut [u32],
@@ -131,8 +134,9 @@ fn origin_events(
 ) -> RunAnswer
     requires { ⌜ Growing (p .w) (now floats) (now numbers) (now cells) c ⌝ }
     requires { ⌜ «link_idx» < p .w .links ⌝ }
-    requires { ⌜ LeadsFrom (record { floats = now floats; numbers = now numbers }) (c .nodes) last «link_idx» ⌝ }
-    ensures answer { λ r. ⌜ ((b : List ℕ) (reals : ℕ) (start joins : List ℕ) (net : Net) → PlanIn b p reals → NetIn (p .w) start (now (floats .entry)) (now (numbers .entry)) (now (cells .entry)) c net → OutcomeAs (originAnswer b (p .w .places) «link_idx» net) (p .w) start 0 (now (floats .exit)) (now (numbers .exit)) (now (cells .exit)) joins r) ⌝ }
+    requires { ⌜ LeadsFrom (tableOf (now floats) (now numbers)) (c .nodes) last «link_idx» ⌝ }
+    ensures answer { λ r. ⌜ InsertsOrigin p c «link_idx» (tableAtEntry floats numbers) (now (cells .entry))
+        (tableAtExit floats numbers) (now (cells .exit)) r ⌝ }
     ensures more { λ r. ⌜ NotFewer c r ⌝ }
 {
     let w = p.w;
@@ -164,7 +168,8 @@ fn save_origin(
     requires { ⌜ Started (now book) (now marks) ⌝ }
     requires { ⌜ 2 * links (now book) ≤ length (now marks) ⌝ }
     requires { ⌜ «link_idx» < links (now book) ⌝ }
-    ensures { λ r. ⌜ ((fs : List Float) (us idxs : List ℕ) (net : Net) (run : Run) (runs : List Run) → OriginInserted (now (book .entry)) p fs us (now (reals .entry)) (now (cells .entry)) (now (joins .entry)) idxs g counts place «link_idx» net run runs → OriginsAs (savedOrigin (now (book .entry)) «link_idx» net run runs) (now (book .entry)) p fs us (now (reals .exit)) (now (cells .exit)) (now (joins .entry)) idxs r) ⌝ }
+    ensures { λ r. ⌜ SavesOrigin (now (book .entry)) p g counts place «link_idx» (stacksAtEntry cells reals)
+        (stacksAtExit cells reals) (now (joins .entry)) r ⌝ }
 {
     let s = p.s;
     let r = p.r;
@@ -210,10 +215,11 @@ fn origin(
     requires { ⌜ PlanIn (now book) p (length (now reals)) ⌝ }
     requires { ⌜ idx < origins (now book) ⌝ }
     requires { ⌜ SomeOrigin (now book) p (now floats) (now numbers) (now reals) (now cells) (now joins) idx g ⌝ }
-    requires { ⌜ LeadsFrom (record { floats = now floats; numbers = now numbers }) (g .counts .nodes) last (originLink (now book) idx) ⌝ }
+    requires { ⌜ LeadsFrom (tableOf (now floats) (now numbers)) (g .counts .nodes) last (originLink (now book) idx) ⌝ }
     requires { ⌜ Started (now book) (now marks) ⌝ }
     requires { ⌜ 2 * links (now book) ≤ length (now marks) ⌝ }
-    ensures { λ r. ⌜ ((idxs : List ℕ) (net : Net) (runs : List Run) → OriginsIn (now (book .entry)) p (now (floats .entry)) (now (numbers .entry)) (now (reals .entry)) (now (cells .entry)) (now (joins .entry)) (idx ∷ idxs) g net runs → OtherLinks (now (book .entry)) (originLink (now (book .entry)) idx) idxs → OriginsAs (growOrigin (now (book .entry)) (p .w .places) (originLink (now (book .entry)) idx) (record { net = net; saved = runs })) (now (book .entry)) p (now (floats .exit)) (now (numbers .exit)) (now (reals .exit)) (now (cells .exit)) (now (joins .entry)) idxs r) ⌝ }
+    ensures { λ r. ⌜ GrowsOrigin (now (book .entry)) p g idx (listsAtEntry floats numbers reals cells joins)
+        (listsLeft floats numbers reals cells joins) r ⌝ }
 {
     let s = p.s;
     let at = book_format::origin_at(book, s, idx);
@@ -240,7 +246,8 @@ fn origin(
     }
 }
 
-// The start's last alternative after an origin, by how many nodes there were before it: the first one's Arrive is behind the start, each later one's behind a Fake, the first node that is new.
+// The start's last alternative after an origin, by how many nodes there were before it: the first one's Arrive is
+// behind the start, each later one's behind a Fake, the first node that is new.
 fn last_after(before: usize) -> u32
     requires { ⌜ before ≤ 65535 ⌝ }
     ensures first { λ r. ⌜ (before ≡ 2 → r ≡ 1) ⌝ }
@@ -269,10 +276,12 @@ pub fn origins(
     requires { ⌜ OptionsIn (now book) (now marks) ⌝ }
     requires { ⌜ 2 * links (now book) + destinations (now book) + origins (now book) ≤ length (now marks) ⌝ }
     requires { ⌜ kept ≡ length (keptOrigins (now book)) ⌝ }
-    requires { ⌜ SomeOrigins (now book) p (now floats) (now numbers) (now reals) (now cells) (now joins) (keptOrigins (now book)) g ⌝ }
+    requires { ⌜ SomeOrigins (now book) p (now floats) (now numbers) (now reals) (now cells) (now joins)
+        (keptOrigins (now book)) g ⌝ }
     requires { ⌜ OnlyStart (nodeAt (now floats) (now numbers)) (g .counts .nodes) ⌝ }
     requires { ⌜ Started (now book) (now marks) ⌝ }
-    ensures { λ r. ⌜ ((net : Net) (runs : List Run) → OriginsIn (now (book .entry)) p (now (floats .entry)) (now (numbers .entry)) (now (reals .entry)) (now (cells .entry)) (now (joins .entry)) (keptOrigins (now (book .entry))) g net runs → OriginsAs (growOrigins (now (book .entry)) (p .w .places) (keptOrigins (now (book .entry))) (record { net = net; saved = runs })) (now (book .entry)) p (now (floats .exit)) (now (numbers .exit)) (now (reals .exit)) (now (cells .exit)) (now (joins .entry)) [] r) ⌝ }
+    ensures { λ r. ⌜ GrowsOrigins (now (book .entry)) p g (listsAtEntry floats numbers reals cells joins)
+        (listsLeft floats numbers reals cells joins) r ⌝ }
 {
     let s = p.s;
     let rows_at = 2 * s.links + s.destinations;

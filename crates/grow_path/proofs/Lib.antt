@@ -1,3 +1,4 @@
 pub mod Testing
 pub mod Extending
 pub mod Legs
+pub mod Paths

@@ -1,10 +1,12 @@
--- A run's path and its events in one leg. Document 01 under "Arcs": "A run is an origin and the legs that the driver takes for it, from one with parent 0, each the parent of the next."
--- Under "Events": "A path of links has points at 0 and at each running sum of lengths, naming the link that starts there; the last names 0."
+-- A run's path and its events in one leg. Document 01 under "Arcs": "A run is an origin and the legs that the driver
+-- takes for it, from one with parent 0, each the parent of the next." Under "Events": "A path of links has points at 0
+-- and at each running sum of lengths, naming the link that starts there; the last names 0."
 use mathlib.Core.List.{List, [], _∷_, _++_}
 use Prim.Native.Nat.{ℕ, zero, suc, _+_, _-_}
 use lib.ListN.{length, getD}
 use lib.Ieee.{Float, binary64, add, ofBits}
-use Rattle.book_format.specs.Format.{linkLength, legLink, legParent, legSamples, firstSample, sampleAt, lengthBits, floatOf}
+use Rattle.book_format.specs.Format.{linkLength, legLink, legParent, legSamples, firstSample, sampleAt, lengthBits}
+use Rattle.book_format.specs.Format.{floatOf}
 use Rattle.net_node.specs.declared.TimedEvent.{TimedEvent}
 use Rattle.event_walk.specs.declared.PassedPoint.{PassedPoint}
 use Rattle.event_walk.specs.Course.{Course}
@@ -51,7 +53,12 @@ legCourse b j = record {
 -- a point that is passed, as an event of the link that it names
 unfoldable pub eventAt : List ℕ → List ℕ → PassedPoint → TimedEvent
 unfolding pointLink
-eventAt b path p = record { time = p .time; offset = p .offset; speed = p .speed; «link_event» = record { «link_idx» = pointLink b path (p .point); «est_type» = p .«est_type» } }
+eventAt b path p = record {
+  time = p .time;
+  offset = p .offset;
+  speed = p .speed;
+  «link_event» = record { «link_idx» = pointLink b path (p .point); «est_type» = p .«est_type» };
+}
 
 unfoldable pub eventsAt : List ℕ → List ℕ → List PassedPoint → List TimedEvent
 unfolding eventAt

@@ -9,12 +9,13 @@ use net_node::LinkEvent;
 use net_node::TimedEvent;
 ghost use mathlib.Core.Path.{_≡_};
 ghost use Prim.Native.Nat.{_+_, _*_, _-_, _≤_, _<_};
-ghost use lib.ListN.{length, getD, set};
-ghost use lib.Ieee.{binary64, nan, add, ofBits};
-ghost use Rattle.book_format.specs.Format.{links, linkLength, floatOf, sampleWidth};
+ghost use lib.ListN.{length, getD};
+ghost use lib.Ieee.{binary64, nan, ofBits};
+ghost use Rattle.book_format.specs.Format.{links};
 ghost use Rattle.book_format.specs.Chains.{Readable};
 ghost use Rattle.event_walk.specs.Course.{courseOf, Held, Walkable};
 ghost use Rattle.event_walk.specs.Walk.{passedFrom, someBad, Within};
+ghost use Rattle.grow_path.specs.Kept.{pointAdded, linkAdded, movementOn, eventIn};
 
 // The first point of every path is at 0.
 pub fn start_path(reals: &mut [f64])
@@ -37,8 +38,8 @@ pub fn extend_path(
     requires { ⌜ depth + 1 < length (now reals) ⌝ }
     requires { ⌜ depth * 8 + 3 < length (now cells) ⌝ }
     requires { ⌜ «link_idx» < links (now book) ⌝ }
-    ensures reals { λ _. ⌜ now (reals .exit) ≡ set (now (reals .entry)) (depth + 1) (add binary64 (getD (now (reals .entry)) depth nan) (floatOf (linkLength (now (book .entry)) «link_idx»))) ⌝ }
-    ensures cells { λ _. ⌜ now (cells .exit) ≡ set (now (cells .entry)) (depth * 8 + 3) «link_idx» ⌝ }
+    ensures reals { λ _. ⌜ now (reals .exit) ≡ pointAdded (now (book .entry)) (now (reals .entry)) depth «link_idx» ⌝ }
+    ensures cells { λ _. ⌜ now (cells .exit) ≡ linkAdded (now (cells .entry)) depth «link_idx» ⌝ }
 {
     let link = book_format::link_at(book, s, link_idx as usize);
     let before = reals[depth];
@@ -52,7 +53,7 @@ pub fn movement_of(s: Sections, leg: TakenLeg, depth: usize, length: f64) -> Mov
     requires { ⌜ leg .end ≤ 1000000 ⌝ }
     requires { ⌜ s .«samples_at» ≤ 4000000 ⌝ }
     requires { ⌜ depth ≤ 65535 ⌝ }
-    ensures { λ r. ⌜ r ≡ record { at = s .«samples_at» + leg .first * 24; samples = leg .end - leg .first; points = depth + 1; length = «length» } ⌝ }
+    ensures { λ r. ⌜ r ≡ movementOn s leg depth «length» ⌝ }
 {
     Movement {
         at: s.samples_at + leg.first * 24,
@@ -85,7 +86,7 @@ pub fn some_bad(book: &[u8], offsets: &[f64], m: Movement, from: Heads) -> bool
 // A point that is passed, as an event of the link that it names.
 pub fn event_at(cells: &[u32], p: PassedPoint) -> TimedEvent
     requires { ⌜ p .point * 8 + 3 < length (now cells) ⌝ }
-    ensures { λ r. ⌜ r ≡ record { time = p .time; offset = p .offset; speed = p .speed; «link_event» = record { «link_idx» = getD (now (cells .entry)) (p .point * 8 + 3) 0; «est_type» = p .«est_type» } } ⌝ }
+    ensures { λ r. ⌜ r ≡ eventIn (now (cells .entry)) p ⌝ }
 {
     let at = p.point;
     let est_type = p.est_type;

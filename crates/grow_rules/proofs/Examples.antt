@@ -5,7 +5,7 @@ use mathlib.Core.List.{List, [], _∷_}
 use Prim.Native.Nat.{ℕ, zero, suc, _*_}
 use Rattle.laws.specs.Answer.{Answer, refused, given}
 use Rattle.net_node.specs.declared.EstTime.{EstTime}
-use Rattle.net_node.specs.Table.{kindNumber, Table, put, at, withNextAlt, withPrevAlt}
+use Rattle.net_node.specs.Table.{kindNumber, Table, put, at, withNextAlt, withPrevAlt, floatWidth, numberWidth}
 use lib.ListN.{replicate}
 use lib.Ieee.{Float, binary64, ofBits, toBits, add, sub, mul, div, lt, le, eq, round, sum, isNan, neg, below, level}
 use Rattle.grow_rules.specs.Run.{Arc}
@@ -46,7 +46,7 @@ summary (refused n) = n ∷ []
 summary (given g) = g .nodes ∷ g .added ∷ g .splits ∷ g .joined ∷ g .finished ∷ idxs (g .nodes) (g .table) 0
 
 abbrev lent : ℕ → Table
-lent n = record { floats = replicate (n * 4) (ofBits binary64 0); numbers = replicate (n * 6) 0 }
+lent n = record { floats = replicate (n * floatWidth) (ofBits binary64 0); numbers = replicate (n * numberWidth) 0 }
 
 -- "A book and its listing": no pass relinks anything in it, so its links, times and distances to next are the listing's
 abbrev worked : List ℕ

@@ -1,6 +1,7 @@
--- `make_est_times` up to the checks, document 01 under "Driver and ends": "last saved run first, all of a leg's events before its insertions. The leg is found or the book is refused with 10;
--- it is sought where the source extends the path: an origin's after its Clear is added, an alternative's before the run goes on. A run finishes in the leg whose link is a destination,
--- never in its first leg. End Fakes are pushed for the ends in reverse."
+-- `make_est_times` up to the checks, document 01 under "Driver and ends": "last saved run first, all of a leg's events
+-- before its insertions. The leg is found or the book is refused with 10; it is sought where the source extends the
+-- path: an origin's after its Clear is added, an alternative's before the run goes on. A run finishes in the leg whose
+-- link is a destination, never in its first leg. End Fakes are pushed for the ends in reverse."
 use mathlib.Core.Bool.{Bool, true, false, not, _&&_, _||_, cond}
 use mathlib.Core.List.{List, [], _∷_}
 use Prim.Native.Nat.{ℕ, zero, suc, _+_, _-_}
@@ -9,7 +10,8 @@ use lib.ListN.{length}
 use lib.Ieee.{Float, binary64, add, ofBits}
 use Rattle.laws.specs.Answer.{Answer, refused, given, andThen}
 use Rattle.laws.specs.Below.{someBelow}
-use Rattle.book_format.specs.Format.{legs, destinations, linkNext, linkNextAlt, originLink, destinationLink, legParent, joinBits, departureBits, lengthBits, floatOf}
+use Rattle.book_format.specs.Format.{legs, destinations, linkNext, linkNextAlt, originLink, destinationLink, legParent}
+use Rattle.book_format.specs.Format.{joinBits, departureBits, lengthBits, floatOf}
 use Rattle.book_format.specs.Chains.{legBelow}
 use Rattle.book_options.specs.Options.{inSet, keptOrigins}
 use Rattle.event_walk.specs.Walk.{row11}
@@ -21,7 +23,9 @@ use Rattle.net_node.specs.Table.{blank, Table, put, at, withArc, withNext, with
 use Rattle.net_insertion.specs.declared.Place.{Place}
 use Rattle.net_strands.specs.declared.EstJoinPath.{EstJoinPath}
 use Rattle.grow_path.specs.Path.{linkOf, legCourse, legEvents}
-use Rattle.grow_rules.specs.Run.{Arc, Net, Run, After, Outcome, Ended, On, arcToEnd, memberOf, insertEvent, runEvents}
+use Rattle.net_node.specs.Left.{Network}
+use Rattle.grow_rules.specs.Run.{Arc, Net, Run, After, Outcome, Ended, On, arcToEnd, memberOf, insertEvent}
+use Rattle.grow_rules.specs.Run.{runEvents}
 
 -- the book's J, departure and train length
 abbrev pub joinGap : List ℕ → Float
@@ -40,7 +44,8 @@ pub record Growth : Type 0 where
 -- a node made of the blank one: its next, its previous and previous alternative, and a held time
 unfoldable pub fakeNode : ℕ → ℕ → ℕ → Float → EstTime
 unfolding blank
-fakeNode next prev prev-alt time = withPrevAlt (withPrev (withNext (withArc blank time (blank .«dist_to_next»)) next) prev) prev-alt
+fakeNode next prev prev-alt time =
+    withPrevAlt (withPrev (withNext (withArc blank time (blank .«dist_to_next»)) next) prev) prev-alt
 
 -- node 0 leads to node 1, the start, which holds the departure
 unfoldable pub firstNodes : List ℕ → Table → Net
@@ -59,30 +64,48 @@ firstNodes b t = record {
 
 -- an origin's Arrive at offset 0 and Clear at the train's length, at the departure and at rest
 unfoldable pub originEvent : List ℕ → ℕ → EstType → Float → TimedEvent
-originEvent b link kind offset = record { time = departure b; offset = offset; speed = ofBits binary64 0; «link_event» = record { «link_idx» = link; «est_type» = kind } }
+originEvent b link kind offset = record {
+  time = departure b;
+  offset = offset;
+  speed = ofBits binary64 0;
+  «link_event» = record { «link_idx» = link; «est_type» = kind };
+}
+
+-- "its origin's Arrive and Clear": the Clear is where the train's length is behind it
+abbrev pub originClear : List ℕ → ℕ → TimedEvent
+originClear b link = originEvent b link Clear (add binary64 (ofBits binary64 0) (floatOf (lengthBits b)))
 
 -- a run at the start
 unfoldable pub originRun : List ℕ → Run
-originRun b = record { place = record { «time_to_next» = departure b; «dist_to_next» = ofBits binary64 0; «idx_prev» = 1 }; leg = 0; «has_split» = false; joins = [] }
+originRun b = record {
+  place = record { «time_to_next» = departure b; «dist_to_next» = ofBits binary64 0; «idx_prev» = 1 };
+  leg = 0;
+  «has_split» = false;
+  joins = [];
+}
 
--- "The leg is found or the book is refused with 10": a run that takes the leg with this parent and link
+-- a run that takes the leg of this number, 0 being none: it has not added since
 abbrev pub takes : Run → ℕ → Answer Run
 takes run zero = refused 10
 takes run (suc j) = given (record { place = run .place; leg = suc j; «has_split» = false; joins = run .joins })
 
+-- "The leg is found or the book is refused with 10": the leg with this parent and link
 unfoldable pub seekLeg : List ℕ → Run → ℕ → ℕ → Answer Run
 seekLeg b run parent link = takes run (legBelow b (legs b) parent link)
 
+-- "a saved run keeps its place": a run more that waits, beside the network then
 abbrev pub saves : Growth → Net → Run → Growth
 saves g net run = record { net = net; saved = run ∷ g .saved }
 
+-- one origin: its two events from the start on, then its leg, "sought where the source extends the path"
 unfoldable pub growOrigin : List ℕ → ℕ → ℕ → Growth → Answer Growth
 unfolding originEvent originRun seekLeg
 growOrigin b places link g =
     andThen (insertEvent places (joinGap b) (g .net) (originRun b) (originEvent b link Arrive (ofBits binary64 0)))
-    (λ (a : After). andThen (insertEvent places (joinGap b) (a .net) (a .run) (originEvent b link Clear (add binary64 (ofBits binary64 0) (floatOf (lengthBits b)))))
+    (λ (a : After). andThen (insertEvent places (joinGap b) (a .net) (a .run) (originClear b link))
     (λ (c : After). andThen (seekLeg b (c .run) 0 link) (λ (run : Run). given (saves g (c .net) run))))
 
+-- the kept origins, by their rows, one after the other
 unfoldable pub growOrigins : List ℕ → ℕ → List ℕ → Growth → Answer Growth
 unfolding growOrigin
 growOrigins b places [] g = given g
@@ -94,8 +117,11 @@ growOrigins b places (idx ∷ idxs) g = andThen (growOrigin b places (originLink
 unfoldable pub badFinish : Net → Run → Bool
 badFinish net run =
     let last = net .nodes - 1 in
-    not (eqb (run .place .«idx_prev») last) || not (eqb (at (net .table) last .«idx_next») 0) || memberOf (net .ends) last
+    not (eqb (run .place .«idx_prev») last)
+    || not (eqb (at (net .table) last .«idx_next») 0)
+    || memberOf (net .ends) last
 
+-- the run's place is an end, and "A finish notes (place, end) with zeros."
 unfoldable pub finishedAt : Net → Run → Net
 finishedAt net run = record {
   table = net .table;
@@ -107,22 +133,30 @@ finishedAt net run = record {
   noted = arcToEnd (run .place) ∷ net .noted;
 }
 
+-- by whether the finish is bad: row 13
 abbrev pub finishAs : Bool → Net → Run → List Run → Answer Growth
 finishAs true net run saved = refused 13
 finishAs false net run saved = given (record { net = finishedAt net run; saved = saved })
 
 -- ---- a run's way on
 
--- Row 12: "entries of all waiting runs beyond the table's places"
+-- the entries of all waiting runs
 unfoldable pub waiting : List Run → ℕ
 waiting [] = 0
 waiting (run ∷ runs) = length (run .joins) + waiting runs
 
+-- a run that took a leg, with the flag that it had before
+abbrev pub onwards : Run → Bool → Run
+onwards r added = record { place = r .place; leg = r .leg; «has_split» = added; joins = r .joins }
+
 -- the run goes on over a link: it is the next to be taken up
 unfoldable pub onOver : List ℕ → Net → Run → ℕ → List Run → Answer Growth
 unfolding seekLeg
-onOver b net run link saved = andThen (seekLeg b run (run .leg) link) (λ (r : Run). given (record { net = net; saved = record { place = r .place; leg = r .leg; «has_split» = run .«has_split»; joins = r .joins } ∷ saved }))
+onOver b net run link saved =
+    andThen (seekLeg b run (run .leg) link)
+    (λ (r : Run). given (record { net = net; saved = onwards r (run .«has_split») ∷ saved }))
 
+-- Row 12: "entries of all waiting runs beyond the table's places"
 abbrev pub fitsIn : Bool → List Run → Answer (List Run)
 fitsIn true saved = refused 12
 fitsIn false saved = given saved
@@ -130,7 +164,8 @@ fitsIn false saved = given saved
 -- an alternative's run is saved: it has not added since its pop
 unfoldable pub saveOver : List ℕ → ℕ → Run → ℕ → List Run → Answer (List Run)
 unfolding seekLeg waiting
-saveOver b places run link saved = andThen (seekLeg b run (run .leg) link) (λ (r : Run). fitsIn (ltb places (waiting (r ∷ saved))) (r ∷ saved))
+saveOver b places run link saved =
+    andThen (seekLeg b run (run .leg) link) (λ (r : Run). fitsIn (ltb places (waiting (r ∷ saved))) (r ∷ saved))
 
 -- by whether next and its alternative are in the set. Row 9: "next is 0, or neither next is in the set"
 abbrev pub onAs : Bool → Bool → Bool → List ℕ → ℕ → Net → Run → ℕ → ℕ → List Run → Answer Growth
@@ -140,6 +175,7 @@ onAs false true false b places net run next alt saved = onOver b net run next sa
 onAs false false true b places net run next alt saved = onOver b net run alt saved
 onAs false true true b places net run next alt saved = andThen (saveOver b places run alt saved) (onOver b net run next)
 
+-- a run's way on, behind the link of its leg
 unfoldable pub goOn : List ℕ → ℕ → Net → Run → List Run → Answer Growth
 unfolding onOver saveOver
 goOn b places net run saved =
@@ -149,6 +185,7 @@ goOn b places net run saved =
 
 -- ---- one leg
 
+-- a link that is a destination's
 unfoldable pub isDestination : List ℕ → ℕ → Bool
 isDestination b link = someBelow (destinations b) (λ i. eqb (destinationLink b i) link)
 
@@ -157,17 +194,22 @@ unfoldable pub finishes : List ℕ → ℕ → Bool
 unfolding isDestination
 finishes b j = isDestination b (linkOf b j) && ltb 0 (legParent b (j - 1))
 
+-- by whether the run finishes in this leg
 abbrev pub legEndAs : Bool → List ℕ → ℕ → After → List Run → Answer Growth
 legEndAs true b places a saved = finishAs (badFinish (a .net) (a .run)) (a .net) (a .run) saved
 legEndAs false b places a saved = goOn b places (a .net) (a .run) saved
 
+-- what follows a leg's events: nothing for a run that ended by a join
 abbrev pub legDone : List ℕ → ℕ → List Run → Outcome → Answer Growth
 legDone b places saved (Ended net) = given (record { net = net; saved = saved })
 legDone b places saved (On a) = legEndAs (finishes b (a .run .leg)) b places a saved
 
+-- by whether an event of the leg is bad: row 11
 abbrev pub legAs : Bool → List ℕ → ℕ → Net → Run → List Run → Answer Growth
 legAs true b places net run saved = refused 11
-legAs false b places net run saved = andThen (runEvents places (joinGap b) (legEvents b (run .leg)) (record { net = net; run = run })) (legDone b places saved)
+legAs false b places net run saved =
+    andThen (runEvents places (joinGap b) (legEvents b (run .leg)) (record { net = net; run = run }))
+    (legDone b places saved)
 
 -- one leg of the first run of the list: "all of a leg's events before its insertions"
 unfoldable pub takeLeg : List ℕ → ℕ → Net → Run → List Run → Answer Growth
@@ -181,7 +223,8 @@ unfoldable pub drive : ℕ → List ℕ → ℕ → Net → List Run → Answer 
 unfolding takeLeg
 drive zero b places net saved = given net
 drive (suc k) b places net [] = given net
-drive (suc k) b places net (run ∷ saved) = andThen (takeLeg b places net run saved) (λ (g : Growth). drive k b places (g .net) (g .saved))
+drive (suc k) b places net (run ∷ saved) =
+    andThen (takeLeg b places net run saved) (λ (g : Growth). drive k b places (g .net) (g .saved))
 
 -- ---- the ends
 
@@ -189,16 +232,13 @@ drive (suc k) b places net (run ∷ saved) = andThen (takeLeg b places net run s
 unfoldable pub leadsToEnd : EstTime → ℕ → EstTime
 leadsToEnd n next = withNext (withArc n (ofBits binary64 0) (ofBits binary64 0)) next
 
-pub record Tail : Type 0 where
-  pub table : Table
-  pub nodes : ℕ
-
-abbrev pub roomFor : Bool → Tail → Answer Tail
+-- Row 12: by whether there is a place for one more node
+abbrev pub roomFor : Bool → Network → Answer Network
 roomFor true t = given t
 roomFor false t = refused 12
 
 -- "End Fakes are pushed for the ends in reverse": the latest first, each the previous alternative of the one after it
-unfoldable pub endFakes : ℕ → List ℕ → ℕ → Tail → Answer Tail
+unfoldable pub endFakes : ℕ → List ℕ → ℕ → Network → Answer Network
 unfolding leadsToEnd fakeNode
 endFakes places [] alt t = given t
 endFakes places (i ∷ is) alt t =
@@ -208,9 +248,14 @@ endFakes places (i ∷ is) alt t =
     andThen (roomFor (ltb k places) (record { table = t2; nodes = suc k })) (endFakes places is k)
 
 -- the last node, the end
-unfoldable pub lastNode : ℕ → Tail → Answer Tail
+unfoldable pub lastNode : ℕ → Network → Answer Network
 unfolding fakeNode
-lastNode places t = roomFor (ltb (t .nodes) places) (record { table = put (t .table) (t .nodes) (fakeNode 0 (t .nodes - 1) 0 (ofBits binary64 0)); nodes = suc (t .nodes) })
+lastNode places t =
+    roomFor (ltb (t .nodes) places)
+    (record {
+      table = put (t .table) (t .nodes) (fakeNode 0 (t .nodes - 1) 0 (ofBits binary64 0));
+      nodes = suc (t .nodes);
+    })
 
 -- ---- growth
 
@@ -224,12 +269,22 @@ pub record Grown : Type 0 where
   pub finished : ℕ
   pub noted : List Arc
 
+-- Row 12: by whether there are places for nodes 0 and 1
 abbrev pub startAs : Bool → Net → Answer Growth
 startAs true net = given (record { net = net; saved = [] })
 startAs false net = refused 12
 
-unfoldable pub grownWith : Net → Tail → Grown
-grownWith net t = record { table = t .table; nodes = t .nodes; added = net .added; splits = net .splits; joined = net .joined; finished = length (net .ends); noted = net .noted }
+-- the network with its ends, the counts of the report, and the arcs noted
+unfoldable pub grownWith : Net → Network → Grown
+grownWith net t = record {
+  table = t .table;
+  nodes = t .nodes;
+  added = net .added;
+  splits = net .splits;
+  joined = net .joined;
+  finished = length (net .ends);
+  noted = net .noted;
+}
 
 -- growth of a book on a table of so many places, from the table as it is lent
 unfoldable pub grow : List ℕ → ℕ → Table → Answer Grown
@@ -239,4 +294,4 @@ grow b places t =
     (λ (s : Growth). andThen (growOrigins b places (keptOrigins b) s)
     (λ (g : Growth). andThen (drive (legs b) b places (g .net) (g .saved))
     (λ (net : Net). andThen (endFakes places (net .ends) 0 (record { table = net .table; nodes = net .nodes }))
-    (λ (u : Tail). andThen (lastNode places u) (λ (v : Tail). given (grownWith net v))))))
+    (λ (u : Network). andThen (lastNode places u) (λ (v : Network). given (grownWith net v))))))

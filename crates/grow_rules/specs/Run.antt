@@ -1,5 +1,5 @@
--- One event of a run: joins, then insertion, with what the growth rule notes. Document 01 under "Arcs": "The growth rule is a definition over the book alone: the growth above on a table of its own,
--- beside it a list, empty at first."
+-- One event of a run: joins, then insertion, with what the growth rule notes. Document 01 under "Arcs": "The growth
+-- rule is a definition over the book alone: the growth above on a table of its own, beside it a list, empty at first."
 use mathlib.Core.Bool.{Bool, true, false, _||_}
 use mathlib.Core.List.{List, [], _∷_}
 use Prim.Native.Nat.{ℕ, zero, suc, _+_}
@@ -23,7 +23,8 @@ pub record Arc : Type 0 where
   pub time : Float
   pub distance : Float
 
--- The network under growth: its table and how many nodes it has, the finished runs' events (the latest first), the report's counts, and the arcs noted (the latest first).
+-- The network under growth: its table and how many nodes it has, the finished runs' events (the latest first), the
+-- report's counts, and the arcs noted (the latest first).
 pub record Net : Type 0 where
   pub table : Table
   pub nodes : ℕ
@@ -33,7 +34,8 @@ pub record Net : Type 0 where
   pub joined : ℕ
   pub noted : List Arc
 
--- A run: "Its place is the node it last added or moved to", with its own event's time and offset there; its leg; whether it "has added since its pop"; and its list of join entries.
+-- A run: "Its place is the node it last added or moved to", with its own event's time and offset there; its leg;
+-- whether it "has added since its pop"; and its list of join entries.
 pub record Run : Type 0 where
   pub place : Place
   pub leg : ℕ
@@ -42,23 +44,30 @@ pub record Run : Type 0 where
 
 -- "both with the time and offset of the run's own event minus those of its event before, never a node's"
 unfoldable pub arcTo : Place → ℕ → TimedEvent → Arc
-arcTo p i e = record { from = p .«idx_prev»; to = i; time = sub binary64 (e .time) (p .«time_to_next»); distance = sub binary64 (e .offset) (p .«dist_to_next») }
+arcTo p i e = record {
+  from = p .«idx_prev»;
+  to = i;
+  time = sub binary64 (e .time) (p .«time_to_next»);
+  distance = sub binary64 (e .offset) (p .«dist_to_next»);
+}
 
 -- "A finish notes (place, end) with zeros."
 unfoldable pub arcToEnd : Place → Arc
 arcToEnd p = record { from = p .«idx_prev»; to = 0; time = ofBits binary64 0; distance = ofBits binary64 0 }
 
+-- whether a number is in a list
 abbrev pub memberOf : List ℕ → ℕ → Bool
 memberOf [] i = false
 memberOf (x ∷ xs) i = eqb x i || memberOf xs i
 
 -- ---- insertion
 
+-- one more, if so
 abbrev pub countIf : Bool → ℕ → ℕ
 countIf true n = suc n
 countIf false n = n
 
--- a node and the run after insertion. A new place is the last node.
+-- the network after an addition: the new place is its last node
 unfoldable pub addedTo : Net → Table → Place → Bool → Arc → Net
 addedTo net t q split arc = record {
   table = t;
@@ -70,6 +79,7 @@ addedTo net t q split arc = record {
   noted = arc ∷ net .noted;
 }
 
+-- the run at its new place, and whether it has added since its pop
 unfoldable pub movedTo : Run → Place → Bool → Run
 movedTo run q added = record { place = q; leg = run .leg; «has_split» = added; joins = run .joins }
 
@@ -78,16 +88,20 @@ pub record After : Type 0 where
   pub net : Net
   pub run : Run
 
--- "Any other addition notes (place, added node)": and so does an origin's Arrive, whose place is the start at the departure. "A move, a Fake .. note nothing."
+-- "Any other addition notes (place, added node)": and so does an origin's Arrive, whose place is the start at the
+-- departure. "A move, a Fake .. note nothing."
 abbrev pub insertedRun : Net → Run → TimedEvent → Table → Inserted → Answer After
 insertedRun net run e t (Refused n) = refused n
 insertedRun net run e t (Moved q) = given (record { net = net; run = movedTo run q (run .«has_split») })
-insertedRun net run e t (Added q split) = given (record { net = addedTo net t q split (arcTo (run .place) (q .«idx_prev») e); run = movedTo run q true })
+insertedRun net run e t (Added q split) =
+    given (record { net = addedTo net t q split (arcTo (run .place) (q .«idx_prev») e); run = movedTo run q true })
 
+-- an event inserted at a run's place
 unfoldable pub insertEvent : ℕ → Float → Net → Run → TimedEvent → Answer After
 unfolding addedTo movedTo arcTo
 insertEvent places join net run e =
-    insertedRun net run e (insertedTable (net .table) (net .nodes) join (run .place) e) (inserted (net .table) (net .nodes) places (memberOf (net .ends)) join (run .place) e)
+    insertedRun net run e (insertedTable (net .table) (net .nodes) join (run .place) e)
+    (inserted (net .table) (net .nodes) places (memberOf (net .ends)) join (run .place) e)
 
 -- ---- joins
 
@@ -109,13 +123,16 @@ pub data Outcome : Type 0 where
   Ended : Net → Outcome
   On : After → Outcome
 
+-- an insertion never ends a run
 abbrev pub goesOn : Answer After → Answer Outcome
 goesOn (refused n) = refused n
 goesOn (given a) = given (On a)
 
+-- a run with another list of join entries
 unfoldable pub withJoins : Run → List EstJoinPath → Run
 withJoins run es = record { place = run .place; leg = run .leg; «has_split» = run .«has_split»; joins = es }
 
+-- by what becomes of the run's joins: row 12, the join, or insertion with the list then
 abbrev pub joinedAs : ℕ → Float → Net → Run → TimedEvent → JoinStep → Answer Outcome
 joinedAs places join net run e Beyond = refused 12
 joinedAs places join net run e (JoinsTo target) = given (Ended (joinedTo net run e target))
@@ -123,19 +140,23 @@ joinedAs places join net run e (GoesOn es) = goesOn (insertEvent places join net
 
 -- "Only a run that has added since its pop joins."
 abbrev pub eventAs : Bool → ℕ → Float → Net → Run → TimedEvent → Answer Outcome
-eventAs true places join net run e = joinedAs places join net run e (joinStep (at (net .table)) (net .nodes) places join e (run .joins))
+eventAs true places join net run e =
+    joinedAs places join net run e (joinStep (at (net .table)) (net .nodes) places join e (run .joins))
 eventAs false places join net run e = goesOn (insertEvent places join net run e)
 
+-- one event of a run
 unfoldable pub runEvent : ℕ → Float → Net → Run → TimedEvent → Answer Outcome
 unfolding insertEvent joinedTo withJoins
 runEvent places join net run e = eventAs (run .«has_split») places join net run e
 
--- the events of a leg, one after the other
+-- a run that has ended takes no more events
 abbrev pub nextEvent : (After → Answer Outcome) → Outcome → Answer Outcome
 nextEvent f (Ended net) = given (Ended net)
 nextEvent f (On a) = f a
 
+-- the events of a leg, one after the other
 unfoldable pub runEvents : ℕ → Float → List TimedEvent → After → Answer Outcome
 unfolding runEvent
 runEvents places join [] a = given (On a)
-runEvents places join (e ∷ es) a = andThen (runEvent places join (a .net) (a .run) e) (nextEvent (runEvents places join es))
+runEvents places join (e ∷ es) a =
+    andThen (runEvent places join (a .net) (a .run) e) (nextEvent (runEvents places join es))

@@ -1,5 +1,6 @@
--- What growth keeps between two legs, in the lent slices: the network, the runs that wait, the path of the last leg taken, and the run at the front, which takes its leg next.
--- The definitions of growth are grow_rules' specs/; these are the words of the contracts.
+-- What growth keeps between two legs, in the lent slices: the network, the runs that wait, the path of the last leg
+-- taken, and the run at the front, which takes its leg next. The definitions of growth are grow_rules' specs/; these
+-- are the words of the contracts.
 use mathlib.Core.Path.{_≡_}
 use mathlib.Core.Bool.{Bool, true, false}
 use mathlib.Core.List.{List, [], _∷_, _++_}
@@ -17,15 +18,46 @@ use Rattle.grow_waiting.specs.declared.Rooms.{Rooms}
 use Rattle.grow_rules.specs.Run.{Net, Run, memberOf}
 use Rattle.grow_rules.specs.Growth.{Growth, joinGap, departure}
 use Rattle.grow_events.specs.Held.{NetIn, RunIn}
+use denote.Ref.{now}
+use Rattle.space.specs.Lent.{Lent}
 use Rattle.grow_state.specs.declared.Plan.{Plan}
 use Rattle.grow_state.specs.declared.Front.{Front}
 use Rattle.grow_state.specs.declared.State.{State}
 use Rattle.grow_state.specs.declared.GrowthAnswer.{GrowthAnswer}
 use Rattle.grow_state.specs.declared.GrowthAnswer.the-variants.{On, Refused}
 
+-- ---- the lent slices
+
+-- what they hold at one moment
+pub record Lists : Type 0 where
+  pub floats : List Float
+  pub numbers : List ℕ
+  pub reals : List Float
+  pub cells : List ℕ
+  pub joins : List ℕ
+
+abbrev pub listsAtEntry : Lent (List Float) → Lent (List ℕ) → Lent (List Float) → Lent (List ℕ) → Lent (List ℕ) → Lists
+listsAtEntry floats numbers reals cells joins = record {
+  floats = now (floats .entry);
+  numbers = now (numbers .entry);
+  reals = now (reals .entry);
+  cells = now (cells .entry);
+  joins = now (joins .entry);
+}
+
+abbrev pub listsAtExit : Lent (List Float) → Lent (List ℕ) → Lent (List Float) → Lent (List ℕ) → Lent (List ℕ) → Lists
+listsAtExit floats numbers reals cells joins = record {
+  floats = now (floats .exit);
+  numbers = now (numbers .exit);
+  reals = now (reals .exit);
+  cells = now (cells .exit);
+  joins = now (joins .exit);
+}
+
 -- ---- the plan
 
--- What a plan says of a book, and of the room in reals: the path's points stand before the pairs of the runs that wait. The legs' units of cells stand before the nodes', and those before the links'.
+-- What a plan says of a book, and of the room in reals: the path's points stand before the pairs of the runs that wait.
+-- The legs' units of cells stand before the nodes', and those before the links'.
 pub record PlanIn (b : List ℕ) (p : Plan) (reals : ℕ) : Type 0 where
   pub readable : Readable b (p .s)
   pub join : p .join ≡ joinGap b
@@ -50,7 +82,8 @@ pub record Begins (path start : List ℕ) : Type 0 where
   pub rest : List ℕ
   pub is : path ≡ start ++ rest
 
--- Each run's path before its leg is the beginning of that of the run before it, and the first one's of the path that is kept: "last saved run first".
+-- Each run's path before its leg is the beginning of that of the run before it, and the first one's of the path that is
+-- kept: "last saved run first".
 abbrev pub Prefixes : List ℕ → List ℕ → List Run → Type 0
 Prefixes b path [] = Unit
 Prefixes b path (r ∷ rs) = Begins path (pathBefore b (r .leg)) × Prefixes b (pathBefore b (r .leg)) rs
@@ -94,7 +127,8 @@ SameRuns b [] (r ∷ rs) = ⊥
 SameRuns b (w ∷ ws) [] = ⊥
 SameRuns b (w ∷ ws) (r ∷ rs) = SameRun b w r × SameRuns b ws rs
 
-pub record WaitIn (b : List ℕ) (r : Rooms) (reals : List Float) (cells : List ℕ) (top used : ℕ) (saved : List Run) : Type 0 where
+pub record WaitIn (b : List ℕ) (r : Rooms) (reals : List Float) (cells : List ℕ) (top used : ℕ)
+    (saved : List Run) : Type 0 where
   pub runs : List Waiting
   pub kept : SavedIn cells reals r top used runs
   pub same : SameRuns b runs saved
@@ -108,12 +142,14 @@ pub record FrontIn (b joins : List ℕ) (n : ℕ) (f : Front) (run : Run) : Type
 abbrev pub RunsIn : Bool → List ℕ → Rooms → List Float → List ℕ → List ℕ → State → List Run → Type 0
 RunsIn false b r reals cells joins g runs = WaitIn b r reals cells (g .top) (g .used) runs
 RunsIn true b r reals cells joins g [] = ⊥
-RunsIn true b r reals cells joins g (run ∷ saved) = FrontIn b joins (g .counts .nodes) (g .front) run × WaitIn b r reals cells (g .top) (g .used) saved
+RunsIn true b r reals cells joins g (run ∷ saved) =
+    FrontIn b joins (g .counts .nodes) (g .front) run × WaitIn b r reals cells (g .top) (g .used) saved
 
 -- ---- the whole
 
 -- Between two legs: the network, the legs' chains, the path that is kept, and the runs, the one at the front first.
-pub record DriveIn (b : List ℕ) (p : Plan) (fs : List Float) (us : List ℕ) (reals : List Float) (cells joins path : List ℕ) (g : State) (net : Net) (runs : List Run) : Type 0 where
+pub record DriveIn (b : List ℕ) (p : Plan) (fs : List Float) (us : List ℕ) (reals : List Float)
+    (cells joins path : List ℕ) (g : State) (net : Net) (runs : List Run) : Type 0 where
   pub grown : NetIn (p .w) cells fs us cells (g .counts) net
   pub chained : Chained b cells
   pub kept : PathIn b reals cells path
@@ -124,7 +160,8 @@ pub record DriveIn (b : List ℕ) (p : Plan) (fs : List Float) (us : List ℕ) (
   pub separate : AllSeparate b runs
 
 -- some network and runs are
-pub record Driving (b : List ℕ) (p : Plan) (fs : List Float) (us : List ℕ) (reals : List Float) (cells joins : List ℕ) (g : State) : Type 0 where
+pub record Driving (b : List ℕ) (p : Plan) (fs : List Float) (us : List ℕ) (reals : List Float) (cells joins : List ℕ)
+    (g : State) : Type 0 where
   pub path : List ℕ
   pub net : Net
   pub runs : List Run
@@ -139,12 +176,20 @@ pub record SomeDrive (p : Plan) (reals : List Float) (cells joins : List ℕ) (g
   pub driving : Driving b p fs us reals cells joins g
 
 -- what the code answers: the state then, or a refusal
-pub record GivesAs (answer : Answer Growth) (b : List ℕ) (p : Plan) (fs : List Float) (us : List ℕ) (reals : List Float) (cells joins : List ℕ) (g : State) : Type 0 where
+pub record GivesAs (answer : Answer Growth) (b : List ℕ) (p : Plan) (fs : List Float) (us : List ℕ) (reals : List Float)
+    (cells joins : List ℕ) (g : State) : Type 0 where
   pub growth : Growth
   pub is : answer ≡ given growth
   pub path : List ℕ
   pub holds : DriveIn b p fs us reals cells joins path g (growth .net) (growth .saved)
 
-abbrev pub TurnedAs : Answer Growth → List ℕ → Plan → List Float → List ℕ → List Float → List ℕ → List ℕ → GrowthAnswer → Type 0
+abbrev pub TurnedAs : Answer Growth → List ℕ → Plan → List Float → List ℕ → List Float → List ℕ → List ℕ → GrowthAnswer
+    → Type 0
 TurnedAs answer b p fs us reals cells joins (On g) = GivesAs answer b p fs us reals cells joins g
 TurnedAs answer b p fs us reals cells joins (Refused k) = answer ≡ refused k
+
+-- the network and the runs that a state had are those of another, whose front's entries lie in other joins
+abbrev pub SameDrive : Plan → List Float → List ℕ → List ℕ → List ℕ → State → State → Type 0
+SameDrive p reals cells joins joins′ g h =
+    (b : List ℕ) (fs : List Float) (us path : List ℕ) (net : Net) (runs : List Run)
+    → DriveIn b p fs us reals cells joins path g net runs → DriveIn b p fs us reals cells joins′ path h net runs

@@ -6,14 +6,12 @@ use grow_waiting::Rooms;
 use net_event_map::Layout;
 ghost use mathlib.Core.Path.{_≡_};
 ghost use mathlib.Core.Bool.{true, false};
-ghost use mathlib.Core.List.{List};
-ghost use Prim.Native.Nat.{ℕ, _≤_, _<_};
+ghost use Prim.Native.Nat.{_≤_, _<_};
 ghost use lib.ListN.{length};
-ghost use lib.Ieee.{Float};
-ghost use Rattle.grow_rules.specs.Run.{Net, Run};
-ghost use Rattle.grow_state.specs.Held.{DriveIn, SomeDrive};
+ghost use Rattle.grow_state.specs.Held.{SomeDrive, SameDrive};
 
-// What growth goes by: where the book's sections stand, where the work space has what, and the three floats at the book's head.
+// What growth goes by: where the book's sections stand, where the work space has what, and the three floats at the
+// book's head.
 pub struct Plan {
     pub s: Sections,
     pub w: Layout,
@@ -31,7 +29,8 @@ pub struct Front {
     pub depth: usize,
 }
 
-// How far growth has come: the network's counts, the leg of the run that was saved last (0: none) and how many join entries wait, and the run at the front.
+// How far growth has come: the network's counts, the leg of the run that was saved last (0: none) and how many join
+// entries wait, and the run at the front.
 pub struct State {
     pub counts: Counts,
     pub top: u32,
@@ -52,7 +51,8 @@ pub fn take_up(reals: &[f64], cells: &[u32], joins: &mut [u32], p: Plan, g: Stat
     requires { ⌜ 0 < g .top ⌝ }
     requires { ⌜ 2048 ≤ length (now joins) ⌝ }
     ensures moves { λ r. ⌜ r .front .moves ≡ true ⌝ }
-    ensures held { λ r. ⌜ ((b : List ℕ) (fs : List Float) (us path : List ℕ) (net : Net) (runs : List Run) → DriveIn b p fs us (now (reals .entry)) (now (cells .entry)) (now (joins .entry)) path g net runs → DriveIn b p fs us (now (reals .entry)) (now (cells .entry)) (now (joins .exit)) path r net runs) ⌝ }
+    ensures held { λ r. ⌜ SameDrive p (now (reals .entry)) (now (cells .entry)) (now (joins .entry)) (now (joins .exit))
+        g r ⌝ }
 {
     let rooms = p.r;
     let popped = grow_waiting::pop(cells, reals, rooms, g.top, g.used, joins);

@@ -1,6 +1,8 @@
--- The runs that wait, as the work space keeps them: a stack through the legs that they take next. Document 01: "last saved run first"; "a saved run keeps its place".
--- A waiting run stands at its leg j: its node, how many legs its path has before j, how many join entries it has and the leg of the run below it in cells 4 to 7 of unit j,
--- the time and offset of its own last event in two reals. The entries of all waiting runs are one stack in cells 3 and 4 of the nodes' units, the last saved run's on top.
+-- The runs that wait, as the work space keeps them: a stack through the legs that they take next. Document 01: "last
+-- saved run first"; "a saved run keeps its place". A waiting run stands at its leg j: its node, how many legs its path
+-- has before j, how many join entries it has and the leg of the run below it in cells 4 to 7 of unit j, the time and
+-- offset of its own last event in two reals. The entries of all waiting runs are one stack in cells 3 and 4 of the
+-- nodes' units, the last saved run's on top.
 use mathlib.Core.Path.{_≡_}
 use mathlib.Core.Logic.{_≢_}
 use mathlib.Core.List.{List, [], _∷_}
@@ -23,7 +25,9 @@ pub record Waiting : Type 0 where
 -- entries in the nodes' units from k on
 abbrev pub EntriesFrom : List ℕ → Rooms → ℕ → List EstJoinPath → Type 0
 EntriesFrom cells w k [] = Unit
-EntriesFrom cells w k (x ∷ xs) = (getD cells (w .«nodes_at» + k * 8 + 3) 0 ≡ x .«link_idx_match») × ((getD cells (w .«nodes_at» + k * 8 + 4) 0 ≡ x .«est_idx_next») × EntriesFrom cells w (suc k) xs)
+EntriesFrom cells w k (x ∷ xs) =
+    (getD cells (w .«nodes_at» + k * 8 + 3) 0 ≡ x .«link_idx_match»)
+    × ((getD cells (w .«nodes_at» + k * 8 + 4) 0 ≡ x .«est_idx_next») × EntriesFrom cells w (suc k) xs)
 
 -- one run, saved on top of `used` entries
 pub record RunKept (cells : List ℕ) (reals : List Float) (w : Rooms) (below used : ℕ) (run : Waiting) : Type 0 where
@@ -52,15 +56,19 @@ topOf (run ∷ runs) = run .leg
 abbrev pub SavedIn : List ℕ → List Float → Rooms → ℕ → ℕ → List Waiting → Type 0
 SavedIn cells reals w top used [] = (top ≡ 0) × (used ≡ 0)
 SavedIn cells reals w top used (run ∷ runs) =
-    (top ≡ run .leg) × ((length (run .joins) ≤ used) × (Untaken (run .leg) runs × (RunKept cells reals w (topOf runs) (used - length (run .joins)) run × SavedIn cells reals w (topOf runs) (used - length (run .joins)) runs)))
+    (top ≡ run .leg) × ((length (run .joins) ≤ used)
+    × (Untaken (run .leg) runs × (RunKept cells reals w (topOf runs) (used - length (run .joins)) run
+    × SavedIn cells reals w (topOf runs) (used - length (run .joins)) runs)))
 
 -- a run as it is saved
 unfoldable pub waitingOf : Place → ℕ → ℕ → List EstJoinPath → Waiting
 waitingOf place leg depth joins = record { place = place; leg = leg; depth = depth; joins = joins }
 
--- What saving leaves as it was: each cell outside cells 4 to 7 of the legs' units and cells 3 and 4 of the nodes' units, and each real outside the pairs.
+-- What saving leaves as it was: each cell outside cells 4 to 7 of the legs' units and cells 3 and 4 of the nodes'
+-- units, and each real outside the pairs.
 pub record SavedElsewhere (c c′ : List ℕ) (r r′ : List Float) (w : Rooms) : Type 0 where
-  pub cells : (q : ℕ) → ((j k : ℕ) → j ≤ w .legs → 4 ≤ k → k < 8 → q ≢ j * 8 + k) → ((i k : ℕ) → i < w .places → 3 ≤ k → k < 5 → q ≢ w .«nodes_at» + i * 8 + k) → getD c′ q 0 ≡ getD c q 0
+  pub cells : (q : ℕ) → ((j k : ℕ) → j ≤ w .legs → 4 ≤ k → k < 8 → q ≢ j * 8 + k)
+      → ((i k : ℕ) → i < w .places → 3 ≤ k → k < 5 → q ≢ w .«nodes_at» + i * 8 + k) → getD c′ q 0 ≡ getD c q 0
   pub reals : (q : ℕ) → ((j k : ℕ) → j ≤ w .legs → k < 2 → q ≢ w .«pairs_at» + j * 2 + k) → getD r′ q nan ≡ getD r q nan
 
 -- some run waits, with at most 1,024 entries

@@ -6,10 +6,12 @@ ghost use mathlib.Core.List.{List, _∷_};
 ghost use Prim.Native.Nat.{_+_, _*_, _≤_, _<_};
 ghost use lib.ListN.{length};
 ghost use Rattle.net_strands.specs.Entries.{entriesIn};
-ghost use Rattle.grow_waiting.specs.Held.{Waiting, EntriesFrom, Untaken, SavedIn, waitingOf, SavedElsewhere, SomeWaits, PoppedAs};
-ghost use Rattle.grow_waiting.specs.Steps.{EntriesPushed};
+ghost use Rattle.grow_waiting.specs.Held.{waitingOf, SavedElsewhere, SomeWaits};
+ghost use Rattle.grow_waiting.specs.Steps.{EntriesPushed, EntriesCopied, stacksAtEntry, stacksAtExit, SavesOnTop};
+ghost use Rattle.grow_waiting.specs.Steps.{TakesUp};
 
-// Where the nodes' units stand in the cells and the pairs of reals in the reals, and how many legs and places there are.
+// Where the nodes' units stand in the cells and the pairs of reals in the reals, and how many legs and places there
+// are.
 pub struct Rooms {
     pub nodes_at: usize,
     pub pairs_at: usize,
@@ -17,7 +19,8 @@ pub struct Rooms {
     pub places: usize,
 }
 
-// A run that is taken up again: its place, its leg, how many legs it has taken, how many join entries it has, and the leg of the run saved before it.
+// A run that is taken up again: its place, its leg, how many legs it has taken, how many join entries it has, and the
+// leg of the run saved before it.
 pub struct Popped {
     pub place: Place,
     pub leg: u32,
@@ -31,7 +34,8 @@ fn push_entries(cells: &mut [u32], w: Rooms, used: usize, joins: &[u32], count: 
     requires { ⌜ w .«nodes_at» + w .places * 8 ≤ length (now cells) ⌝ }
     requires { ⌜ used + count ≤ w .places ⌝ }
     requires { ⌜ count * 2 ≤ length (now joins) ⌝ }
-    ensures { λ _. ⌜ EntriesPushed (now (cells .entry)) (now (cells .exit)) w used (entriesIn (now (joins .entry)) count) ⌝ }
+    ensures { λ _. ⌜ EntriesPushed (now (cells .entry)) (now (cells .exit)) w used
+        (entriesIn (now (joins .entry)) count) ⌝ }
 {
     let mut k = 0;
     while k < count {
@@ -48,7 +52,7 @@ fn copy_entries(cells: &[u32], w: Rooms, from: usize, count: usize, joins: &mut 
     requires { ⌜ w .«nodes_at» + w .places * 8 ≤ length (now cells) ⌝ }
     requires { ⌜ from + count ≤ w .places ⌝ }
     requires { ⌜ count * 2 ≤ length (now joins) ⌝ }
-    ensures { λ _. ⌜ ((xs : List EstJoinPath) → EntriesFrom (now (cells .entry)) w from xs → length xs ≡ count → entriesIn (now (joins .exit)) count ≡ xs) ⌝ }
+    ensures { λ _. ⌜ EntriesCopied (now (cells .entry)) w from count (now (joins .exit)) ⌝ }
 {
     let mut k = 0;
     while k < count {
@@ -82,8 +86,11 @@ pub fn save(
     requires { ⌜ used + count ≤ w .places ⌝ }
     requires { ⌜ w .places ≤ 65535 ⌝ }
     requires { ⌜ count * 2 ≤ length (now joins) ⌝ }
-    ensures elsewhere { λ _. ⌜ SavedElsewhere (now (cells .entry)) (now (cells .exit)) (now (reals .entry)) (now (reals .exit)) w ⌝ }
-    ensures saved { λ _. ⌜ ((runs : List Waiting) → SavedIn (now (cells .entry)) (now (reals .entry)) w top used runs → Untaken leg runs → SavedIn (now (cells .exit)) (now (reals .exit)) w leg (used + count) (waitingOf place leg depth (entriesIn (now (joins .entry)) count) ∷ runs)) ⌝ }
+    ensures elsewhere { λ _. ⌜ SavedElsewhere (now (cells .entry)) (now (cells .exit)) (now (reals .entry))
+        (now (reals .exit)) w ⌝ }
+    ensures saved { λ _. ⌜ SavesOnTop w top used leg count
+        (waitingOf place leg depth (entriesIn (now (joins .entry)) count)) (stacksAtEntry cells reals)
+        (stacksAtExit cells reals) ⌝ }
 {
     let at = leg as usize * 8;
     cells[at + 4] = place.idx_prev;
@@ -110,7 +117,7 @@ pub fn pop(
     requires { ⌜ w .«pairs_at» + w .legs * 2 + 2 ≤ length (now reals) ⌝ }
     requires { ⌜ 2048 ≤ length (now joins) ⌝ }
     requires { ⌜ SomeWaits (now cells) (now reals) w top used ⌝ }
-    ensures popped { λ r. ⌜ ((run : Waiting) (runs : List Waiting) → SavedIn (now (cells .entry)) (now (reals .entry)) w top used (run ∷ runs) → PoppedAs run runs (now (joins .exit)) r) ⌝ }
+    ensures popped { λ r. ⌜ TakesUp w top used (stacksAtEntry cells reals) (now (joins .exit)) r ⌝ }
 {
     let at = top as usize * 8;
     let pair = w.pairs_at + top as usize * 2;

@@ -3,3 +3,5 @@ pub mod Lists
 pub mod Below
 pub mod Answers
 pub mod Refusals
+pub mod Cases
+pub mod Members

@@ -18,7 +18,9 @@ use Rattle.net_node.specs.declared.EstTime.{EstTime}
 use Rattle.net_node.specs.Table.{sameEvent}
 use Rattle.net_event_map.specs.declared.Layout.{Layout}
 use Rattle.net_event_map.specs.EventMap.{seenIn, nodesFrom, eventNodes, headOf, lastOf, arriveAt, clearAt, bit, CellsApart, Mapped, MapOnly, RealKind}
-use Rattle.net_event_map.proofs.Lists.{either, known, not-both, same-arrive, arrive-same, arrive-other, arrive-no-clear, clear-same, clear-other, clear-no-arrive, head-first, head-kept, last-own, has, Inside, Walked, nodes-added, nodes-passed, walk, last-inside, behind-last, behind-other, walked-none, some-first, nodes-none}
+use Rattle.net_event_map.proofs.Lists.{same-arrive, arrive-same, arrive-other, arrive-no-clear, clear-same, clear-other, clear-no-arrive, head-first, head-kept, last-own, has, Inside, Walked, nodes-added, nodes-passed, walk, last-inside, behind-last, behind-other, walked-none, some-first, nodes-none}
+use Rattle.net_node.proofs.Tables.{either}
+use Rattle.laws.proofs.Cases.{known, not-both}
 
 -- ---- an event's kind
 

@@ -9,38 +9,16 @@ use native.Mathlib.Omega.{arith}
 use lib.Dec.{eqb, T}
 use lib.ListN.{length, getD, length-append}
 use borrow.Author.Tests.{eqb-true, eqb-false, eq-eqb, ne-eqb}
+use Rattle.laws.proofs.Cases.{known, not-both, and-left, and-none}
 use Rattle.net_node.specs.declared.EstType.{EstType}
 use Rattle.net_node.specs.declared.EstType.the-variants.{Arrive, Clear, Fake}
 use Rattle.net_node.specs.declared.LinkEvent.{LinkEvent}
 use Rattle.net_node.specs.declared.EstTime.{EstTime}
 use Rattle.net_node.specs.Table.{kindNumber, sameKind, sameEvent}
+use Rattle.net_node.proofs.Tables.{either}
 use Rattle.net_event_map.specs.EventMap.{nodesFrom, headOf, lastOf, arriveAt, clearAt, RealKind}
 
--- ---- cases
-
-pub either : (a b : ℕ) → (a ≡ b) ⊎ (a ≡ b → ⊥)
-either a b = go (eqb a b) refl
-  where
-    go : (t : Bool) → eqb a b ≡ t → (a ≡ b) ⊎ (a ≡ b → ⊥)
-    go true e = inl (eqb-true a b e)
-    go false e = inr (eqb-false a b e)
-
-pub known : (t : Bool) → (t ≡ true) ⊎ (t ≡ false)
-known true = inl refl
-known false = inr refl
-
-pub not-both : {A : Type 0} {t : Bool} → t ≡ true → t ≡ false → A
-not-both a b = absurd (subst T (sym a ∙ b) tt)
-
 -- ---- equal events
-
-and-left : (a b : Bool) → (a && b) ≡ true → a ≡ true
-and-left true b e = refl
-and-left false b e = e
-
-and-none : (a : Bool) → (a && false) ≡ false
-and-none true = refl
-and-none false = refl
 
 same-link : (a b : LinkEvent) → sameEvent a b ≡ true → a .«link_idx» ≡ b .«link_idx»
 unfolding sameEvent

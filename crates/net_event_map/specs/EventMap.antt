@@ -1,5 +1,6 @@
--- The nodes of an event: the source's `link_event_map`, an `IntMap` from an event to a set of nodes, of which document 01 says that it becomes a search.
--- The definition looks at every node; the work space keeps, for each link, its first and last Arrive and whether it has a Clear, and for each Arrive the next of the same link.
+-- The nodes of an event: the source's `link_event_map`, an `IntMap` from an event to a set of nodes, of which document
+-- 01 says that it becomes a search. The definition looks at every node; the work space keeps, for each link, its first
+-- and last Arrive and whether it has a Clear, and for each Arrive the next of the same link.
 use mathlib.Core.Path.{_≡_}
 use mathlib.Core.Logic.{_≢_}
 use mathlib.Core.Bool.{Bool, true, false, cond}
@@ -50,25 +51,47 @@ abbrev pub bit : Bool → ℕ
 bit true = 1
 bit false = 0
 
--- The cells have room: 8 for each of the links, from `links_at` on, and 8 for each place of the table, from `nodes_at` on; the two don't overlap.
+-- The cells have room: 8 for each of the links, from `links_at` on, and 8 for each place of the table, from `nodes_at`
+-- on; the two don't overlap.
 pub record CellsApart (cells : List ℕ) (w : Layout) : Type 0 where
   pub links-inside : w .«links_at» + w .links * 8 ≤ length cells
   pub nodes-inside : w .«nodes_at» + w .places * 8 ≤ length cells
   pub apart : w .«nodes_at» + w .places * 8 ≤ w .«links_at»
 
--- What the cells say of the first n nodes. A node's second cell marks the nodes that a list names, and is 0 between calls.
+-- What the cells say of the first n nodes. A node's second cell marks the nodes that a list names, and is 0 between
+-- calls.
 pub record Mapped (cells : List ℕ) (w : Layout) (node : ℕ → EstTime) (n : ℕ) : Type 0 where
   pub first : (l : ℕ) → l < w .links → getD cells (w .«links_at» + l * 8) 0 ≡ headOf (eventNodes node (arriveAt l) n)
   pub last : (l : ℕ) → l < w .links → getD cells (w .«links_at» + l * 8 + 1) 0 ≡ lastOf (eventNodes node (arriveAt l) n)
   pub cleared : (l : ℕ) → l < w .links → getD cells (w .«links_at» + l * 8 + 2) 0 ≡ bit (seenIn node n (clearAt l))
-  pub next : (l i : ℕ) → l < w .links → i < n → sameEvent (node i .«link_event») (arriveAt l) ≡ true → getD cells (w .«nodes_at» + i * 8) 0 ≡ headOf (nodesFrom node (arriveAt l) (suc i) (n - suc i))
+  pub next : (l i : ℕ) → l < w .links → i < n → sameEvent (node i .«link_event») (arriveAt l) ≡ true
+      → getD cells (w .«nodes_at» + i * 8) 0 ≡ headOf (nodesFrom node (arriveAt l) (suc i) (n - suc i))
   pub fresh : (i : ℕ) → n ≤ i → i < w .places → getD cells (w .«nodes_at» + i * 8) 0 ≡ 0
   pub unmarked : (i : ℕ) → i < w .places → getD cells (w .«nodes_at» + i * 8 + 1) 0 ≡ 0
   pub zeroth : (e : LinkEvent) → sameEvent (node 0 .«link_event») e ≡ true → e .«est_type» ≡ Fake
 
+-- where the first node of a link's Arrive is named, and the next one behind node i
+abbrev pub firstAt : Layout → ℕ → ℕ
+firstAt w l = w .«links_at» + l * 8
+
+abbrev pub nextAt : Layout → ℕ → ℕ
+nextAt w i = w .«nodes_at» + i * 8
+
+-- node i, which is new and has an event, is in the map then
+abbrev pub MapsNode : List ℕ → List ℕ → Layout → ℕ → LinkEvent → Type 0
+MapsNode cells cells′ w i e =
+    (node : ℕ → EstTime) → node i .«link_event» ≡ e → Mapped cells w node i → Mapped cells′ w node (i + 1)
+
+-- each new node that has an event is
+abbrev pub MapsEach : List ℕ → List ℕ → Layout → LinkEvent → Type 0
+MapsEach cells cells′ w e =
+    (node : ℕ → EstTime) (i : ℕ) → i < w .places → node i .«link_event» ≡ e
+    → Mapped cells w node i → Mapped cells′ w node (i + 1)
+
 -- What inserting leaves as it was: each cell that is none of the map's own.
 pub record MapOnly (c c′ : List ℕ) (w : Layout) : Type 0 where
-  pub stays : (q : ℕ) → ((l k : ℕ) → l < w .links → k < 3 → q ≢ w .«links_at» + l * 8 + k) → ((i : ℕ) → i < w .places → q ≢ w .«nodes_at» + i * 8) → getD c′ q 0 ≡ getD c q 0
+  pub stays : (q : ℕ) → ((l k : ℕ) → l < w .links → k < 3 → q ≢ w .«links_at» + l * 8 + k)
+      → ((i : ℕ) → i < w .places → q ≢ w .«nodes_at» + i * 8) → getD c′ q 0 ≡ getD c q 0
 
 -- an event of a link of the book, Arrive or Clear
 abbrev pub RealKind : EstType → Type 0

@@ -6,6 +6,7 @@ ghost use Prim.Native.Nat.{ℕ, _+_, _*_, _≤_, _<_};
 ghost use lib.ListN.{length, getD};
 ghost use Rattle.net_node.specs.declared.EstTime.{EstTime};
 ghost use Rattle.net_event_map.specs.EventMap.{seenIn, arriveAt, clearAt, CellsApart, Mapped, MapOnly, Real};
+ghost use Rattle.net_event_map.specs.EventMap.{firstAt, nextAt, MapsNode, MapsEach};
 
 // Where the cells of links and of nodes stand, and how many links and places there are.
 pub struct Layout {
@@ -34,7 +35,7 @@ pub fn contains(cells: &[u32], w: Layout, event: LinkEvent) -> bool
 pub fn first_node(cells: &[u32], w: Layout, link_idx: u32) -> u32
     requires { ⌜ CellsApart (now cells) w ⌝ }
     requires { ⌜ «link_idx» < w .links ⌝ }
-    ensures { λ r. ⌜ r ≡ getD (now (cells .entry)) (w .«links_at» + «link_idx» * 8) 0 ⌝ }
+    ensures { λ r. ⌜ r ≡ getD (now (cells .entry)) (firstAt w «link_idx») 0 ⌝ }
 {
     cells[w.links_at + link_idx as usize * 8]
 }
@@ -43,7 +44,7 @@ pub fn first_node(cells: &[u32], w: Layout, link_idx: u32) -> u32
 pub fn next_node(cells: &[u32], w: Layout, i: u32) -> u32
     requires { ⌜ CellsApart (now cells) w ⌝ }
     requires { ⌜ i < w .places ⌝ }
-    ensures { λ r. ⌜ r ≡ getD (now (cells .entry)) (w .«nodes_at» + i * 8) 0 ⌝ }
+    ensures { λ r. ⌜ r ≡ getD (now (cells .entry)) (nextAt w i) 0 ⌝ }
 {
     cells[w.nodes_at + i as usize * 8]
 }
@@ -52,9 +53,10 @@ pub fn next_node(cells: &[u32], w: Layout, i: u32) -> u32
 fn open_cell(cells: &[u32], w: Layout, link_idx: u32) -> usize
     requires { ⌜ CellsApart (now cells) w ⌝ }
     requires { ⌜ «link_idx» < w .links ⌝ }
-    requires { ⌜ getD (now cells) (w .«links_at» + «link_idx» * 8 + 1) 0 < w .places ⌝ }
-    ensures first { λ r. ⌜ (getD (now (cells .entry)) (w .«links_at» + «link_idx» * 8) 0 ≡ 0 → r ≡ w .«links_at» + «link_idx» * 8) ⌝ }
-    ensures behind { λ r. ⌜ (0 < getD (now (cells .entry)) (w .«links_at» + «link_idx» * 8) 0 → r ≡ w .«nodes_at» + getD (now (cells .entry)) (w .«links_at» + «link_idx» * 8 + 1) 0 * 8) ⌝ }
+    requires { ⌜ getD (now cells) (firstAt w «link_idx» + 1) 0 < w .places ⌝ }
+    ensures first { λ r. ⌜ (getD (now (cells .entry)) (firstAt w «link_idx») 0 ≡ 0 → r ≡ firstAt w «link_idx») ⌝ }
+    ensures behind { λ r. ⌜ (0 < getD (now (cells .entry)) (firstAt w «link_idx») 0
+        → r ≡ nextAt w (getD (now (cells .entry)) (firstAt w «link_idx» + 1) 0)) ⌝ }
 {
     let at = w.links_at + link_idx as usize * 8;
     if cells[at] == 0 {
@@ -67,9 +69,9 @@ fn open_cell(cells: &[u32], w: Layout, link_idx: u32) -> usize
 fn append_arrive(cells: &mut [u32], w: Layout, i: u32, link_idx: u32)
     requires { ⌜ CellsApart (now cells) w ⌝ }
     requires { ⌜ «link_idx» < w .links ⌝ }
-    requires { ⌜ getD (now cells) (w .«links_at» + «link_idx» * 8 + 1) 0 < w .places ⌝ }
+    requires { ⌜ getD (now cells) (firstAt w «link_idx» + 1) 0 < w .places ⌝ }
     requires { ⌜ i < w .places ⌝ }
-    ensures mapped { λ _. ⌜ ((node : ℕ → EstTime) → node i .«link_event» ≡ arriveAt «link_idx» → Mapped (now (cells .entry)) w node i → Mapped (now (cells .exit)) w node (i + 1)) ⌝ }
+    ensures mapped { λ _. ⌜ MapsNode (now (cells .entry)) (now (cells .exit)) w i (arriveAt «link_idx») ⌝ }
     ensures elsewhere { λ _. ⌜ MapOnly (now (cells .entry)) (now (cells .exit)) w ⌝ }
 {
     let at = w.links_at + link_idx as usize * 8;
@@ -82,7 +84,7 @@ fn append_arrive(cells: &mut [u32], w: Layout, i: u32, link_idx: u32)
 fn mark_clear(cells: &mut [u32], w: Layout, link_idx: u32)
     requires { ⌜ CellsApart (now cells) w ⌝ }
     requires { ⌜ «link_idx» < w .links ⌝ }
-    ensures mapped { λ _. ⌜ ((node : ℕ → EstTime) (i : ℕ) → i < w .places → node i .«link_event» ≡ clearAt «link_idx» → Mapped (now (cells .entry)) w node i → Mapped (now (cells .exit)) w node (i + 1)) ⌝ }
+    ensures mapped { λ _. ⌜ MapsEach (now (cells .entry)) (now (cells .exit)) w (clearAt «link_idx») ⌝ }
     ensures elsewhere { λ _. ⌜ MapOnly (now (cells .entry)) (now (cells .exit)) w ⌝ }
 {
     let at = w.links_at + link_idx as usize * 8;
@@ -93,11 +95,11 @@ fn mark_clear(cells: &mut [u32], w: Layout, link_idx: u32)
 pub fn insert(cells: &mut [u32], w: Layout, i: u32, event: LinkEvent)
     requires { ⌜ CellsApart (now cells) w ⌝ }
     requires { ⌜ Real event (w .links) ⌝ }
-    requires { ⌜ getD (now cells) (w .«links_at» + event .«link_idx» * 8 + 1) 0 < w .places ⌝ }
+    requires { ⌜ getD (now cells) (firstAt w (event .«link_idx») + 1) 0 < w .places ⌝ }
     requires { ⌜ i < w .places ⌝ }
     requires { ⌜ w .places ≤ 65535 ⌝ }
     requires { ⌜ 0 < i ⌝ }
-    ensures mapped { λ _. ⌜ ((node : ℕ → EstTime) → node i .«link_event» ≡ event → Mapped (now (cells .entry)) w node i → Mapped (now (cells .exit)) w node (i + 1)) ⌝ }
+    ensures mapped { λ _. ⌜ MapsNode (now (cells .entry)) (now (cells .exit)) w i event ⌝ }
     ensures elsewhere { λ _. ⌜ MapOnly (now (cells .entry)) (now (cells .exit)) w ⌝ }
 {
     let link_idx = event.link_idx;

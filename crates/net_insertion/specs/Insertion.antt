@@ -1,5 +1,7 @@
--- `insert_est_time`, document 01 under "Insertion": "A run's place is a node. No next: add the event. Next of equal event and speed gap strictly below J: move there.
--- Else follow the next alternative, or add a Fake (a split) and add behind it." The network is a function from index to node where it is only read, and the table's two lists where it changes.
+-- `insert_est_time`, document 01 under "Insertion": "A run's place is a node. No next: add the event. Next of equal
+-- event and speed gap strictly below J: move there. Else follow the next alternative, or add a Fake (a split) and add
+-- behind it." The network is a function from index to node where it is only read, and the table's two lists where it
+-- changes.
 use mathlib.Core.Path.{_≡_}
 use mathlib.Core.Bool.{Bool, true, false, _&&_}
 use mathlib.Core.List.{List}
@@ -10,7 +12,8 @@ use lib.Ieee.{Float, binary64, sub, lt}
 use Rattle.floats.specs.Floats.{gap}
 use Rattle.net_node.specs.declared.EstTime.{EstTime}
 use Rattle.net_node.specs.declared.TimedEvent.{TimedEvent}
-use Rattle.net_node.specs.Table.{Table, put, at, sameEvent, blank, withArc, withSpeed, withNext, withNextAlt, withPrev, withEvent}
+use Rattle.net_node.specs.Table.{Table, put, at, sameEvent, blank, withArc, withSpeed, withNext, withNextAlt, withPrev}
+use Rattle.net_node.specs.Table.{withEvent}
 use Rattle.net_insertion.specs.declared.Place.{Place}
 use Rattle.net_insertion.specs.declared.Seek.{Seek}
 use Rattle.net_insertion.specs.declared.Seek.the-variants.{Open, Match, Split}
@@ -23,32 +26,37 @@ use Rattle.net_insertion.specs.declared.Inserted.the-variants.{Added, Mo
 unfoldable pub matches : Float → TimedEvent → EstTime → Bool
 matches join e n = sameEvent (n .«link_event») (e .«link_event») && lt (gap (e .speed) (n .speed)) join
 
--- what is found at a node, by whether it has no next, whether the next matches, whether it has no alternative, and what its alternatives give
+-- what is found at a node, by whether it has no next, whether the next matches, whether it has no alternative, and what
+-- its alternatives give
 abbrev pub found : Bool → Bool → Bool → ℕ → ℕ → Seek → Seek
 found true match none i next later = Open i
 found false true none i next later = Match next
 found false false true i next later = Split i
 found false false false i next later = later
 
--- From node i along the alternatives, for so many of them: a node without a next, a next that matches, or the last alternative.
--- Alternatives name later nodes, so as many turns as there are nodes are enough.
+-- From node i along the alternatives, for so many of them: a node without a next, a next that matches, or the last
+-- alternative. Alternatives name later nodes, so as many turns as there are nodes are enough.
 unfoldable pub seek : ℕ → (ℕ → EstTime) → Float → TimedEvent → ℕ → Seek
 unfolding matches
 seek zero node join e i = Split i
 seek (suc k) node join e i =
     let later = seek k node join e (node i .«idx_next_alt») in
-    found (eqb (node i .«idx_next») 0) (matches join e (node (node i .«idx_next»))) (eqb (node i .«idx_next_alt») 0) i (node i .«idx_next») later
+    found (eqb (node i .«idx_next») 0) (matches join e (node (node i .«idx_next»))) (eqb (node i .«idx_next_alt») 0) i
+    (node i .«idx_next») later
 
 -- ---- nodes written
 
 -- a node to which the next is set: its held time and offset become those up to the event that follows
 unfoldable pub linkedTo : EstTime → ℕ → TimedEvent → EstTime
-linkedTo n next e = withNext (withArc n (sub binary64 (e .time) (n .«time_to_next»)) (sub binary64 (e .offset) (n .«dist_to_next»))) next
+linkedTo n next e =
+    withNext (withArc n (sub binary64 (e .time) (n .«time_to_next»)) (sub binary64 (e .offset) (n .«dist_to_next»)))
+    next
 
 -- the event's own node, which holds its time and offset until a next is set
 unfoldable pub eventNode : TimedEvent → ℕ → EstTime
 unfolding blank
-eventNode e prev = withPrev (withEvent (withSpeed (withArc blank (e .time) (e .offset)) (e .speed)) (e .«link_event»)) prev
+eventNode e prev =
+    withPrev (withEvent (withSpeed (withArc blank (e .time) (e .offset)) (e .speed)) (e .«link_event»)) prev
 
 -- a split's Fake behind node prev: it holds the run's own time and offset
 unfoldable pub splitFake : Place → ℕ → EstTime
@@ -79,8 +87,9 @@ addedAs false ended added = Refused 12
 addedAs true true added = Refused 13
 addedAs true false added = added
 
--- What is answered by what was found, with n nodes in so many places. Row 12: no place for the node, or for a split's Fake and the node.
--- Row 13: "addition behind a finished run's event". A Fake is no run's event, so nothing is added behind a finished run's by a split.
+-- What is answered by what was found, with n nodes in so many places. Row 12: no place for the node, or for a split's
+-- Fake and the node. Row 13: "addition behind a finished run's event". A Fake is no run's event, so nothing is added
+-- behind a finished run's by a split.
 abbrev pub insertedAs : Seek → ℕ → ℕ → (ℕ → Bool) → TimedEvent → Inserted
 insertedAs (Match i) n places ended e = Moved (placeAt i e)
 insertedAs (Open i) n places ended e = addedAs (ltb n places) (ended i) (Added (placeAt n e) false)
@@ -109,8 +118,10 @@ insertedTable t n join p e = tableAs (soughtIn t n join p e) t n p e
 -- what an answer says of the table's lists, which were t before
 abbrev pub InsertedInto : Table → ℕ → Float → Place → TimedEvent → List Float → List ℕ → Inserted → Type 0
 InsertedInto t n join p e floats numbers (Refused r) = Unit
-InsertedInto t n join p e floats numbers (Moved q) = (floats ≡ insertedTable t n join p e .floats) × (numbers ≡ insertedTable t n join p e .numbers)
-InsertedInto t n join p e floats numbers (Added q split) = (floats ≡ insertedTable t n join p e .floats) × (numbers ≡ insertedTable t n join p e .numbers)
+InsertedInto t n join p e floats numbers (Moved q) =
+    (floats ≡ insertedTable t n join p e .floats) × (numbers ≡ insertedTable t n join p e .numbers)
+InsertedInto t n join p e floats numbers (Added q split) =
+    (floats ≡ insertedTable t n join p e .floats) × (numbers ≡ insertedTable t n join p e .numbers)
 
 -- document 01's number for each answer
 abbrev pub insertedNumber : Inserted → ℕ

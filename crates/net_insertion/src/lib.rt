@@ -4,8 +4,10 @@ use net_node::TimedEvent;
 ghost use mathlib.Core.Path.{_≡_};
 ghost use Prim.Native.Nat.{_+_, _*_, _≤_, _<_};
 ghost use lib.ListN.{length};
-ghost use Rattle.net_node.specs.Table.{nodeAt, Room, Indexed, withNextAlt};
-ghost use Rattle.net_insertion.specs.Insertion.{matches, seek, linkedTo, eventNode, splitFake, addBehind, splitAt, placeAt, inserted, InsertedInto, flagged};
+ghost use Rattle.net_node.specs.Table.{nodeAt, Room, Indexed, withNextAlt, floatWidth, numberWidth};
+ghost use Rattle.net_node.specs.Lent.{tableAtEntry};
+ghost use Rattle.net_insertion.specs.Insertion.{matches, seek, linkedTo, eventNode, splitFake, addBehind};
+ghost use Rattle.net_insertion.specs.Insertion.{splitAt, placeAt, inserted, InsertedInto, flagged};
 
 // A run's place, the source's `est_alt`: a node, and the time and offset of the run's own event there.
 pub struct Place {
@@ -14,14 +16,16 @@ pub struct Place {
     pub idx_prev: u32,
 }
 
-// Where an event goes: behind a node without a next, to a node that is there already, or behind a Fake to be made the alternative of a node.
+// Where an event goes: behind a node without a next, to a node that is there already, or behind a Fake to be made the
+// alternative of a node.
 enum Seek {
     Open(u32),
     Match(u32),
     Split(u32),
 }
 
-// What insertion answers: the place behind an event that was added, and whether by a split; the place that the run moved to; or a refusal's number.
+// What insertion answers: the place behind an event that was added, and whether by a split; the place that the run
+// moved to; or a refusal's number.
 pub enum Inserted {
     Added(Place, bool),
     Moved(Place),
@@ -110,10 +114,10 @@ fn split_fake(place: Place, prev: u32) -> EstTime
 // Adds an event as node k behind node i.
 fn add_behind(floats: &mut [f64], numbers: &mut [u32], i: u32, k: u32, e: TimedEvent)
     requires { ⌜ i < k ⌝ }
-    requires { ⌜ k * 4 + 4 ≤ length (now floats) ⌝ }
-    requires { ⌜ k * 6 + 6 ≤ length (now numbers) ⌝ }
-    ensures floats { λ _. ⌜ now (floats .exit) ≡ addBehind (record { floats = now (floats .entry); numbers = now (numbers .entry) }) i k e .floats ⌝ }
-    ensures numbers { λ _. ⌜ now (numbers .exit) ≡ addBehind (record { floats = now (floats .entry); numbers = now (numbers .entry) }) i k e .numbers ⌝ }
+    requires { ⌜ k * floatWidth + floatWidth ≤ length (now floats) ⌝ }
+    requires { ⌜ k * numberWidth + numberWidth ≤ length (now numbers) ⌝ }
+    ensures floats { λ _. ⌜ now (floats .exit) ≡ addBehind (tableAtEntry floats numbers) i k e .floats ⌝ }
+    ensures numbers { λ _. ⌜ now (numbers .exit) ≡ addBehind (tableAtEntry floats numbers) i k e .numbers ⌝ }
 {
     let node = net_node::load(floats, numbers, i as usize);
     let linked = link_to(node, k, e);
@@ -125,10 +129,10 @@ fn add_behind(floats: &mut [f64], numbers: &mut [u32], i: u32, k: u32, e: TimedE
 // Adds a split's Fake as node k, the next alternative of node i.
 fn split_at(floats: &mut [f64], numbers: &mut [u32], i: u32, k: u32, place: Place)
     requires { ⌜ i < k ⌝ }
-    requires { ⌜ k * 4 + 4 ≤ length (now floats) ⌝ }
-    requires { ⌜ k * 6 + 6 ≤ length (now numbers) ⌝ }
-    ensures floats { λ _. ⌜ now (floats .exit) ≡ splitAt (record { floats = now (floats .entry); numbers = now (numbers .entry) }) i k place .floats ⌝ }
-    ensures numbers { λ _. ⌜ now (numbers .exit) ≡ splitAt (record { floats = now (floats .entry); numbers = now (numbers .entry) }) i k place .numbers ⌝ }
+    requires { ⌜ k * floatWidth + floatWidth ≤ length (now floats) ⌝ }
+    requires { ⌜ k * numberWidth + numberWidth ≤ length (now numbers) ⌝ }
+    ensures floats { λ _. ⌜ now (floats .exit) ≡ splitAt (tableAtEntry floats numbers) i k place .floats ⌝ }
+    ensures numbers { λ _. ⌜ now (numbers .exit) ≡ splitAt (tableAtEntry floats numbers) i k place .numbers ⌝ }
 {
     let node = net_node::load(floats, numbers, i as usize);
     let before = net_node::with_next_alt(node, k);
@@ -165,8 +169,10 @@ pub fn insert_est_time(
     requires { ⌜ Indexed (nodeAt (now floats) (now numbers)) n ⌝ }
     requires { ⌜ «est_alt» .«idx_prev» < n ⌝ }
     requires { ⌜ «ends_at» + n * 8 ≤ length (now cells) + 7 ⌝ }
-    ensures answer { λ r. ⌜ r ≡ inserted (record { floats = now (floats .entry); numbers = now (numbers .entry) }) n places (flagged (now (cells .entry)) «ends_at») join «est_alt» «est_insert» ⌝ }
-    ensures table { λ r. ⌜ InsertedInto (record { floats = now (floats .entry); numbers = now (numbers .entry) }) n join «est_alt» «est_insert» (now (floats .exit)) (now (numbers .exit)) r ⌝ }
+    ensures answer { λ r. ⌜ r ≡ inserted (tableAtEntry floats numbers) n places (flagged (now (cells .entry)) «ends_at»)
+        join «est_alt» «est_insert» ⌝ }
+    ensures table { λ r. ⌜ InsertedInto (tableAtEntry floats numbers) n join «est_alt» «est_insert» (now (floats .exit))
+        (now (numbers .exit)) r ⌝ }
 {
     let found = seek_place(
         floats,

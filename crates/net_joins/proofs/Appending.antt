@@ -11,7 +11,7 @@ use lib.ListN.{getD}
 use Rattle.net_node.specs.declared.EstTime.{EstTime}
 use Rattle.net_event_map.specs.declared.Layout.{Layout}
 use Rattle.net_event_map.specs.EventMap.{nodesFrom, eventNodes, headOf, arriveAt, bit, Mapped}
-use Rattle.net_event_map.proofs.Lists.{either}
+use Rattle.net_node.proofs.Tables.{either}
 use Rattle.net_event_map.proofs.Kept.{all-are, walked, walked-end}
 use Rattle.net_strands.specs.declared.EstJoinPath.{EstJoinPath}
 use Rattle.net_strands.specs.declared.Count.{Count}

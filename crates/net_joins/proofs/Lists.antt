@@ -10,7 +10,7 @@ use borrow.Author.Tests.{lt-ltb}
 use lib.Dec.{ltb}
 use lib.ListN.{length, getD, set, take, length-append, length-set}
 use lib.Seq.{getD-set-same, getD-set-other, take-all, take-append-le}
-use Rattle.net_event_map.proofs.Lists.{either}
+use Rattle.net_node.proofs.Tables.{either}
 use Rattle.net_strands.specs.declared.EstJoinPath.{EstJoinPath}
 use Rattle.net_strands.specs.declared.Count.{Count}
 use Rattle.net_strands.specs.declared.Count.the-variants.{Entries, Over}

@@ -11,7 +11,8 @@ use lib.ListN.{length, getD, set, length-set}
 use lib.Seq.{getD-set-same, getD-set-other, ext-getD}
 use Rattle.net_event_map.specs.declared.Layout.{Layout}
 use Rattle.net_event_map.specs.EventMap.{bit, CellsApart}
-use Rattle.net_event_map.proofs.Lists.{known, not-both}
+use Rattle.laws.proofs.Below.{none-left, none-right}
+use Rattle.laws.proofs.Cases.{known, not-both}
 use Rattle.net_strands.specs.declared.EstJoinPath.{EstJoinPath}
 use Rattle.net_strands.specs.Entries.{entryAt, entriesIn, nodeOf, Valid}
 use Rattle.net_strands.proofs.Entries.{entries-more}
@@ -57,14 +58,6 @@ module _ {base mark : ℕ} {list : List ℕ} {count : ℕ} {cells₀ cells : Lis
 
 -- ---- which cells are set
 
-or-left : (a b : Bool) → (a || b) ≡ false → a ≡ false
-or-left true b e = e
-or-left false b e = refl
-
-or-right : (a b : Bool) → (a || b) ≡ false → b ≡ false
-or-right true b e = not-both refl e
-or-right false b e = e
-
 module _ (base : ℕ) where
   -- whether cell p is the mark of a node that the list names
   unfoldable hits : List EstJoinPath → ℕ → Bool
@@ -76,8 +69,8 @@ module _ (base : ℕ) where
   marks-miss v [] c p h = refl
   marks-miss v (x ∷ xs) c p h =
       let q : ℕ = base + x .«est_idx_next» * 8 + 1 in
-      let d : q ≡ p → ⊥ = eqb-false q p (or-left (eqb q p) (hits xs p) h) in
-      marks-miss v xs (set c q v) p (or-right (eqb q p) (hits xs p) h) ∙ getD-set-other c q p v 0 (λ (e : p ≡ q). d (sym e))
+      let d : q ≡ p → ⊥ = eqb-false q p (none-left (eqb q p) (hits xs p) h) in
+      marks-miss v xs (set c q v) p (none-right (eqb q p) (hits xs p) h) ∙ getD-set-other c q p v 0 (λ (e : p ≡ q). d (sym e))
 
   marks-hit : (v : ℕ) (es : List EstJoinPath) (c : List ℕ) (p : ℕ) → p < length c → hits es p ≡ true → getD (marks base v es c) p 0 ≡ v
   unfolding marks hits

@@ -1,4 +1,5 @@
--- `perform_speed_join` and `add_new_join_paths`: the choice among the entries, the join, and the entries that a failed join at an Arrive appends.
+-- `perform_speed_join` and `add_new_join_paths`: the choice among the entries, the join, and the entries that a failed
+-- join at an Arrive appends.
 use mathlib.Core.Path.{_≡_}
 use mathlib.Core.Bool.{Bool, true, false, not, _&&_, _||_, cond}
 use mathlib.Core.List.{List, [], _∷_, _++_}
@@ -58,7 +59,8 @@ unfoldable pub joinFake : ℕ → ℕ → EstTime
 unfolding blank
 joinFake next prev = withPrev (withNext blank next) prev
 
--- The table of n nodes after a join: the chain's end gets the Fake as node n, and the last node gets it as its next. The end of the chain may be the last node itself.
+-- The table of n nodes after a join: the chain's end gets the Fake as node n, and the last node gets it as its next.
+-- The end of the chain may be the last node itself.
 unfoldable pub joinAt : Table → ℕ → ℕ → TimedEvent → Table
 unfolding put at
 joinAt t n end e =
@@ -88,7 +90,8 @@ appendedAll old m (i ∷ is) es = andThen (appendedIf (names old i) m i es) (app
 
 unfoldable pub appended : (ℕ → EstTime) → ℕ → LinkEvent → List EstJoinPath → Option (List EstJoinPath)
 unfolding appendedAll eventNodes
-appended node n e es = cond (isArrive (e .«est_type»)) (appendedAll es (e .«link_idx») (eventNodes node e n) es) (some es)
+appended node n e es =
+    cond (isArrive (e .«est_type»)) (appendedAll es (e .«link_idx») (eventNodes node e n) es) (some es)
 
 -- ---- the three together, for an event of a run that has added since its pop
 
@@ -120,7 +123,8 @@ abbrev pub chosen : (ℕ → EstTime) → ℕ → ℕ → Float → TimedEvent �
 chosen node n places join e none = Beyond
 chosen node n places join e (some es) =
     let best = closest node join (e .speed) es in
-    chosenAs (lt (best .«speed_diff_join») join) (ltb n places) (best .«est_idx_join») (appended node n (e .«link_event») es)
+    chosenAs (lt (best .«speed_diff_join») join) (ltb n places) (best .«est_idx_join»)
+    (appended node n (e .«link_event») es)
 
 unfoldable pub joinStep : (ℕ → EstTime) → ℕ → ℕ → Float → TimedEvent → List EstJoinPath → JoinStep
 unfolding closest appended rebuilt
@@ -136,7 +140,8 @@ StepAs d slice (Refused n) = (d ≡ Beyond) × (n ≡ 12)
 
 -- the table's lists, which were t before, after a step
 abbrev pub SteppedInto : Table → ℕ → TimedEvent → List Float → List ℕ → Step → Type 0
-SteppedInto t n e floats numbers (Joined target) = (floats ≡ joinedTable t n target e .floats) × (numbers ≡ joinedTable t n target e .numbers)
+SteppedInto t n e floats numbers (Joined target) =
+    (floats ≡ joinedTable t n target e .floats) × (numbers ≡ joinedTable t n target e .numbers)
 SteppedInto t n e floats numbers (Waits k) = (floats ≡ t .floats) × (numbers ≡ t .numbers)
 SteppedInto t n e floats numbers (Refused k) = Unit
 

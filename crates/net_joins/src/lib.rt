@@ -1,4 +1,5 @@
-// A run's joins: the choice among its entries, the join, the entries appended, and the three together for one event. Contracts: specs/Joins.antt.
+// A run's joins: the choice among its entries, the join, the entries appended, and the three together for one event.
+// Contracts: specs/Joins.antt.
 use net_event_map::Layout;
 use net_node::EstTime;
 use net_node::LinkEvent;
@@ -11,11 +12,15 @@ ghost use Prim.Native.Nat.{ℕ, _+_, _*_, _≤_, _<_};
 ghost use lib.Dec.{ltb};
 ghost use lib.ListN.{length, getD};
 ghost use Rattle.net_node.specs.declared.EstTime.{EstTime};
-ghost use Rattle.net_node.specs.Table.{nodeAt, Room, Indexed, Table, withPrevAlt};
-ghost use Rattle.net_event_map.specs.EventMap.{CellsApart, Mapped, Real};
-ghost use Rattle.net_strands.specs.Entries.{entriesIn, EntriesAs, Valid};
-ghost use Rattle.net_joins.specs.Joins.{closer, closest, chainEnd, joinFake, joinAt, joinedTable, appendedIf, appendedAll, appended, joinsIf, stepWith, joinStep, StepAs, SteppedInto, CellsAs};
-ghost use Rattle.net_joins.specs.Marks.{marks, NamesMarked, Chain, Ending, MapWalkable};
+ghost use Rattle.net_node.specs.Table.{nodeAt, Room, Indexed, Table, withPrevAlt, floatWidth, numberWidth};
+ghost use Rattle.net_event_map.specs.EventMap.{CellsApart, Mapped, Real, firstAt};
+ghost use Rattle.net_strands.specs.Entries.{entriesIn, Valid, ListBecomes};
+ghost use Rattle.net_node.specs.Lent.{tableAtEntry};
+ghost use Rattle.net_strands.specs.Steps.{nodesAtEntry};
+ghost use Rattle.net_joins.specs.Joins.{closer, closest, chainEnd, joinFake, joinAt, joinedTable, appendedIf};
+ghost use Rattle.net_joins.specs.Joins.{joinsIf, joinStep, StepAs, SteppedInto, CellsAs};
+ghost use Rattle.net_joins.specs.Marks.{marks, NamesMarked, Ending, MapWalkable, AppendsChain, AppendsNodes};
+ghost use Rattle.net_joins.specs.Marks.{GoesOnWith, MapKept};
 
 // The smallest gap of speeds so far, and its node.
 pub struct SpeedJoin {
@@ -58,7 +63,7 @@ fn closest_entry(
     requires { ⌜ Valid (entriesIn (now list) count) nodes ⌝ }
     requires { ⌜ count ≤ 1024 ⌝ }
     requires { ⌜ 2048 ≤ length (now list) ⌝ }
-    ensures { λ r. ⌜ r ≡ closest (nodeAt (now (floats .entry)) (now (numbers .entry))) join speed (entriesIn (now (list .entry)) count) ⌝ }
+    ensures { λ r. ⌜ r ≡ closest (nodesAtEntry floats numbers) join speed (entriesIn (now (list .entry)) count) ⌝ }
 {
     let mut best = SpeedJoin {
         speed_diff_join: join,
@@ -79,7 +84,7 @@ fn chain_end(floats: &[f64], numbers: &[u32], nodes: usize, start: u32) -> u32
     requires { ⌜ Room (now floats) (now numbers) nodes ⌝ }
     requires { ⌜ Indexed (nodeAt (now floats) (now numbers)) nodes ⌝ }
     requires { ⌜ start < nodes ⌝ }
-    ensures { λ r. ⌜ r ≡ chainEnd nodes (nodeAt (now (floats .entry)) (now (numbers .entry))) start ⌝ }
+    ensures { λ r. ⌜ r ≡ chainEnd nodes (nodesAtEntry floats numbers) start ⌝ }
 {
     let mut i = start;
     loop {
@@ -104,10 +109,10 @@ fn join_fake(next: u32, prev: u32) -> EstTime
 // The last of n nodes is linked to the end of a chain through a new Fake. The end may be the last node itself.
 fn join_at(floats: &mut [f64], numbers: &mut [u32], n: u32, end: u32, e: TimedEvent)
     requires { ⌜ end < n ⌝ }
-    requires { ⌜ n * 4 + 4 ≤ length (now floats) ⌝ }
-    requires { ⌜ n * 6 + 6 ≤ length (now numbers) ⌝ }
-    ensures floats { λ _. ⌜ now (floats .exit) ≡ joinAt (record { floats = now (floats .entry); numbers = now (numbers .entry) }) n end e .floats ⌝ }
-    ensures numbers { λ _. ⌜ now (numbers .exit) ≡ joinAt (record { floats = now (floats .entry); numbers = now (numbers .entry) }) n end e .numbers ⌝ }
+    requires { ⌜ n * floatWidth + floatWidth ≤ length (now floats) ⌝ }
+    requires { ⌜ n * numberWidth + numberWidth ≤ length (now numbers) ⌝ }
+    ensures floats { λ _. ⌜ now (floats .exit) ≡ joinAt (tableAtEntry floats numbers) n end e .floats ⌝ }
+    ensures numbers { λ _. ⌜ now (numbers .exit) ≡ joinAt (tableAtEntry floats numbers) n end e .numbers ⌝ }
 {
     let node = net_node::load(floats, numbers, end as usize);
     let joined = net_node::with_prev_alt(node, n);
@@ -133,8 +138,10 @@ fn perform_speed_join(
     requires { ⌜ n < places ⌝ }
     requires { ⌜ Indexed (nodeAt (now floats) (now numbers)) n ⌝ }
     requires { ⌜ target < n ⌝ }
-    ensures floats { λ _. ⌜ now (floats .exit) ≡ joinedTable (record { floats = now (floats .entry); numbers = now (numbers .entry) }) n target «est_time_add» .floats ⌝ }
-    ensures numbers { λ _. ⌜ now (numbers .exit) ≡ joinedTable (record { floats = now (floats .entry); numbers = now (numbers .entry) }) n target «est_time_add» .numbers ⌝ }
+    ensures floats { λ _. ⌜ now (floats .exit) ≡ joinedTable (tableAtEntry floats numbers) n target
+        «est_time_add» .floats ⌝ }
+    ensures numbers { λ _. ⌜ now (numbers .exit) ≡ joinedTable (tableAtEntry floats numbers) n target
+        «est_time_add» .numbers ⌝ }
 {
     let end = chain_end(floats, numbers, n, target);
     join_at(floats, numbers, n as u32, end, est_time_add);
@@ -146,7 +153,8 @@ fn set_marks(cells: &mut [u32], w: Layout, list: &[u32], count: usize, mark: u32
     requires { ⌜ count ≤ 1024 ⌝ }
     requires { ⌜ 2048 ≤ length (now list) ⌝ }
     requires { ⌜ Valid (entriesIn (now list) count) (w .places) ⌝ }
-    ensures { λ _. ⌜ now (cells .exit) ≡ marks (w .«nodes_at») mark (entriesIn (now (list .entry)) count) (now (cells .entry)) ⌝ }
+    ensures { λ _. ⌜ now (cells .exit) ≡ marks (w .«nodes_at») mark (entriesIn (now (list .entry)) count)
+        (now (cells .entry)) ⌝ }
 {
     let mut k = 0;
     while k < count {
@@ -156,11 +164,12 @@ fn set_marks(cells: &mut [u32], w: Layout, list: &[u32], count: usize, mark: u32
     }
 }
 
-// Puts a node behind the n entries of a list, unless the list names it. Those entries stay, also where it does not fit: `push_entry` doesn't promise that, so the room is tested here.
+// Puts a node behind the n entries of a list, unless the list names it. Those entries stay, also where it does not fit:
+// `push_entry` doesn't promise that, so the room is tested here.
 fn append_unless(named: bool, list: &mut [u32], n: usize, link_idx: u32, i: u32) -> Count
     requires { ⌜ 2048 ≤ length (now list) ⌝ }
     requires { ⌜ n ≤ 1024 ⌝ }
-    ensures list { λ r. ⌜ EntriesAs (appendedIf named «link_idx» i (entriesIn (now (list .entry)) n)) (now (list .exit)) r ⌝ }
+    ensures list { λ r. ⌜ ListBecomes (appendedIf named «link_idx» i) list n r ⌝ }
     ensures kept { λ _. ⌜ ((k : ℕ) → k ≤ n → entriesIn (now (list .exit)) k ≡ entriesIn (now (list .entry)) k) ⌝ }
 {
     if named {
@@ -180,11 +189,11 @@ fn append_unless(named: bool, list: &mut [u32], n: usize, link_idx: u32, i: u32)
 fn append_unmarked(cells: &[u32], w: Layout, link_idx: u32, list: &mut [u32], count: usize) -> Count
     requires { ⌜ CellsApart (now cells) w ⌝ }
     requires { ⌜ «link_idx» < w .links ⌝ }
-    requires { ⌜ Ending (now cells) w (getD (now cells) (w .«links_at» + «link_idx» * 8) 0) ⌝ }
+    requires { ⌜ Ending (now cells) w (getD (now cells) (firstAt w «link_idx») 0) ⌝ }
     requires { ⌜ NamesMarked (now cells) w (entriesIn (now list) count) ⌝ }
     requires { ⌜ 2048 ≤ length (now list) ⌝ }
     requires { ⌜ count ≤ 1024 ⌝ }
-    ensures list { λ r. ⌜ ((is : List ℕ) → Chain (now (cells .entry)) w (getD (now (cells .entry)) (w .«links_at» + «link_idx» * 8) 0) is → EntriesAs (appendedAll (entriesIn (now (list .entry)) count) «link_idx» is (entriesIn (now (list .entry)) count)) (now (list .exit)) r) ⌝ }
+    ensures list { λ r. ⌜ AppendsChain (now (cells .entry)) w «link_idx» list count r ⌝ }
     ensures kept { λ _. ⌜ entriesIn (now (list .exit)) count ≡ entriesIn (now (list .entry)) count ⌝ }
 {
     let mut i = net_event_map::first_node(cells, w, link_idx);
@@ -214,8 +223,8 @@ fn add_new_join_paths(
     requires { ⌜ 2048 ≤ length (now list) ⌝ }
     requires { ⌜ Valid (entriesIn (now list) count) (w .places) ⌝ }
     requires { ⌜ MapWalkable (now cells) w ⌝ }
-    ensures list { λ r. ⌜ ((node : ℕ → EstTime) (n : ℕ) → n ≤ w .places → Mapped (now (cells .entry)) w node n → EntriesAs (appended node n event (entriesIn (now (list .entry)) count)) (now (list .exit)) r) ⌝ }
-    ensures cells { λ _. ⌜ ((node : ℕ → EstTime) (n : ℕ) → Mapped (now (cells .entry)) w node n → now (cells .exit) ≡ now (cells .entry)) ⌝ }
+    ensures list { λ r. ⌜ AppendsNodes (now (cells .entry)) w event list count r ⌝ }
+    ensures cells { λ _. ⌜ MapKept (now (cells .entry)) (now (cells .exit)) w ⌝ }
 {
     let kind = event.est_type;
     let arrive = net_strands::is_arrive(kind);
@@ -256,7 +265,8 @@ fn join_target(
     requires { ⌜ Indexed (nodeAt (now floats) (now numbers)) n ⌝ }
     requires { ⌜ target < n ⌝ }
     ensures answer { λ r. ⌜ ((slice : List ℕ) → StepAs (joinsIf (ltb n places) target) slice r) ⌝ }
-    ensures table { λ r. ⌜ SteppedInto (record { floats = now (floats .entry); numbers = now (numbers .entry) }) n «est_time_add» (now (floats .exit)) (now (numbers .exit)) r ⌝ }
+    ensures table { λ r. ⌜ SteppedInto (tableAtEntry floats numbers) n «est_time_add» (now (floats .exit))
+        (now (numbers .exit)) r ⌝ }
 {
     if places <= n {
         return Step::Refused(12);
@@ -281,8 +291,9 @@ fn go_on(
     requires { ⌜ 2048 ≤ length (now joins) ⌝ }
     requires { ⌜ Valid (entriesIn (now scratch) count) (w .places) ⌝ }
     requires { ⌜ MapWalkable (now cells) w ⌝ }
-    ensures answer { λ r. ⌜ ((node : ℕ → EstTime) (n : ℕ) → n ≤ w .places → Mapped (now (cells .entry)) w node n → StepAs (stepWith (appended node n event (entriesIn (now (scratch .entry)) count))) (now (joins .exit)) r) ⌝ }
-    ensures cells { λ _. ⌜ ((node : ℕ → EstTime) (n : ℕ) → Mapped (now (cells .entry)) w node n → now (cells .exit) ≡ now (cells .entry)) ⌝ }
+    ensures answer { λ r. ⌜ GoesOnWith (now (cells .entry)) w event (entriesIn (now (scratch .entry)) count)
+        (now (joins .exit)) r ⌝ }
+    ensures cells { λ _. ⌜ MapKept (now (cells .entry)) (now (cells .exit)) w ⌝ }
 {
     let appended = add_new_join_paths(cells, w, event, scratch, count);
     let Count::Entries(more) = appended else {
@@ -292,7 +303,8 @@ fn go_on(
     Step::Waits(more)
 }
 
-// One event of a run that has added since its pop: its list of `count` entries is rebuilt, the run joins, or goes on with what is appended. The list is left in `joins`.
+// One event of a run that has added since its pop: its list of `count` entries is rebuilt, the run joins, or goes on
+// with what is appended. The list is left in `joins`.
 pub fn join_step(
     floats: &mut [f64],
     numbers: &mut [u32],
@@ -318,8 +330,11 @@ pub fn join_step(
     requires { ⌜ 2048 ≤ length (now scratch) ⌝ }
     requires { ⌜ 4096 ≤ length (now stack) ⌝ }
     requires { ⌜ Valid (entriesIn (now joins) count) n ⌝ }
-    ensures answer { λ r. ⌜ StepAs (joinStep (nodeAt (now (floats .entry)) (now (numbers .entry))) n (w .places) join «est_time_add» (entriesIn (now (joins .entry)) count)) (now (joins .exit)) r ⌝ }
-    ensures table { λ r. ⌜ SteppedInto (record { floats = now (floats .entry); numbers = now (numbers .entry) }) n «est_time_add» (now (floats .exit)) (now (numbers .exit)) r ⌝ }
+    ensures answer { λ r. ⌜ StepAs
+        (joinStep (nodesAtEntry floats numbers) n (w .places) join «est_time_add»
+        (entriesIn (now (joins .entry)) count)) (now (joins .exit)) r ⌝ }
+    ensures table { λ r. ⌜ SteppedInto (tableAtEntry floats numbers) n «est_time_add» (now (floats .exit))
+        (now (numbers .exit)) r ⌝ }
     ensures cells { λ r. ⌜ CellsAs (now (cells .entry)) (now (cells .exit)) r ⌝ }
 {
     let event = est_time_add.link_event;

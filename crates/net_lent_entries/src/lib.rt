@@ -4,9 +4,10 @@ use net_strands::EstJoinPath;
 ghost use mathlib.Core.Path.{_≡_};
 ghost use Prim.Native.Nat.{_+_, _*_, _≤_};
 ghost use lib.ListN.{length};
-ghost use Rattle.net_node.specs.Table.{nodeAt, Room};
+ghost use Rattle.net_node.specs.Table.{Room, floatWidth, numberWidth};
 ghost use Rattle.net_strands.specs.Entries.{Valid};
 ghost use Rattle.net_joins.specs.Joins.{closer, closest};
+ghost use Rattle.net_strands.specs.Steps.{nodesAtEntry};
 
 // The better of the best so far and one more entry.
 fn closer_at(
@@ -16,15 +17,16 @@ fn closer_at(
     x: EstJoinPath,
     speed: f64,
 ) -> SpeedJoin
-    requires { ⌜ x .«est_idx_next» * 4 + 4 ≤ length (now floats) ⌝ }
-    requires { ⌜ x .«est_idx_next» * 6 + 6 ≤ length (now numbers) ⌝ }
-    ensures { λ r. ⌜ r ≡ closer (nodeAt (now (floats .entry)) (now (numbers .entry))) speed best x ⌝ }
+    requires { ⌜ x .«est_idx_next» * floatWidth + floatWidth ≤ length (now floats) ⌝ }
+    requires { ⌜ x .«est_idx_next» * numberWidth + numberWidth ≤ length (now numbers) ⌝ }
+    ensures { λ r. ⌜ r ≡ closer (nodesAtEntry floats numbers) speed best x ⌝ }
 {
     let node = net_node::load(floats, numbers, x.est_idx_next as usize);
     net_joins::closer_of(best, x, node, speed)
 }
 
-// "Of entries with m = 0 the first with the smallest gap, strictly below J": its gap and its node, or J and 0 if there is none.
+// "Of entries with m = 0 the first with the smallest gap, strictly below J": its gap and its node, or J and 0 if there
+// is none.
 pub fn closest_of(
     floats: &[f64],
     numbers: &[u32],
@@ -35,7 +37,7 @@ pub fn closest_of(
 ) -> SpeedJoin
     requires { ⌜ Room (now floats) (now numbers) nodes ⌝ }
     requires { ⌜ Valid (now entries) nodes ⌝ }
-    ensures { λ r. ⌜ r ≡ closest (nodeAt (now (floats .entry)) (now (numbers .entry))) join speed (now (entries .entry)) ⌝ }
+    ensures { λ r. ⌜ r ≡ closest (nodesAtEntry floats numbers) join speed (now (entries .entry)) ⌝ }
 {
     let mut best = SpeedJoin {
         speed_diff_join: join,

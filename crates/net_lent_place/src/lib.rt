@@ -1,4 +1,5 @@
-// Insertion at a run's place that is lent and moved in place, as the source's `insert_est_time` has it. Contracts: specs/LentPlace.antt and net_insertion's specs/Insertion.antt.
+// Insertion at a run's place that is lent and moved in place, as the source's `insert_est_time` has it. Contracts:
+// specs/LentPlace.antt and net_insertion's specs/Insertion.antt.
 use net_insertion::Inserted;
 use net_insertion::Place;
 use net_node::TimedEvent;
@@ -7,6 +8,7 @@ ghost use Prim.Native.Nat.{_+_, _*_, _≤_, _<_};
 ghost use lib.ListN.{length};
 ghost use Rattle.net_node.specs.Table.{nodeAt, Room, Indexed};
 ghost use Rattle.net_insertion.specs.Insertion.{inserted, InsertedInto, flagged};
+ghost use Rattle.net_node.specs.Lent.{tableAtEntry};
 ghost use Rattle.net_lent_place.specs.LentPlace.{placeAfter};
 
 // Where a run stands after an answer.
@@ -20,7 +22,8 @@ fn place_after(answer: Inserted, old: Place) -> Place
     }
 }
 
-// Inserts an event at a run's place into a network of n nodes, and moves the place. A node whose cell is set ends a finished run.
+// Inserts an event at a run's place into a network of n nodes, and moves the place. A node whose cell is set ends a
+// finished run.
 pub fn insert_est_time(
     floats: &mut [f64],
     numbers: &mut [u32],
@@ -37,8 +40,10 @@ pub fn insert_est_time(
     requires { ⌜ Indexed (nodeAt (now floats) (now numbers)) n ⌝ }
     requires { ⌜ now «est_alt» .«idx_prev» < n ⌝ }
     requires { ⌜ «ends_at» + n * 8 ≤ length (now cells) + 7 ⌝ }
-    ensures answer { λ r. ⌜ r ≡ inserted (record { floats = now (floats .entry); numbers = now (numbers .entry) }) n places (flagged (now (cells .entry)) «ends_at») join (now («est_alt» .entry)) «est_insert» ⌝ }
-    ensures table { λ r. ⌜ InsertedInto (record { floats = now (floats .entry); numbers = now (numbers .entry) }) n join (now («est_alt» .entry)) «est_insert» (now (floats .exit)) (now (numbers .exit)) r ⌝ }
+    ensures answer { λ r. ⌜ r ≡ inserted (tableAtEntry floats numbers) n places (flagged (now (cells .entry)) «ends_at»)
+        join (now («est_alt» .entry)) «est_insert» ⌝ }
+    ensures table { λ r. ⌜ InsertedInto (tableAtEntry floats numbers) n join (now («est_alt» .entry)) «est_insert»
+        (now (floats .exit)) (now (numbers .exit)) r ⌝ }
     ensures place { λ r. ⌜ now («est_alt» .exit) ≡ placeAfter r (now («est_alt» .entry)) ⌝ }
 {
     let old = *est_alt;

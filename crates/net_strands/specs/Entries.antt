@@ -1,4 +1,5 @@
--- Lists of join entries, document 01 under "Joins": "An entry is (match link m, node e)." A list lies in a slice of numbers, 2 to an entry, and has at most 1,024.
+-- Lists of join entries, document 01 under "Joins": "An entry is (match link m, node e)." A list lies in a slice of
+-- numbers, 2 to an entry, and has at most 1,024.
 use mathlib.Core.Path.{_≡_}
 use mathlib.Core.Bool.{Bool, true, false}
 use mathlib.Core.List.{List, [], _∷_, _++_}
@@ -6,6 +7,8 @@ use mathlib.Core.Option.{Option, none, some}
 use Prim.Native.Nat.{ℕ, zero, suc, _+_, _*_, _≤_, _<_}
 use lib.Dec.{ltb}
 use lib.ListN.{length, getD}
+use denote.Ref.{now}
+use Rattle.space.specs.Lent.{Lent}
 use Rattle.net_strands.specs.declared.EstJoinPath.{EstJoinPath}
 use Rattle.net_strands.specs.declared.Count.{Count}
 use Rattle.net_strands.specs.declared.Count.the-variants.{Entries, Over}
@@ -39,7 +42,8 @@ unfoldable pub push : List EstJoinPath → EstJoinPath → Option (List EstJoinP
 push es x = pushedAs (ltb (length es) 1024) es x
 
 -- an answer, and what is made of it; none is refusal 12
-abbrev pub andThen : Option (List EstJoinPath) → (List EstJoinPath → Option (List EstJoinPath)) → Option (List EstJoinPath)
+abbrev pub andThen : Option (List EstJoinPath) → (List EstJoinPath → Option (List EstJoinPath))
+    → Option (List EstJoinPath)
 andThen none f = none
 andThen (some es) f = f es
 
@@ -47,6 +51,10 @@ andThen (some es) f = f es
 abbrev pub EntriesAs : Option (List EstJoinPath) → List ℕ → Count → Type 0
 EntriesAs answer slice (Entries n) = (answer ≡ some (entriesIn slice n)) × (n ≤ 1024)
 EntriesAs answer slice Over = answer ≡ none
+
+-- what a rule makes of the first n entries of a lent slice is left there
+abbrev pub ListBecomes : (List EstJoinPath → Option (List EstJoinPath)) → Lent (List ℕ) → ℕ → Count → Type 0
+ListBecomes rule list n r = EntriesAs (rule (entriesIn (now (list .entry)) n)) (now (list .exit)) r
 
 -- each entry names one of the first n nodes
 pub record Valid (es : List EstJoinPath) (n : ℕ) : Type 0 where

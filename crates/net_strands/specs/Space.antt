@@ -1,5 +1,6 @@
--- `update_join_paths_space`, document 01 under "Joins": "Rebuilding its list for an event". Each entry of the old list is followed to the nodes that have the event, in order; the new list is what they give.
--- The network is a function from index to node.
+-- `update_join_paths_space`, document 01 under "Joins": "Rebuilding its list for an event". Each entry of the old list
+-- is followed to the nodes that have the event, in order; the new list is what they give. The network is a function
+-- from index to node.
 use mathlib.Core.Bool.{Bool, true, false, _&&_, _||_, cond}
 use mathlib.Core.List.{List, [], _∷_}
 use mathlib.Core.Option.{Option, none, some}
@@ -38,7 +39,7 @@ alternatives (suc k) node e m i es =
 
 -- ---- "With m nonzero, strands"
 
--- a strand walk: the node that it stands on, the alternatives alternativeStacked, and the new list so far
+-- a strand walk: the node that it stands on, the alternatives stacked, and the new list so far
 pub record Strand : Type 0 where
   pub here : ℕ
   pub stack : List ℕ
@@ -74,11 +75,14 @@ turnAs true stops m next stack es = poppedAfter stack (push es (entry m next))
 turnAs false true m next stack es = popped stack es
 turnAs false false m next stack es = More (record { here = next; stack = stack; entries = es })
 
--- "stack the node's alternative, look at its next; the walk is left from its inner part as soon as that next has the event (an entry) or is an Arrive or has no next; otherwise go on."
+-- "stack the node's alternative, look at its next; the walk is left from its inner part as soon as that next has the
+-- event (an entry) or is an Arrive or has no next; otherwise go on."
 unfoldable pub turn : (ℕ → EstTime) → LinkEvent → ℕ → Strand → Turn
 turn node e m s =
     let next = node (s .here) .«idx_next» in
-    turnAs (sameEvent (node next .«link_event») e) (isArrive (node next .«link_event» .«est_type») || eqb (node next .«idx_next») 0) m next (alternativeStacked (node (s .here) .«idx_next_alt») (s .stack)) (s .entries)
+    turnAs (sameEvent (node next .«link_event») e)
+    (isArrive (node next .«link_event» .«est_type») || eqb (node next .«idx_next») 0) m next
+    (alternativeStacked (node (s .here) .«idx_next_alt») (s .stack)) (s .entries)
 
 abbrev pub strandsOn : Turn → (Strand → Option (List EstJoinPath)) → Option (List EstJoinPath)
 strandsOn (Whole es) f = some es
@@ -99,22 +103,27 @@ followed zero node n e m i es = alternatives n node e m i es
 followed (suc old) node n e m i es = strands 4096 node e m (strandFrom i es)
 
 -- "New m is m for Arrive; for Clear 0 if m is 0 or the event's link, else the entry is copied."
-abbrev pub extendedAs : (stops arrive matched seen : Bool) → (ℕ → EstTime) → ℕ → LinkEvent → EstJoinPath → List EstJoinPath → Option (List EstJoinPath)
+abbrev pub extendedAs : (stops arrive matched seen : Bool) → (ℕ → EstTime) → ℕ → LinkEvent → EstJoinPath
+    → List EstJoinPath → Option (List EstJoinPath)
 extendedAs true arrive matched seen node n e x es = some es
 extendedAs false false false seen node n e x es = push es x
 extendedAs false true matched false node n e x es = some es
 extendedAs false false true false node n e x es = some es
-extendedAs false true matched true node n e x es = followed (x .«link_idx_match») node n e (x .«link_idx_match») (x .«est_idx_next») es
+extendedAs false true matched true node n e x es =
+    followed (x .«link_idx_match») node n e (x .«link_idx_match») (x .«est_idx_next») es
 extendedAs false false true true node n e x es = followed (x .«link_idx_match») node n e 0 (x .«est_idx_next») es
 
 -- "an e with no next is dropped"
-unfoldable pub extended : (ℕ → EstTime) → ℕ → LinkEvent → Bool → EstJoinPath → List EstJoinPath → Option (List EstJoinPath)
+unfoldable pub extended : (ℕ → EstTime) → ℕ → LinkEvent → Bool → EstJoinPath → List EstJoinPath
+    → Option (List EstJoinPath)
 extended node n e seen x es =
-    extendedAs (eqb (node (x .«est_idx_next») .«idx_next») 0) (isArrive (e .«est_type»)) (eqb (x .«link_idx_match») 0 || eqb (x .«link_idx_match») (e .«link_idx»)) seen node n e x es
+    extendedAs (eqb (node (x .«est_idx_next») .«idx_next») 0) (isArrive (e .«est_type»))
+    (eqb (x .«link_idx_match») 0 || eqb (x .«link_idx_match») (e .«link_idx»)) seen node n e x es
 
 -- ---- the whole list: `seen` says whether some node has the event ("If no node has the event, nothing more")
 
-unfoldable pub extendedAll : (ℕ → EstTime) → ℕ → LinkEvent → Bool → List EstJoinPath → List EstJoinPath → Option (List EstJoinPath)
+unfoldable pub extendedAll : (ℕ → EstTime) → ℕ → LinkEvent → Bool → List EstJoinPath → List EstJoinPath
+    → Option (List EstJoinPath)
 unfolding extended
 extendedAll node n e seen [] es = some es
 extendedAll node n e seen (x ∷ xs) es = andThen (extended node n e seen x es) (extendedAll node n e seen xs)

@@ -1,4 +1,5 @@
-// A run's join entries, followed along the network to the nodes that have an event: `update_join_paths_space`. Contracts: specs/Space.antt.
+// A run's join entries, followed along the network to the nodes that have an event: `update_join_paths_space`.
+// Contracts: specs/Space.antt.
 use net_node::EstTime;
 use net_node::EstType;
 use net_node::LinkEvent;
@@ -7,9 +8,10 @@ ghost use mathlib.Core.List.{[]};
 ghost use Prim.Native.Nat.{_+_, _*_, _≤_, _<_};
 ghost use lib.ListN.{length};
 ghost use Rattle.net_node.specs.Table.{nodeAt, Room, Indexed};
-ghost use Rattle.net_strands.specs.Entries.{entry, entryAt, entriesIn, push, EntriesAs, Valid};
-ghost use Rattle.net_strands.specs.Space.{isArrive, pushedIf, alternatives, alternativeStacked, strands, strandFrom, extended, extendedAll};
-ghost use Rattle.net_strands.specs.Steps.{stackIn, endsStrand, newMatch};
+ghost use Rattle.net_strands.specs.Entries.{entry, entryAt, entriesIn, push, EntriesAs, Valid, ListBecomes};
+ghost use Rattle.net_strands.specs.Space.{isArrive, pushedIf, alternatives, alternativeStacked, strands};
+ghost use Rattle.net_strands.specs.Space.{strandFrom, extended, extendedAll};
+ghost use Rattle.net_strands.specs.Steps.{stackIn, endsStrand, newMatch, nodesAtEntry};
 
 // A join entry: the link to be matched (0: matched already) and a node of the network.
 pub struct EstJoinPath {
@@ -38,7 +40,7 @@ pub fn entry_at(list: &[u32], k: usize) -> EstJoinPath
 pub fn push_entry(list: &mut [u32], n: usize, x: EstJoinPath) -> Count
     requires { ⌜ 2048 ≤ length (now list) ⌝ }
     requires { ⌜ n ≤ 1024 ⌝ }
-    ensures { λ r. ⌜ EntriesAs (push (entriesIn (now (list .entry)) n) x) (now (list .exit)) r ⌝ }
+    ensures { λ r. ⌜ ListBecomes (λ es. push es x) list n r ⌝ }
 {
     if n == 1024 {
         return Count::Over;
@@ -52,7 +54,7 @@ pub fn push_entry(list: &mut [u32], n: usize, x: EstJoinPath) -> Count
 fn push_if(wanted: bool, list: &mut [u32], n: usize, x: EstJoinPath) -> Count
     requires { ⌜ 2048 ≤ length (now list) ⌝ }
     requires { ⌜ n ≤ 1024 ⌝ }
-    ensures { λ r. ⌜ EntriesAs (pushedIf wanted (entriesIn (now (list .entry)) n) x) (now (list .exit)) r ⌝ }
+    ensures { λ r. ⌜ ListBecomes (λ es. pushedIf wanted es x) list n r ⌝ }
 {
     if wanted {
         return push_entry(list, n, x);
@@ -87,7 +89,8 @@ fn follow_alternatives(
     requires { ⌜ start < nodes ⌝ }
     requires { ⌜ 2048 ≤ length (now list) ⌝ }
     requires { ⌜ n ≤ 1024 ⌝ }
-    ensures { λ r. ⌜ EntriesAs (alternatives nodes (nodeAt (now (floats .entry)) (now (numbers .entry))) event «link_idx_match» start (entriesIn (now (list .entry)) n)) (now (list .exit)) r ⌝ }
+    ensures { λ r. ⌜ ListBecomes (alternatives nodes (nodesAtEntry floats numbers) event «link_idx_match» start) list n
+        r ⌝ }
 {
     let mut i = start;
     let mut at = n;
@@ -134,7 +137,8 @@ fn ends_strand(node: EstTime) -> bool
     arrive | (node.idx_next == 0)
 }
 
-// An entry that does not match yet: strands along nexts, with alternatives alternativeStacked, each up to the event, an Arrive or an end.
+// An entry that does not match yet: strands along nexts, with alternatives stacked, each up to the event, an Arrive or
+// an end.
 fn follow_strands(
     floats: &[f64],
     numbers: &[u32],
@@ -152,7 +156,8 @@ fn follow_strands(
     requires { ⌜ 4096 ≤ length (now stack) ⌝ }
     requires { ⌜ 2048 ≤ length (now list) ⌝ }
     requires { ⌜ n ≤ 1024 ⌝ }
-    ensures { λ r. ⌜ EntriesAs (strands 4096 (nodeAt (now (floats .entry)) (now (numbers .entry))) event «link_idx_match» (strandFrom start (entriesIn (now (list .entry)) n))) (now (list .exit)) r ⌝ }
+    ensures { λ r. ⌜ ListBecomes
+        (λ es. strands 4096 (nodesAtEntry floats numbers) event «link_idx_match» (strandFrom start es)) list n r ⌝ }
 {
     // The first `top` of the stack are still to be walked, the last of them next; `left` nexts may still be read.
     let mut at = n;
@@ -216,7 +221,7 @@ fn extend(
     requires { ⌜ 4096 ≤ length (now stack) ⌝ }
     requires { ⌜ 2048 ≤ length (now list) ⌝ }
     requires { ⌜ n ≤ 1024 ⌝ }
-    ensures { λ r. ⌜ EntriesAs (extended (nodeAt (now (floats .entry)) (now (numbers .entry))) nodes event seen x (entriesIn (now (list .entry)) n)) (now (list .exit)) r ⌝ }
+    ensures { λ r. ⌜ ListBecomes (extended (nodesAtEntry floats numbers) nodes event seen x) list n r ⌝ }
 {
     let m = x.link_idx_match;
     let i = x.est_idx_next;
@@ -259,7 +264,9 @@ pub fn update_join_paths_space(
     requires { ⌜ 2048 ≤ length (now old) ⌝ }
     requires { ⌜ 4096 ≤ length (now stack) ⌝ }
     requires { ⌜ 2048 ≤ length (now list) ⌝ }
-    ensures { λ r. ⌜ EntriesAs (extendedAll (nodeAt (now (floats .entry)) (now (numbers .entry))) nodes event seen (entriesIn (now (old .entry)) count) []) (now (list .exit)) r ⌝ }
+    ensures { λ r. ⌜ EntriesAs
+        (extendedAll (nodesAtEntry floats numbers) nodes event seen (entriesIn (now (old .entry)) count) [])
+        (now (list .exit)) r ⌝ }
 {
     let mut at = 0;
     let mut k = 0;

@@ -5,7 +5,8 @@ use native.Mathlib.Omega.{arith}
 use borrow.Author.Tests.{eq-eqb, ne-eqb, not-true, not-false}
 use Rattle.book_format.proofs.Places.{sized-links}
 use Rattle.book_format.proofs.Given.{link-float}
-use Rattle.grow_leg.proofs.Choosing.{next-named, next-alt-named, next-is, alt-is, next-in, alt-in, ways-are}
+use Rattle.grow_leg.proofs.Choosing.{next-is, alt-is, next-in, alt-in, ways-are}
+use Rattle.book_legs.proofs.Found.{next-named, next-alt-named}
 use Rattle.grow_leg.proofs.ways_behind.Statement.{statement}
 use Rattle.grow_leg.proofs.ways_behind.Tie as tie
 

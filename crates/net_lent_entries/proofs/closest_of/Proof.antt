@@ -54,7 +54,7 @@ use denote.Triple.Clauses.{ensured, lasts}
 use denote.Exit.{yes}
 use borrow.Author.Tests.{ltb-true, ltb-false}
 use Rattle.net_node.specs.declared.EstTime.{EstTime}
-use Rattle.net_node.specs.Table.{nodeAt, Room}
+use Rattle.net_node.specs.Table.{nodeAt, Room, floatWidth, numberWidth}
 use Rattle.net_strands.specs.declared.EstJoinPath.{EstJoinPath}
 use Rattle.net_strands.specs.Entries.{nodeOf, Valid}
 use Rattle.net_strands.proofs.EstJoinPath as X
@@ -246,8 +246,8 @@ module _ {M : Type 1} (𝓤 : URA M) (H : Heap 𝓤) (A : Atoms 𝓤) (W : Given
       asks : s .k < length xs → Is X.the-row x (entry-vals x) → ent 𝓤 (⋆ 𝓤 H A (Toks ∷ Floats ∷ Numbers ∷ [])) (⋆ 𝓤 H A (raw (Closer 𝓤 H A mem run .pre to) ∷ Floats ∷ Numbers ∷ []))
       asks less isx =
           let below : x .«est_idx_next» < n = subst (λ (i : ℕ). i < n) (node-of xs (s .k) less) (valid .node (s .k) less) in
-          let f : x .«est_idx_next» * 4 + 4 ≤ length (fs .now) = omega (arith, below, room .floats) in
-          let u : x .«est_idx_next» * 6 + 6 ≤ length (us .now) = omega (arith, below, room .numbers) in
+          let f : x .«est_idx_next» * floatWidth + floatWidth ≤ length (fs .now) = omega (arith, below, room .floats) in
+          let u : x .«est_idx_next» * numberWidth + numberWidth ≤ length (us .now) = omega (arith, below, room .numbers) in
           qed W (Toks ∷ Floats ∷ Numbers ∷ []) ∵ move ! (1 ∷ []) $ use1 W (Floats ⊛ Floats) (shr-slice-copy 𝓤 H A W (named 0) κ₀ f64 .twice fs (slice-vals fs)) $ split ! $
           move ! (3 ∷ []) $ use1 W (Numbers ⊛ Numbers) (shr-slice-copy 𝓤 H A W (named 1) κ₁ u32 .twice us (slice-vals us)) $ split ! $
           -- [numbers twice; floats twice; the tokens]
