@@ -1,2 +1,1 @@
-pub mod Accepts
 pub mod Networks

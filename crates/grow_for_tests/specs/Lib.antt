@@ -1,1 +1,1 @@
-pub mod Network
+pub mod Grown

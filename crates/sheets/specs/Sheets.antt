@@ -1,23 +1,36 @@
 -- A book's listing in a lent slice: its sheet's, or `refused N`.
+use mathlib.Core.Path.{_≡_}
 use mathlib.Core.List.{List}
-use Prim.Native.Nat.{ℕ, _/_, min}
-use lib.Dec.{leb}
-use lib.ListN.{length}
-use Rattle.net_node.specs.Table.{nodeAt}
-use Rattle.est_times.specs.Sheet.{Job, stopped, finished, reportOf, floatsAs, numbersAs}
+use mathlib.Core.Option.{Option, some}
+use Prim.Native.Nat.{ℕ, _*_}
+use Rattle.net_node.specs.Table.{floatWidth, numberWidth, Table}
+use Rattle.net_node.specs.Left.{floatsLeft, numbersLeft}
+use Rattle.net_node.specs.Lent.{Slices, Sizes}
+use Rattle.est_times.specs.declared.Sheet.{Sheet}
+use Rattle.est_times.specs.declared.Sheet.the-variants.{Made, Refused}
+use Rattle.est_times.specs.Sheet.{job, answered, sheetOf, SheetMade}
 use Rattle.listing.specs.declared.Listed.{Listed}
-use Rattle.listing.specs.Listing.{sheetText, refusedText, fitted, bytesAs, sheetListed, sheetBytes}
+use Rattle.listing.specs.Listing.{refusedText, sheetIn, TextListed}
 
--- the text of a sheet in a table of so many floats and numbers
-abbrev pub textOf : Job → ℕ → ℕ → List ℕ
-textOf (stopped k) floats numbers = refusedText k
-textOf (finished g t) floats numbers = sheetText (reportOf g) (nodeAt (floatsAs (finished g t) floats) (numbersAs (finished g t) numbers))
+-- the text of an answer and the table that it left
+abbrev pub textOf : Sheet → Table → Option (List ℕ)
+textOf (Made r) t = sheetIn r t
+textOf (Refused k) t = some (refusedText k)
 
--- how it is answered, and the bytes then, in a slice of so many
-abbrev pub bookListed : Job → ℕ → ℕ → ℕ → Listed
-bookListed (stopped k) floats numbers size = fitted (leb (length (refusedText k)) size) (refusedText k)
-bookListed (finished g t) floats numbers size = sheetListed (leb (g .nodes) (min (floats / 4) (numbers / 6))) (textOf (finished g t) floats numbers) size
+-- the table that a book's job leaves, of slices of these sizes
+abbrev pub tableLeft : List ℕ → Sizes → Table
+tableLeft b z = record { floats = floatsLeft (sheetOf (job b z)) (z .floats); numbers = numbersLeft (sheetOf (job b z)) (z .numbers) }
 
-abbrev pub bookBytes : Job → ℕ → ℕ → ℕ → List ℕ
-bookBytes (stopped k) floats numbers size = bytesAs (leb (length (refusedText k)) size) (refusedText k) size
-bookBytes (finished g t) floats numbers size = sheetBytes (leb (g .nodes) (min (floats / 4) (numbers / 6))) (textOf (finished g t) floats numbers) size
+-- the text of a book
+abbrev pub bookText : List ℕ → Sizes → Option (List ℕ)
+bookText b z = textOf (answered (job b z)) (tableLeft b z)
+
+-- what the program `sheet` lends: "192 nodes; 65,536 bytes of work space"
+abbrev pub programSizes : Sizes
+programSizes = record { floats = 192 * floatWidth; numbers = 192 * numberWidth; bytes = 65536 }
+
+-- The promise of a function from a book to its listing: the sheet is made in what is lent, and its text is listed.
+pub record BookListed (b : List ℕ) (lent left : Slices) (out listing : List ℕ) (r : Listed) : Type 0 where
+  pub sheet : Sheet
+  pub made : SheetMade b lent left sheet
+  pub written : TextListed (textOf sheet (left .table)) out listing r

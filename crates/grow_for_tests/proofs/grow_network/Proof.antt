@@ -1,52 +1,54 @@
--- `grow_for_tests::grow_network` meets its contract.
-use mathlib.Core.Path.{_≡_, sym, ap, _∙_, refl}
+-- `grow_for_tests::grow_network` meets its contract: proofs/Networks.antt, `network-grown`.
+use mathlib.Core.Path.{_≡_, refl, sym, ap, _∙_}
 use native.Mathlib.Omega.{arith}
 use borrow.Author.Needs.{needs}
-use Rattle.space.proofs.Zeros.{zeros-again, zeros-as}
-use Rattle.grow_for_tests.proofs.Networks.{floats-again, floats-zero, nodes-most, final-answer, final-floats, final-numbers}
+use Rattle.est_times.proofs.Answers.{cleared-as}
+use Rattle.grow_for_tests.proofs.Networks.{nodes-most, network-grown}
 use Rattle.grow_for_tests.proofs.grow_network.Statement.{statement}
 use Rattle.grow_for_tests.proofs.grow_network.Tie as tie
 
-read-and-grow-requires : tie.Need-read-and-grow-requires
-read-and-grow-requires c κs = (
-  floats-again _ _ (c .before .before .before .before .before .before .before .before .before .before .before .before .before .clear-before .ensures .0),
-  (zeros-again _ _ (c .before .before .before .before .before .before .before .before .before .before .before .before .before .clear-before .ensures .1 .0), (zeros-again _ _ (c .before .before .before .before .before .before .before .before .before .before .before .before .before .clear-before .ensures .1 .1 .0), zeros-again _ _ (c .before .before .before .before .before .before .before .before .before .before .before .before .before .clear-before .ensures .1 .1 .1))),
-)
-
 clear-behind-requires : tie.Need-clear-behind-requires
-clear-behind-requires c κs = omega (arith, c .before .before .nodes-of .ensures, nodes-most _ _ _ _ _ _ (c .before .before .before .before .before .before .before .before .before .before .before .before .before .read-and-grow .result) (c .before .before .before .before .before .before .before .before .before .before .before .before .before .read-and-grow .ensures))
+clear-behind-requires c κs =
+    let built = c .before .before .before .before .before .before .before .before .before .before .before .before .before in
+    omega (arith, c .before .before .nodes-of .ensures, nodes-most _ _ _ _ (built .read-and-grow .result) (built .read-and-grow .ensures))
 
 same-length : tie.Need-same-length
-same-length c = omega (arith, c .before .before .before .before .before .before .before .before .before .before .before .before .before .before .clear-behind .kept, c .before .before .before .before .before .before .before .before .before .before .before .before .before .before .before .before .before .before .before .before .before .before .before .before .before .before .before .before .read-and-grow .kept, c .before .before .before .before .before .before .before .before .before .before .before .before .before .before .before .before .before .before .before .before .before .before .before .before .before .before .before .before .before .before .before .before .before .before .before .before .before .before .before .before .before .before .clear-before .kept)
+same-length c =
+    let behind = c .before .before .before .before .before .before .before .before .before .before .before .before .before .before in
+    let built = behind .before .before .before .before .before .before .before .before .before .before .before .before .before .before in
+    let begun = built .before .before .before .before .before .before .before .before .before .before .before .before .before .before in
+    omega (arith, behind .clear-behind .kept, built .read-and-grow .kept, begun .clear-before .kept)
 
 same-length-2 : tie.Need-same-length-2
-same-length-2 c = omega (arith, c .before .before .before .before .before .before .before .before .before .before .before .before .before .before .clear-behind .kept, c .before .before .before .before .before .before .before .before .before .before .before .before .before .before .before .before .before .before .before .before .before .before .before .before .before .before .before .before .read-and-grow .kept, c .before .before .before .before .before .before .before .before .before .before .before .before .before .before .before .before .before .before .before .before .before .before .before .before .before .before .before .before .before .before .before .before .before .before .before .before .before .before .before .before .before .before .clear-before .kept)
+same-length-2 c =
+    let behind = c .before .before .before .before .before .before .before .before .before .before .before .before .before .before in
+    let built = behind .before .before .before .before .before .before .before .before .before .before .before .before .before .before in
+    let begun = built .before .before .before .before .before .before .before .before .before .before .before .before .before .before in
+    omega (arith, behind .clear-behind .kept, built .read-and-grow .kept, begun .clear-before .kept)
 
 same-length-3 : tie.Need-same-length-3
-same-length-3 c = omega (arith, c .before .before .before .before .before .before .clear-work .kept, c .before .before .before .before .before .before .before .before .before .before .before .before .before .before .before .before .before .before .before .before .before .before .before .before .before .before .before .before .read-and-grow .kept)
+same-length-3 c =
+    let cleared = c .before .before .before .before .before .before in
+    omega (arith, cleared .clear-work .kept, cleared .before .before .before .before .before .before .before .before .before .before .before .before .before .before .before .before .before .before .before .before .before .before .read-and-grow .kept)
 
 returns : tie.Need-returns
 returns c =
-    let k = c .before .before .before .before .before .before .before .before .before .before .before .before .before .before .before .before .before .before .before .before .before .before .before .before .before .before .before .before .read-and-grow .kept in (
-      final-answer _ _ _ _ _ _ _ _ (c .before .before .before .before .before .before .before .before .before .before .before .before .before .before .before .before .before .before .before .before .before .before .before .before .before .before .before .before .read-and-grow .result) (c .before .before .before .before .before .before .before .before .before .before .before .before .before .before .before .before .before .before .before .before .before .before .before .before .before .before .before .before .read-and-grow .ensures) _ _ _ _ _ (c .before .before .before .before .before .before .before .before .before .before .before .before .before .before .before .before .before .before .before .before .before .before .before .before .before .before .before .before .before .before .before .before .before .before .before .before .before .before .before .before .before .before .clear-before .kept .0) (c .before .before .before .before .before .before .before .before .before .before .before .before .before .before .before .before .before .before .before .before .before .before .before .before .before .before .before .before .before .before .before .before .before .before .before .before .before .before .before .before .before .before .clear-before .kept .1 .0) refl (c .before .before .before .before .before .before .before .before .before .before .before .before .before .before .before .before .before .before .before .before .before .before .before .before .before .before .before .before .before .before .before .before .before .before .before .before .before .before .before .before .before .before .clear-before .kept .1 .1 .0) (c .before .before .before .before .before .before .before .before .before .before .before .before .before .before .before .before .before .before .before .before .before .before .before .before .before .before .before .before .before .before .before .before .before .before .before .before .before .before .before .before .before .before .clear-before .kept .1 .1 .1 .0),
-      (
-        final-floats _ _ _ _ _ _ _ _ (c .before .before .before .before .before .before .before .before .before .before .before .before .before .before .before .before .before .before .before .before .before .before .before .before .before .before .before .before .read-and-grow .result) (c .before .before .before .before .before .before .before .before .before .before .before .before .before .before .before .before .before .before .before .before .before .before .before .before .before .before .before .before .read-and-grow .ensures) _ _ _ _ _ (c .before .before .before .before .before .before .before .before .before .before .before .before .before .before .before .before .before .before .before .before .before .before .before .before .before .before .before .before .before .before .before .before .before .before .before .before .before .before .before .before .before .before .clear-before .kept .0) (c .before .before .before .before .before .before .before .before .before .before .before .before .before .before .before .before .before .before .before .before .before .before .before .before .before .before .before .before .before .before .before .before .before .before .before .before .before .before .before .before .before .before .clear-before .kept .1 .0) refl (c .before .before .before .before .before .before .before .before .before .before .before .before .before .before .before .before .before .before .before .before .before .before .before .before .before .before .before .before .before .before .before .before .before .before .before .before .before .before .before .before .before .before .clear-before .kept .1 .1 .0) (c .before .before .before .before .before .before .before .before .before .before .before .before .before .before .before .before .before .before .before .before .before .before .before .before .before .before .before .before .before .before .before .before .before .before .before .before .before .before .before .before .before .before .clear-before .kept .1 .1 .1 .0) _ (c .before .before .before .before .before .before .before .before .before .before .before .before .before .before .before .before .before .nodes-of .ensures) _ (c .before .before .before .before .before .before .before .before .before .before .before .before .before .before .clear-behind .ensures .0) (omega (arith, k, c .before .before .before .before .before .before .before .before .before .before .before .before .before .before .before .before .before .before .before .before .before .before .before .before .before .before .before .before .before .before .before .before .before .before .before .before .before .before .before .before .before .before .clear-before .kept)),
-        (
-          final-numbers _ _ _ _ _ _ _ _ (c .before .before .before .before .before .before .before .before .before .before .before .before .before .before .before .before .before .before .before .before .before .before .before .before .before .before .before .before .read-and-grow .result) (c .before .before .before .before .before .before .before .before .before .before .before .before .before .before .before .before .before .before .before .before .before .before .before .before .before .before .before .before .read-and-grow .ensures) _ _ _ _ _ (c .before .before .before .before .before .before .before .before .before .before .before .before .before .before .before .before .before .before .before .before .before .before .before .before .before .before .before .before .before .before .before .before .before .before .before .before .before .before .before .before .before .before .clear-before .kept .0) (c .before .before .before .before .before .before .before .before .before .before .before .before .before .before .before .before .before .before .before .before .before .before .before .before .before .before .before .before .before .before .before .before .before .before .before .before .before .before .before .before .before .before .clear-before .kept .1 .0) refl (c .before .before .before .before .before .before .before .before .before .before .before .before .before .before .before .before .before .before .before .before .before .before .before .before .before .before .before .before .before .before .before .before .before .before .before .before .before .before .before .before .before .before .clear-before .kept .1 .1 .0) (c .before .before .before .before .before .before .before .before .before .before .before .before .before .before .before .before .before .before .before .before .before .before .before .before .before .before .before .before .before .before .before .before .before .before .before .before .before .before .before .before .before .before .clear-before .kept .1 .1 .1 .0) _ (c .before .before .before .before .before .before .before .before .before .before .before .before .before .before .before .before .before .nodes-of .ensures) _ (c .before .before .before .before .before .before .before .before .before .before .before .before .before .before .clear-behind .ensures .1) (omega (arith, k, c .before .before .before .before .before .before .before .before .before .before .before .before .before .before .before .before .before .before .before .before .before .before .before .before .before .before .before .before .before .before .before .before .before .before .before .before .before .before .before .before .before .before .clear-before .kept)),
-          (
-            floats-zero _ _ _ (c .before .before .before .before .before .before .clear-work .ensures .0) (omega (arith, k, c .before .before .before .before .before .before .before .before .before .before .before .before .before .before .before .before .before .before .before .before .before .before .before .before .before .before .before .before .before .before .before .before .before .before .before .before .before .before .before .before .before .before .clear-before .kept)),
-            (zeros-as _ _ _ (c .before .before .before .before .before .before .clear-work .ensures .1 .0) (omega (arith, k, c .before .before .before .before .before .before .before .before .before .before .before .before .before .before .before .before .before .before .before .before .before .before .before .before .before .before .before .before .before .before .before .before .before .before .before .before .before .before .before .before .before .before .clear-before .kept)), zeros-as _ _ _ (c .before .before .before .before .before .before .clear-work .ensures .1 .1) (omega (arith, k, c .before .before .before .before .before .before .before .before .before .before .before .before .before .before .before .before .before .before .before .before .before .before .before .before .before .before .before .before .before .before .before .before .before .before .before .before .before .before .before .before .before .before .clear-before .kept))),
-          ),
-        ),
-      ),
-    )
+    let cleared = c .before .before .before .before .before .before in
+    let behind = cleared .before .before .before .before .before .before .before .before in
+    let nodes = behind .before .before .before in
+    let built = nodes .before .before .before .before .before .before .before .before .before .before .before in
+    let begun = built .before .before .before .before .before .before .before .before .before .before .before .before .before .before in
+    let k = built .read-and-grow .kept in
+    let l = begun .clear-before .kept in
+    network-grown _ _ _ _ _ _ _ _ _ _ (built .read-and-grow .result) (built .read-and-grow .ensures) (l .0) (l .1 .0) refl (l .1 .1 .0) (l .1 .1 .1 .0) (omega (arith, k, l)) (omega (arith, k, l)) _ (nodes .nodes-of .ensures)
+    (behind .clear-behind .ensures .0) (behind .clear-behind .ensures .1) (cleared-as (omega (arith, k, l)) (omega (arith, k, l)) (omega (arith, k, l)) (cleared .clear-work .ensures))
 
 pub grow-network-spec : {M : Type 1} → statement M
 grow-network-spec =
     tie.close
     (tie.spec
     (λ c κs. search needs)
-    read-and-grow-requires
+    (λ c κs. c .before .before .before .before .before .before .before .before .before .before .before .before .before .clear-before .ensures)
     (λ c κs. search needs)
     clear-behind-requires
     (λ c κs. search needs)
