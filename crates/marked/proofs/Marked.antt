@@ -6,11 +6,13 @@ use Prim.Native.Nat.{ℕ, zero, suc, _/_, _%_}
 use lib.IntN.{pos}
 use lib.ListN.{length, getD}
 use lib.Ieee.{Float, nan, binary64, add, sub, mul, div, lt, le, eq, isNan, ofBits, toBits, ofInt}
+use mathlib.Core.Option.{Option, some}
+use Rattle.laws.specs.Answer.{Answer, refused}
 use Rattle.net_node.specs.declared.EstType.{EstType}
 use Rattle.net_node.specs.declared.EstType.the-variants.{Arrive, Clear, Fake}
 use Rattle.net_node.specs.declared.EstTime.{EstTime}
 use Rattle.net_node.specs.declared.TimedEvent.{TimedEvent}
-use Rattle.net_node.specs.Table.{nodeAt}
+use Rattle.net_node.specs.Table.{blank, withSpeed, withNext, withPrev, withEvent}
 use Rattle.net_insertion.specs.Insertion.{matches}
 use Rattle.root.specs.Root.{sqrt}
 use Rattle.book_format.specs.declared.Sample.{Sample}
@@ -22,8 +24,8 @@ use Rattle.net_joins.specs.Joins.{JoinStep, JoinsTo, GoesOn, joinStep}
 use Rattle.pass_queue.specs.declared.Entry.{Entry}
 use Rattle.pass_queue.specs.Queue.{best}
 use Rattle.est_times.specs.declared.Sheet.the-variants.{Made}
-use Rattle.est_times.specs.Sheet.{Job, stopped, finished, job, reportOf, answered, floatsAs, numbersAs}
-use Rattle.listing.specs.Listing.{sheetText, refusedText}
+use Rattle.est_times.specs.Sheet.{Finished, job, answered}
+use Rattle.sheets.specs.Sheets.{programSizes, bookText}
 use Rattle.laws.specs.Below as BelowOf
 use Rattle.laws.specs.Refusals as RefusalsOf
 use Rattle.fields.specs.Fields as FieldsOf
@@ -37,6 +39,7 @@ use Rattle.book_options.specs.Options as OptionsOf
 use Rattle.book_reader.specs.Reader as ReaderOf
 use Rattle.event_formula.specs.Event as EventOf
 use Rattle.net_node.specs.Table as TableOf
+use Rattle.net_node.specs.Left as LeftOf
 use Rattle.event_walk.specs.Walk as WalkOf
 use Rattle.net_insertion.specs.Insertion as InsertionOf
 use Rattle.net_strands.specs.Entries as EntriesOf
@@ -51,7 +54,7 @@ use Rattle.pass_rules.specs.Checks as ChecksOf
 use Rattle.pass_rules.specs.Forward as ForwardOf
 use Rattle.pass_rules.specs.Backward as BackwardOf
 use Rattle.pass_rules.specs.Passes as PassesOf
-use Rattle.grow_for_tests.specs.Network as NetworkOf
+use Rattle.est_times.specs.Network as NetworkOf
 use Rattle.est_times.specs.Sheet as SheetOf
 use Rattle.listing.specs.Listing as ListingOf
 
@@ -97,14 +100,13 @@ book destination offset =
     ++ (number 2 ++ leg 1 0 1 ++ leg 2 1 3)
     ++ (number 4 ++ sample 0 offset 0 ++ sample 0 offset 0 ++ sample 4 18 4 ++ sample 8 34 4)
 
--- "192 nodes; 65,536 bytes of work space": 768 floats and 1152 numbers
-abbrev sheetOf : ℕ → ℕ → Job
-sheetOf destination offset = job (book destination offset) 768 1152 65536
+-- "192 nodes; 65,536 bytes of work space"
+abbrev jobOf : ℕ → ℕ → Answer Finished
+jobOf destination offset = job (book destination offset) programSizes
 
 -- what is printed: the listing of the lent table, or the refusal
-abbrev printed : Job → List ℕ
-printed (stopped k) = refusedText k
-printed (finished g t) = sheetText (reportOf g) (nodeAt (floatsAs (finished g t) 768) (numbersAs (finished g t) 1152))
+abbrev printed : ℕ → ℕ → Option (List ℕ)
+printed destination offset = bookText (book destination offset) programSizes
 
 -- nodes 8 added 4 splits 0 joined 0 finished 1
 abbrev reported : List ℕ
@@ -185,17 +187,7 @@ entering next = course (0 ∷ next ∷ 100 ∷ 200 ∷ []) (seen 0 5 5 ∷ seen 
 
 -- a node with its speed, event, next and previous
 abbrev node : ℕ → EstType → ℕ → ℕ → ℕ → EstTime
-node speed kind link next prev = record {
-  «time_sched» = whole 0;
-  «time_to_next» = whole 0;
-  «dist_to_next» = whole 0;
-  speed = whole speed;
-  «idx_next» = next;
-  «idx_next_alt» = 0;
-  «idx_prev» = prev;
-  «idx_prev_alt» = 0;
-  «link_event» = record { «link_idx» = link; «est_type» = kind };
-}
+node speed kind link next prev = withPrev (withNext (withEvent (withSpeed blank (whole speed)) (record { «link_idx» = link; «est_type» = kind })) next) prev
 
 -- A run has passed link 1 by its Arrive, node 2, and its Clear, node 3, at 2 m/s. Another, which came another way, has its own Arrive of link 1 as node 4, the last.
 abbrev network : ℕ → EstTime
@@ -219,7 +211,7 @@ waits time node = record { time = whole time; sub = whole 0; node = node }
 
 record Marked : Type 0 where
   -- "this book": its listing, byte for byte
-  worked-book : printed (sheetOf 2 10) ≡ listing
+  worked-book : printed 2 10 ≡ some listing
   -- "root of 0"
   root-of-zero : sqrt binary64 (ofBits binary64 0) ≡ ofBits binary64 0
   -- "of 4 (2)"
@@ -247,13 +239,13 @@ record Marked : Type 0 where
   equal-times-turned : best false (waits 1 3) (waits 1 5 ∷ []) ≡ waits 1 3
   earlier-time : best false (waits 2 3) (waits 1 5 ∷ []) ≡ waits 1 5
   -- "sample at the last point (11)", as row 11 has it: "offset 12 in leg 1 and leg 2's first sample"; at 11 m there is a sheet
-  at-last-point : sheetOf 2 12 ≡ stopped 11
-  before-last-point : answered (sheetOf 2 11) ≡ Made (record { nodes = 8; added = 4; splits = 0; joined = 0; finished = 1 })
+  at-last-point : jobOf 2 12 ≡ refused 11
+  before-last-point : answered (jobOf 2 11) ≡ Made (record { nodes = 8; added = 4; splits = 0; joined = 0; finished = 1 })
   -- "destination 0 (8)": this book with that destination
-  destination-zero : sheetOf 0 10 ≡ stopped 8
+  destination-zero : jobOf 0 10 ≡ refused 8
 
 marked : Marked
-unfolding add sub mul div lt le eq isNan ofBits toBits ofInt BelowOf.someBelow BelowOf.sumBelow FieldsOf.u64At FloatsOf.tableFloat FloatsOf.bookFloat FloatsOf.gap FloatsOf.smaller SpaceOf.placesOf SpaceOf.zeros SpaceOf.zeroFloats RootOf.sqrt FormatOf.joinBits FormatOf.departureBits FormatOf.lengthBits FormatOf.links FormatOf.originsAt FormatOf.origins FormatOf.destinationsAt FormatOf.destinations FormatOf.legsAt FormatOf.legs FormatOf.samplesAt FormatOf.samples FormatOf.endOf FormatOf.linkLength FormatOf.linkNext FormatOf.linkNextAlt FormatOf.linkPrev FormatOf.linkPrevAlt FormatOf.originLink FormatOf.originOffset FormatOf.originFront FormatOf.destinationLink FormatOf.legLink FormatOf.legParent FormatOf.legSamples FormatOf.sampleTime FormatOf.sampleOffset FormatOf.sampleSpeed FormatOf.firstSample FormatOf.sampleAt RowsOf.row1 RowsOf.row2 RowsOf.row3 RowsOf.row4 RowsOf.row5 RowsOf.row6 RowsOf.row7 RefusalsOf.firstOf ChainsOf.legBelow OptionsOf.member OptionsOf.originBelow OptionsOf.stacked OptionsOf.pushed OptionsOf.inSet OptionsOf.keptOrigins OptionsOf.row8 ReaderOf.readNumber EventOf.passingAt EventOf.badPassing TableOf.sameEvent TableOf.nodeAt TableOf.putFloats TableOf.putNumbers WalkOf.turned WalkOf.passedAs WalkOf.row11 InsertionOf.linkedTo InsertionOf.eventNode InsertionOf.addBehind InsertionOf.placeAt InsertionOf.inserted InsertionOf.insertedTable EntriesOf.entry EntriesOf.push StrandsOf.strandFrom StrandsOf.strands StrandsOf.extendedAll EventMapOf.seenIn JoinsOf.joinStep PathOf.legEvents RunOf.arcToEnd RunOf.runEvents GrowthOf.badFinish GrowthOf.finishedAt GrowthOf.grow QueueOf.before QueueOf.best QueueOf.others ChecksOf.nodeHolds ChecksOf.row14 ForwardOf.forward BackwardOf.backward PassesOf.passes NetworkOf.zeroTable NetworkOf.network SheetOf.job ListingOf.sheetText
+unfolding add sub mul div lt le eq isNan ofBits toBits ofInt BelowOf.someBelow BelowOf.sumBelow FieldsOf.u64At FloatsOf.tableFloat FloatsOf.bookFloat FloatsOf.gap FloatsOf.smaller LeftOf.placesOf LeftOf.nodesIn SpaceOf.zeros SpaceOf.zeroFloats RootOf.sqrt FormatOf.joinBits FormatOf.departureBits FormatOf.lengthBits FormatOf.links FormatOf.originsAt FormatOf.origins FormatOf.destinationsAt FormatOf.destinations FormatOf.legsAt FormatOf.legs FormatOf.samplesAt FormatOf.samples FormatOf.endOf FormatOf.linkLength FormatOf.linkNext FormatOf.linkNextAlt FormatOf.linkPrev FormatOf.linkPrevAlt FormatOf.originLink FormatOf.originOffset FormatOf.originFront FormatOf.destinationLink FormatOf.legLink FormatOf.legParent FormatOf.legSamples FormatOf.sampleTime FormatOf.sampleOffset FormatOf.sampleSpeed FormatOf.firstSample FormatOf.sampleAt RowsOf.row1 RowsOf.row2 RowsOf.row3 RowsOf.row4 RowsOf.row5 RowsOf.row6 RowsOf.row7 RefusalsOf.firstOf ChainsOf.legBelow OptionsOf.member OptionsOf.originBelow OptionsOf.stacked OptionsOf.pushed OptionsOf.inSet OptionsOf.keptOrigins OptionsOf.row8 ReaderOf.readNumber EventOf.passingAt EventOf.badPassing TableOf.sameEvent TableOf.blank TableOf.nodeAt TableOf.at TableOf.put TableOf.putFloats TableOf.putNumbers WalkOf.turned WalkOf.passedAs WalkOf.row11 InsertionOf.linkedTo InsertionOf.eventNode InsertionOf.addBehind InsertionOf.placeAt InsertionOf.inserted InsertionOf.insertedTable EntriesOf.entry EntriesOf.push StrandsOf.strandFrom StrandsOf.strands StrandsOf.extendedAll EventMapOf.seenIn JoinsOf.joinStep PathOf.legEvents RunOf.arcToEnd RunOf.runEvents GrowthOf.badFinish GrowthOf.finishedAt GrowthOf.grow QueueOf.before QueueOf.best QueueOf.others ChecksOf.nodeHolds ChecksOf.row14 ForwardOf.forward BackwardOf.backward PassesOf.passes NetworkOf.zeroTable NetworkOf.network SheetOf.job ListingOf.sheetText ListingOf.sheetIn
 marked = record {
   worked-book = refl;
   root-of-zero = refl;
