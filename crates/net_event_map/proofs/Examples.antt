@@ -6,22 +6,12 @@ use Prim.Native.Nat.{ℕ, zero, suc}
 use Rattle.laws.specs.Below.{someBelow}
 use Rattle.net_node.specs.declared.EstTime.{EstTime}
 use Rattle.net_node.specs.declared.LinkEvent.{LinkEvent}
-use Rattle.net_node.specs.Table.{sameKind, sameEvent, noLinkEvent, blank}
+use Rattle.net_node.specs.Table.{sameKind, sameEvent, noLinkEvent, blank, withEvent}
 use Rattle.net_event_map.specs.EventMap.{seenIn, nodesFrom, eventNodes, headOf, lastOf, arriveAt, clearAt}
 
 -- a node of which only the event is of account
 abbrev of : LinkEvent → EstTime
-of e = record {
-  «time_sched» = blank .«time_sched»;
-  «time_to_next» = blank .«time_to_next»;
-  «dist_to_next» = blank .«dist_to_next»;
-  speed = blank .speed;
-  «idx_next» = 0;
-  «idx_next_alt» = 0;
-  «idx_prev» = 0;
-  «idx_prev_alt» = 0;
-  «link_event» = e;
-}
+of e = withEvent blank e
 
 -- the nodes with these events, then Fakes
 abbrev nodes : List LinkEvent → ℕ → EstTime

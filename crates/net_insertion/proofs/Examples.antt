@@ -9,7 +9,7 @@ use Rattle.net_node.specs.declared.EstType.{EstType}
 use Rattle.net_node.specs.declared.EstType.the-variants.{Arrive, Clear, Fake}
 use Rattle.net_node.specs.declared.EstTime.{EstTime}
 use Rattle.net_node.specs.declared.TimedEvent.{TimedEvent}
-use Rattle.net_node.specs.Table.{kindNumber, sameEvent, nodeAt, putFloats, putNumbers, Table, at, withNextAlt}
+use Rattle.net_node.specs.Table.{sameEvent, nodeAt, putFloats, putNumbers, blank, Table, tableOf, at, withArc, withSpeed, withNext, withNextAlt, withPrev, withEvent}
 use Rattle.net_insertion.specs.declared.Place.{Place}
 use Rattle.net_insertion.specs.declared.Seek.the-variants.{Match, Split}
 use Rattle.net_insertion.specs.declared.Inserted.the-variants.{Added, Moved, Refused}
@@ -34,17 +34,8 @@ abbrev 4s : Float
 
 -- a node with the time and distance that it holds, its speed, next, next alternative, previous, kind and link
 abbrev whole : Float → Float → Float → ℕ → ℕ → ℕ → EstType → ℕ → EstTime
-whole time dist speed next alt prev kind link = record {
-  «time_sched» = 0s;
-  «time_to_next» = time;
-  «dist_to_next» = dist;
-  speed = speed;
-  «idx_next» = next;
-  «idx_next_alt» = alt;
-  «idx_prev» = prev;
-  «idx_prev_alt» = 0;
-  «link_event» = record { «link_idx» = link; «est_type» = kind };
-}
+whole time dist speed next alt prev kind link =
+    withPrev (withNextAlt (withNext (withEvent (withSpeed (withArc blank time dist) speed) (record { «link_idx» = link; «est_type» = kind })) next) alt) prev
 
 -- one whose speed and what it holds are 1
 abbrev node : EstType → ℕ → ℕ → ℕ → EstTime
@@ -53,16 +44,8 @@ node kind link next alt = whole 1s 1s 1s next alt 0 kind link
 abbrev none : EstTime
 none = node Fake 0 0 0
 
-abbrev floatsIn : List EstTime → List Float
-floatsIn [] = []
-floatsIn (n ∷ ns) = n .«time_sched» ∷ n .«time_to_next» ∷ n .«dist_to_next» ∷ n .speed ∷ floatsIn ns
-
-abbrev numbersIn : List EstTime → List ℕ
-numbersIn [] = []
-numbersIn (n ∷ ns) = n .«idx_next» ∷ n .«idx_next_alt» ∷ n .«idx_prev» ∷ n .«idx_prev_alt» ∷ n .«link_event» .«link_idx» ∷ kindNumber (n .«link_event» .«est_type») ∷ numbersIn ns
-
 abbrev table : List EstTime → Table
-table ns = record { floats = floatsIn ns; numbers = numbersIn ns }
+table = tableOf
 
 -- a run at node i, whose own time is 2 and offset 3 there; its next event, at 4; and the run behind that
 abbrev here : ℕ → Place

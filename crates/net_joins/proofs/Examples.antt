@@ -10,7 +10,7 @@ use Rattle.net_node.specs.declared.EstType.{EstType}
 use Rattle.net_node.specs.declared.EstType.the-variants.{Arrive, Clear, Fake}
 use Rattle.net_node.specs.declared.EstTime.{EstTime}
 use Rattle.net_node.specs.declared.TimedEvent.{TimedEvent}
-use Rattle.net_node.specs.Table.{kindNumber, sameEvent, nodeAt, putFloats, putNumbers, noLinkEvent, blank, Table, at, withPrevAlt}
+use Rattle.net_node.specs.Table.{sameEvent, nodeAt, putFloats, putNumbers, noLinkEvent, blank, Table, tableOf, at, withArc, withSpeed, withNext, withPrev, withPrevAlt, withEvent}
 use Rattle.net_insertion.specs.Insertion.{linkedTo}
 use Rattle.net_event_map.specs.EventMap.{seenIn, eventNodes}
 use Rattle.net_strands.specs.declared.EstJoinPath.{EstJoinPath}
@@ -37,31 +37,14 @@ abbrev 4s : Float
 
 -- a node with its speed, kind, link, next, previous and previous alternative; it holds a time and offset of 1
 abbrev node : Float → EstType → ℕ → ℕ → ℕ → ℕ → EstTime
-node speed kind link next prev alt = record {
-  «time_sched» = 0s;
-  «time_to_next» = 1s;
-  «dist_to_next» = 1s;
-  speed = speed;
-  «idx_next» = next;
-  «idx_next_alt» = 0;
-  «idx_prev» = prev;
-  «idx_prev_alt» = alt;
-  «link_event» = record { «link_idx» = link; «est_type» = kind };
-}
+node speed kind link next prev alt =
+    withPrevAlt (withPrev (withNext (withEvent (withSpeed (withArc blank 1s 1s) speed) (record { «link_idx» = link; «est_type» = kind })) next) prev) alt
 
 abbrev free : EstTime
 free = node 0s Fake 0 0 0 0
 
-abbrev floatsIn : List EstTime → List Float
-floatsIn [] = []
-floatsIn (n ∷ ns) = n .«time_sched» ∷ n .«time_to_next» ∷ n .«dist_to_next» ∷ n .speed ∷ floatsIn ns
-
-abbrev numbersIn : List EstTime → List ℕ
-numbersIn [] = []
-numbersIn (n ∷ ns) = n .«idx_next» ∷ n .«idx_next_alt» ∷ n .«idx_prev» ∷ n .«idx_prev_alt» ∷ n .«link_event» .«link_idx» ∷ kindNumber (n .«link_event» .«est_type») ∷ numbersIn ns
-
 abbrev table : List EstTime → Table
-table ns = record { floats = floatsIn ns; numbers = numbersIn ns }
+table = tableOf
 
 -- Three runs have the Arrive of link 1: node 1, with the Clear 2 behind it; node 3, which joined node 2 through the Fake 4; node 5, with the Clear 6 behind it. Node 7 is the last run's. One place is free.
 abbrev web : Table

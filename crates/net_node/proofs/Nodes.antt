@@ -12,7 +12,7 @@ use lib.Ieee.{Float, nan}
 use Rattle.net_node.specs.declared.EstType.{EstType}
 use Rattle.net_node.specs.declared.EstType.the-variants.{Arrive, Clear, Fake}
 use Rattle.net_node.specs.declared.EstTime.{EstTime}
-use Rattle.net_node.specs.Table.{floatWidth, numberWidth, kindOf, kindNumber, fakeKind, nodeAt, putFloats, putNumbers}
+use Rattle.net_node.specs.Table.{floatWidth, numberWidth, kindOf, kindNumber, fakeKind, nodeAt, putFloats, putNumbers, floatsOf, numbersOf}
 
 pub kind-other : (n : ℕ) → (n ≡ 0 → ⊥) → (n ≡ 1 → ⊥) → Fake ≡ kindOf n
 kind-other zero a b = absurd (a refl)
@@ -80,12 +80,6 @@ module _ {A : Type 0} (d : A) where
   stored-at (x ∷ xs) l r a (suc k) p e h g = stored-at xs (set l (r + a) x) r (suc a) k p (omega arith) (omega arith) (omega (arith, length-set l (r + a) x))
 
 -- ---- a node's columns
-
-abbrev floatsOf : EstTime → List Float
-floatsOf n = n .«time_sched» ∷ n .«time_to_next» ∷ n .«dist_to_next» ∷ n .speed ∷ []
-
-abbrev numbersOf : EstTime → List ℕ
-numbersOf n = n .«idx_next» ∷ n .«idx_next_alt» ∷ n .«idx_prev» ∷ n .«idx_prev_alt» ∷ n .«link_event» .«link_idx» ∷ kindNumber (n .«link_event» .«est_type») ∷ []
 
 -- two tables with the same columns have the same nodes
 module _ (fs gs : List Float) (us vs : List ℕ) (i j : ℕ) where

@@ -2,7 +2,7 @@
 -- which holds the link and the kind: Arrive 0, Clear 1, Fake 2." This crate alone knows the layout: which column of a node's floats or numbers a field stands in, and how many there are.
 -- Everything above it goes by `at`, `put`, the `with..` and `set..` below and their laws (proofs/), and names the widths where it counts slices.
 use mathlib.Core.Bool.{Bool, true, false, _&&_}
-use mathlib.Core.List.{List}
+use mathlib.Core.List.{List, [], _∷_, _++_}
 use Prim.Native.Nat.{ℕ, zero, suc, _+_, _*_, _≤_, _<_}
 use lib.Dec.{eqb}
 use lib.ListN.{length, getD, set}
@@ -92,6 +92,24 @@ put t i n = record { floats = putFloats (t .floats) i n; numbers = putNumbers (t
 
 unfoldable pub at : Table → ℕ → EstTime
 at t i = nodeAt (t .floats) (t .numbers) i
+
+-- a node's columns, in their order, and the table of a list of nodes
+abbrev pub floatsOf : EstTime → List Float
+floatsOf n = n .«time_sched» ∷ n .«time_to_next» ∷ n .«dist_to_next» ∷ n .speed ∷ []
+
+abbrev pub numbersOf : EstTime → List ℕ
+numbersOf n =
+    n .«idx_next»
+    ∷ n .«idx_next_alt»
+    ∷ n .«idx_prev»
+    ∷ n .«idx_prev_alt»
+    ∷ n .«link_event» .«link_idx»
+    ∷ kindNumber (n .«link_event» .«est_type»)
+    ∷ []
+
+abbrev pub tableOf : List EstTime → Table
+tableOf [] = record { floats = []; numbers = [] }
+tableOf (n ∷ ns) = record { floats = floatsOf n ++ tableOf ns .floats; numbers = numbersOf n ++ tableOf ns .numbers }
 
 -- "The blank node and the no-link event are named constants of their records": the source's defaults, with a time of 0, since untimed is a state of its own
 unfoldable pub noLinkEvent : LinkEvent

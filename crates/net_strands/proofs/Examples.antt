@@ -9,7 +9,7 @@ use Rattle.net_node.specs.declared.EstType.{EstType}
 use Rattle.net_node.specs.declared.EstType.the-variants.{Arrive, Clear, Fake}
 use Rattle.net_node.specs.declared.LinkEvent.{LinkEvent}
 use Rattle.net_node.specs.declared.EstTime.{EstTime}
-use Rattle.net_node.specs.Table.{sameEvent, blank}
+use Rattle.net_node.specs.Table.{sameEvent, blank, withNext, withNextAlt, withEvent}
 use Rattle.net_strands.specs.declared.EstJoinPath.{EstJoinPath}
 use Rattle.net_strands.specs.Entries.{entry, push}
 use Rattle.net_strands.specs.Space.{alternatives, strandFrom, strands, extendedAll}
@@ -19,17 +19,7 @@ event kind link = record { «link_idx» = link; «est_type» = kind }
 
 -- a node of an event, with its next and next alternative
 abbrev node : EstType → ℕ → ℕ → ℕ → EstTime
-node kind link next alt = record {
-  «time_sched» = ofBits binary64 0;
-  «time_to_next» = ofBits binary64 0;
-  «dist_to_next» = ofBits binary64 0;
-  speed = ofBits binary64 0;
-  «idx_next» = next;
-  «idx_next_alt» = alt;
-  «idx_prev» = 0;
-  «idx_prev_alt» = 0;
-  «link_event» = event kind link;
-}
+node kind link next alt = withNextAlt (withNext (withEvent blank (event kind link)) next) alt
 
 -- the node of index i of a list
 abbrev of : List EstTime → ℕ → EstTime
