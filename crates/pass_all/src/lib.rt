@@ -76,7 +76,8 @@ fn pass_backward(
     sixteen_if(all_zero(floats, numbers, n))
 }
 
-// Checks a network of n nodes and times it: 0, or the number of a refusal. The queues lie in `reals` and `marks`, the flags of both passes in `cells`, which are zero before.
+// Checks a network of n nodes and times it: 0, or the number of a refusal. The queues lie in `reals` and `marks`, the flags of both
+// passes in `cells`, which are zero before.
 pub fn run_passes(
     floats: &mut [f64],
     numbers: &mut [u32],

@@ -17,12 +17,13 @@ use Rattle.pass_rules.specs.Walks.{passOf}
 use Rattle.pass_rules.specs.Backward.{At, queued, enqueue, passed, isPassable, walkedOn, relinkWalk, swapSplit, swappedIf, relinked, alternatedBy, stepOn, step, stopsAt, stopIf, strand, addedIf, settledBy, settle, turn, turns}
 use Rattle.pass_state.specs.declared.Passed.{Passed}
 use Rattle.pass_state.specs.Held.{PassSlices, slices, tableIn, left, PassIn, EnqueuedAs}
+use Rattle.pass_state.specs.Promises.{stopsBy}
 use Rattle.pass_state.proofs.Left.{left-kept}
 use Rattle.pass_state.proofs.Links.{linked-split}
 use Rattle.pass_state.proofs.Kept.{tableOf, tabled, doneAt, queueing, node-in, in-done}
 use Rattle.pass_state.proofs.Relinks.{Relinker}
 use Rattle.pass_state.proofs.Steps.{Stepper}
-use Rattle.pass_state.proofs.Strands.{Walker, stopsBy, stops-in}
+use Rattle.pass_state.proofs.Strands.{Walker, stops-in}
 use Rattle.pass_state.proofs.Settles.{Settler}
 use Rattle.pass_state.proofs.Parts.{Parts, then-inside}
 use Rattle.pass_state.proofs.Turns.{Turner}
@@ -164,14 +165,14 @@ first-fewer done prev n = omega (arith, left-kept done prev n, left-kept (alsoDo
 
 -- ---- turns
 
-pub turn-is : (n : ℕ) (p : Pass) (curr : ℕ) (less : Float) → turn n p curr less ≡ andThen (relinking n less p curr) (λ (a : At). andThen (strand n a) settle)
+pub turn-is : (n : ℕ) (p : Pass) (curr : ℕ) (less : Float) → turn n p curr less ≡ andThen (relinking n less curr p) (λ (a : At). andThen (strand n a) settle)
 unfolding turn
 turn-is n p curr less =
     let prev = at (p .table) curr .«idx_prev» in
     then-inside (p .done curr) (not (p .done prev)) (relinkWalk n p prev) (relinked p curr prev less) (λ (a : At). andThen (strand n a) settle)
 
 abbrev pub parts : ℕ → ℕ → Float → Parts
-parts n curr less = record { A = At; form = standing less; relink = λ p. relinking n less p curr; strand = strand n; settle = settle; turn = λ p. turn n p curr less; is = λ p. turn-is n p curr less }
+parts n curr less = record { A = At; form = standing less; relink = relinking n less curr; strand = strand n; settle = settle; turn = λ p. turn n p curr less; is = λ p. turn-is n p curr less }
 
 abbrev pub turnsOf : ℕ → ℕ → Pass → Answer Pass
 turnsOf n k p = turns k n (p .table) (p .done) (p .queue)

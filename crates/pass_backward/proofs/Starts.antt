@@ -59,7 +59,7 @@ module _ (fs : List Float) (us cells : List ℕ) (n base : ℕ) {ts ts′ : List
     start-is f = ap (λ (d : ℕ → Bool). turns n n (tableOf fs us) d (lastOf n ∷ [])) (sym (last-two (doneIn cells base) n f))
 
     pub start-in : Room fs us n → Inside (nodeAt fs us) n → 3 ≤ n → base + n ≤ length cells → ((i : ℕ) → doneIn cells base i ≡ false) → n * 2 ≤ length ts → n ≤ length ns → length ts ≡ length ts′ → length ns ≡ length ns′
-        → PassIn true n base cells fs us (set (set cells (base + (n - 2)) 1) (base + (n - 1)) 1) ts′ ns′ count (n - 1) started
+        → PassIn true n base cells (slices fs us (set (set cells (base + (n - 2)) 1) (base + (n - 1)) 1) ts′ ns′) count (n - 1) started
     start-in room inside three flags f lts lns lt ln =
         let v0 = in-start true n base (slices fs us cells ts ns) room inside flags lts lns in
         let v1 = queued-in v0 (lastOf n) (omega arith) (subst (EnqueuedAs true ts ns ts′ ns′ 0 (lastOf n)) e q) lt ln (n + 1) (omega arith) in

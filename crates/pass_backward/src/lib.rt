@@ -1,21 +1,20 @@
-// The backward time pass: `update_times_backward`. Contracts: pass_rules' specs/Backward.antt, pass_state's specs/Held.antt, specs/Strands.antt.
+// The backward time pass: `update_times_backward`. Contracts: pass_rules' specs/Backward.antt, pass_state's specs/Held.antt and
+// specs/Promises.antt, specs/Strands.antt.
 use pass_queue::Entry;
 use pass_rules::Walked;
 use pass_state::Passed;
 use pass_state::Stands;
 ghost use mathlib.Core.Path.{_≡_};
-ghost use mathlib.Core.Bool.{true, false, not, _||_};
-ghost use mathlib.Core.List.{List};
+ghost use mathlib.Core.Bool.{true, false};
 ghost use Prim.Native.Nat.{ℕ, _+_, _-_, _*_, _≤_, _<_};
-ghost use lib.Dec.{eqb};
 ghost use lib.ListN.{length};
-ghost use lib.Ieee.{Float};
-ghost use Rattle.net_node.specs.Table.{nodeAt, Room, at, isFake};
-ghost use Rattle.pass_rules.specs.Net.{Pass};
+ghost use Rattle.net_node.specs.Table.{floatWidth, numberWidth, nodeAt, Room};
+ghost use Rattle.net_node.specs.Lent.{tableAtEntry, tableAtExit};
 ghost use Rattle.pass_rules.specs.Walks.{Inside, doneIn};
-ghost use Rattle.pass_rules.specs.Backward.{alternatedBy, step as Backward·step, strand as Backward·strand, settle as Backward·settle, turn as Backward·turn, turns as Backward·turns, backward};
-ghost use Rattle.pass_state.specs.Held.{left, PassIn, Working, PassAs, StandsAs, FindsBy, EndsAs};
-ghost use Rattle.pass_backward.specs.Strands.{standing, relinking};
+ghost use Rattle.pass_rules.specs.Backward.{backward};
+ghost use Rattle.pass_state.specs.Held.{slices, Working};
+ghost use Rattle.pass_state.specs.Promises.{lent, stopsBy, noMore, fewer, PassTo, StandsTo, EndsTo, PassEnds};
+ghost use Rattle.pass_backward.specs.Strands.{standing, Relinked, alternating, stepping, stranding, settling, turning, turningAll};
 
 // Relinks the split that an entry's node reaches first: the node is passed and its previous is not.
 fn relink(
@@ -30,7 +29,7 @@ fn relink(
     requires { ⌜ Inside (nodeAt (now floats) (now numbers)) n ⌝ }
     requires { ⌜ «done_at» + n ≤ length (now cells) ⌝ }
     requires { ⌜ curr < n ⌝ }
-    ensures { λ r. ⌜ ((less : Float) (p : Pass) (start : List ℕ) (ts : List Float) (ns : List ℕ) (count most : ℕ) → PassIn true n «done_at» start (now (floats .entry)) (now (numbers .entry)) (now (cells .entry)) ts ns count most p → FindsBy (relinking n less p curr) (standing less curr) true n «done_at» start (now (floats .exit)) (now (numbers .exit)) (now (cells .entry)) ts ns count most (left (p .done) n + 1) r) ⌝ }
+    ensures { λ r. ⌜ Relinked (tableAtEntry floats numbers) (tableAtExit floats numbers) (now (cells .entry)) n «done_at» curr r ⌝ }
 {
     let node = net_node::load(floats, numbers, curr as usize);
     let prev = node.idx_prev;
@@ -70,9 +69,9 @@ fn alternate(
     count: usize,
     curr: u32,
 ) -> Passed
-    requires { ⌜ Working true n «done_at» (now floats) (now numbers) (now cells) (now times) (now nodes) count (n - 2) ⌝ }
+    requires { ⌜ Working true n «done_at» (slices (now floats) (now numbers) (now cells) (now times) (now nodes)) count (n - 2) ⌝ }
     requires { ⌜ curr < n ⌝ }
-    ensures { λ r. ⌜ ((p : Pass) (start : List ℕ) → PassIn true n «done_at» start (now (floats .entry)) (now (numbers .entry)) (now (cells .entry)) (now (times .entry)) (now (nodes .entry)) count (n - 2) p → PassAs (alternatedBy (at (p .table) curr .«idx_prev_alt») p curr) true n «done_at» start (now (floats .exit)) (now (numbers .exit)) (now (cells .exit)) (now (times .exit)) (now (nodes .exit)) (n - 1) (left (p .done) n + 1) r) ⌝ }
+    ensures { λ r. ⌜ PassTo (lent floats numbers cells times nodes) true n «done_at» count (alternating curr) noMore r ⌝ }
 {
     let node = net_node::load(floats, numbers, curr as usize);
     let alt = node.idx_prev_alt;
@@ -105,10 +104,10 @@ fn step(
     prev: u32,
     less: f64,
 ) -> Stands
-    requires { ⌜ Working true n «done_at» (now floats) (now numbers) (now cells) (now times) (now nodes) count (n - 2) ⌝ }
+    requires { ⌜ Working true n «done_at» (slices (now floats) (now numbers) (now cells) (now times) (now nodes)) count (n - 2) ⌝ }
     requires { ⌜ curr < n ⌝ }
     requires { ⌜ prev < n ⌝ }
-    ensures { λ r. ⌜ ((p : Pass) (start : List ℕ) → PassIn true n «done_at» start (now (floats .entry)) (now (numbers .entry)) (now (cells .entry)) (now (times .entry)) (now (nodes .entry)) count (n - 2) p → StandsAs (Backward·step (standing less curr prev p)) (standing less) true n «done_at» start (now (floats .exit)) (now (numbers .exit)) (now (cells .exit)) (now (times .exit)) (now (nodes .exit)) (n - 2) (left (p .done) n) r) ⌝ }
+    ensures { λ r. ⌜ StandsTo (lent floats numbers cells times nodes) true n «done_at» count (stepping less curr prev) (standing less) r ⌝ }
 {
     let Passed::Queued(queued) = alternate(
         floats,
@@ -135,9 +134,9 @@ fn step(
 
 // Whether a strand ends behind a node: a split or the first node.
 fn stops_at(floats: &[f64], numbers: &[u32], i: u32) -> bool
-    requires { ⌜ i * 4 + 4 ≤ length (now floats) ⌝ }
-    requires { ⌜ i * 6 + 6 ≤ length (now numbers) ⌝ }
-    ensures { λ r. ⌜ r ≡ (not (eqb (nodeAt (now (floats .entry)) (now (numbers .entry)) i .«idx_next_alt») 0) || isFake (nodeAt (now (floats .entry)) (now (numbers .entry)) i)) ⌝ }
+    requires { ⌜ i * floatWidth + floatWidth ≤ length (now floats) ⌝ }
+    requires { ⌜ i * numberWidth + numberWidth ≤ length (now numbers) ⌝ }
+    ensures { λ r. ⌜ r ≡ stopsBy (λ x. x .«idx_next_alt») (nodeAt (now (floats .entry)) (now (numbers .entry)) i) ⌝ }
 {
     let node = net_node::load(floats, numbers, i as usize);
     let event = node.link_event;
@@ -160,10 +159,10 @@ fn strand(
     prev: u32,
     less: f64,
 ) -> Stands
-    requires { ⌜ Working true n «done_at» (now floats) (now numbers) (now cells) (now times) (now nodes) count (n - 2) ⌝ }
+    requires { ⌜ Working true n «done_at» (slices (now floats) (now numbers) (now cells) (now times) (now nodes)) count (n - 2) ⌝ }
     requires { ⌜ curr < n ⌝ }
     requires { ⌜ prev < n ⌝ }
-    ensures { λ r. ⌜ ((p : Pass) (start : List ℕ) → PassIn true n «done_at» start (now (floats .entry)) (now (numbers .entry)) (now (cells .entry)) (now (times .entry)) (now (nodes .entry)) count (n - 2) p → StandsAs (Backward·strand n (standing less curr prev p)) (standing less) true n «done_at» start (now (floats .exit)) (now (numbers .exit)) (now (cells .exit)) (now (times .exit)) (now (nodes .exit)) (n - 2) (left (p .done) n) r) ⌝ }
+    ensures { λ r. ⌜ StandsTo (lent floats numbers cells times nodes) true n «done_at» count (stranding n less curr prev) (standing less) r ⌝ }
 {
     let mut here = curr;
     let mut ahead = prev;
@@ -207,10 +206,10 @@ fn settle(
     prev: u32,
     less: f64,
 ) -> Passed
-    requires { ⌜ Working true n «done_at» (now floats) (now numbers) (now cells) (now times) (now nodes) count (n - 2) ⌝ }
+    requires { ⌜ Working true n «done_at» (slices (now floats) (now numbers) (now cells) (now times) (now nodes)) count (n - 2) ⌝ }
     requires { ⌜ curr < n ⌝ }
     requires { ⌜ prev < n ⌝ }
-    ensures { λ r. ⌜ ((p : Pass) (start : List ℕ) → PassIn true n «done_at» start (now (floats .entry)) (now (numbers .entry)) (now (cells .entry)) (now (times .entry)) (now (nodes .entry)) count (n - 2) p → PassAs (Backward·settle (standing less curr prev p)) true n «done_at» start (now (floats .exit)) (now (numbers .exit)) (now (cells .exit)) (now (times .exit)) (now (nodes .exit)) (n - 1) (left (p .done) n + 1) r) ⌝ }
+    ensures { λ r. ⌜ PassTo (lent floats numbers cells times nodes) true n «done_at» count (settling less curr prev) noMore r ⌝ }
 {
     let node = net_node::load(floats, numbers, curr as usize);
     let ahead = net_node::load(floats, numbers, prev as usize);
@@ -254,9 +253,9 @@ fn turn(
     curr: u32,
     less: f64,
 ) -> Passed
-    requires { ⌜ Working true n «done_at» (now floats) (now numbers) (now cells) (now times) (now nodes) count (n - 2) ⌝ }
+    requires { ⌜ Working true n «done_at» (slices (now floats) (now numbers) (now cells) (now times) (now nodes)) count (n - 2) ⌝ }
     requires { ⌜ curr < n ⌝ }
-    ensures { λ r. ⌜ ((p : Pass) (start : List ℕ) → PassIn true n «done_at» start (now (floats .entry)) (now (numbers .entry)) (now (cells .entry)) (now (times .entry)) (now (nodes .entry)) count (n - 2) p → PassAs (Backward·turn n p curr less) true n «done_at» start (now (floats .exit)) (now (numbers .exit)) (now (cells .exit)) (now (times .exit)) (now (nodes .exit)) (n - 1) (left (p .done) n) r) ⌝ }
+    ensures { λ r. ⌜ PassTo (lent floats numbers cells times nodes) true n «done_at» count (turning n less curr) fewer r ⌝ }
 {
     let Walked::Found(found) = relink(floats, numbers, n, cells, done_at, curr) else {
         return Passed::Fails;
@@ -302,9 +301,9 @@ fn turns(
     nodes: &mut [u32],
     count: usize,
 ) -> bool
-    requires { ⌜ Working true n «done_at» (now floats) (now numbers) (now cells) (now times) (now nodes) count (n - 1) ⌝ }
+    requires { ⌜ Working true n «done_at» (slices (now floats) (now numbers) (now cells) (now times) (now nodes)) count (n - 1) ⌝ }
     requires { ⌜ 0 < n ⌝ }
-    ensures { λ r. ⌜ ((p : Pass) (start : List ℕ) → PassIn true n «done_at» start (now (floats .entry)) (now (numbers .entry)) (now (cells .entry)) (now (times .entry)) (now (nodes .entry)) count (n - 1) p → EndsAs (Backward·turns n n (p .table) (p .done) (p .queue)) n «done_at» start (now (floats .exit)) (now (numbers .exit)) (now (cells .exit)) r) ⌝ }
+    ensures { λ r. ⌜ EndsTo (lent floats numbers cells times nodes) true n «done_at» count (turningAll n) r ⌝ }
 {
     let mut queued = count;
     while 0 < queued {
@@ -328,7 +327,8 @@ fn turns(
     true
 }
 
-// Takes what is to be subtracted off the times of a network of n, if no assertion fails. Nodes that are passed are flagged in `cells` from `done_at` on, where no flag is set before; the queue lies in `times` and `nodes`.
+// Takes what is to be subtracted off the times of a network of n, if no assertion fails. Nodes that are passed are flagged in `cells`
+// from `done_at` on, where no flag is set before; the queue lies in `times` and `nodes`.
 pub fn update_times_backward(
     floats: &mut [f64],
     numbers: &mut [u32],
@@ -345,7 +345,7 @@ pub fn update_times_backward(
     requires { ⌜ ((i : ℕ) → doneIn (now cells) «done_at» i ≡ false) ⌝ }
     requires { ⌜ n * 2 ≤ length (now times) ⌝ }
     requires { ⌜ n ≤ length (now nodes) ⌝ }
-    ensures { λ r. ⌜ EndsAs (backward (record { floats = now (floats .entry); numbers = now (numbers .entry) }) n) n «done_at» (now (cells .entry)) (now (floats .exit)) (now (numbers .exit)) (now (cells .exit)) r ⌝ }
+    ensures { λ r. ⌜ PassEnds floats numbers cells n «done_at» (λ t. backward t n) r ⌝ }
 {
     let e = Entry {
         time: 0.0,

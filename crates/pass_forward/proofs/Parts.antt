@@ -15,11 +15,12 @@ use Rattle.pass_rules.specs.Net.{asserting, Pass}
 use Rattle.pass_rules.specs.Walks.{passOf}
 use Rattle.pass_rules.specs.Forward.{At, timeNext, queued, timed, isPassable, walkedOn, relinkWalk, swapJoin, swappedIf, relinked, alternatedBy, stepOn, step, stopsAt, stopIf, strand, addedIf, settledBy, settle, turn, turns}
 use Rattle.pass_state.specs.Held.{PassSlices, slices, tableIn, PassIn}
+use Rattle.pass_state.specs.Promises.{stopsBy}
 use Rattle.pass_state.proofs.Links.{linked-join}
 use Rattle.pass_state.proofs.Kept.{tableOf, tabled, doneAt, queueing, node-in, in-done}
 use Rattle.pass_state.proofs.Relinks.{Relinker}
 use Rattle.pass_state.proofs.Steps.{Stepper}
-use Rattle.pass_state.proofs.Strands.{Walker, stopsBy, stops-in}
+use Rattle.pass_state.proofs.Strands.{Walker, stops-in}
 use Rattle.pass_state.proofs.Settles.{Settler}
 use Rattle.pass_state.proofs.Parts.{Parts, then-inside}
 use Rattle.pass_state.proofs.Turns.{Turner}
@@ -134,14 +135,14 @@ last-in {n} {base} {start} {held} {count} {most} {p} v curr next h x l {gs} {vs}
 
 -- ---- turns
 
-pub turn-is : (n : ℕ) (p : Pass) (curr : ℕ) → turn n p curr ≡ andThen (relinking n p curr) (λ (a : At). andThen (strand n a) settle)
+pub turn-is : (n : ℕ) (p : Pass) (curr : ℕ) → turn n p curr ≡ andThen (relinking n curr p) (λ (a : At). andThen (strand n a) settle)
 unfolding turn
 turn-is n p curr =
     let next = at (p .table) curr .«idx_next» in
     then-inside (p .done curr) (not (p .done next)) (relinkWalk n p n next) (relinked p curr next) (λ (a : At). andThen (strand n a) settle)
 
 abbrev pub parts : ℕ → ℕ → Parts
-parts n curr = record { A = At; form = standing; relink = λ p. relinking n p curr; strand = strand n; settle = settle; turn = λ p. turn n p curr; is = λ p. turn-is n p curr }
+parts n curr = record { A = At; form = standing; relink = relinking n curr; strand = strand n; settle = settle; turn = λ p. turn n p curr; is = λ p. turn-is n p curr }
 
 abbrev pub turnsOf : ℕ → ℕ → Pass → Answer Pass
 turnsOf n k p = turns k n (p .table) (p .done) (p .queue)

@@ -57,7 +57,7 @@ module _ (fs : List Float) (us cells : List ℕ) (n base : ℕ) (departure : Flo
     pub start-in : Room fs us n → Inside (nodeAt fs us) n → 3 ≤ n → base + n ≤ length cells → ((i : ℕ) → doneIn cells base i ≡ false) → n * 2 ≤ length ts → n ≤ length ns → length ts ≡ length ts′ → length ns ≡ length ns′
         → {f1 : List Float} {u1 c1 : List ℕ} → (f1 ≡ setTime (tableOf fs us) 0 departure .floats) × ((u1 ≡ setTime (tableOf fs us) 0 departure .numbers) × (c1 ≡ set cells (base + 0) 1))
         → {f2 : List Float} {u2 c2 : List ℕ} → (f2 ≡ setTime (tableOf f1 u1) 1 departure .floats) × ((u2 ≡ setTime (tableOf f1 u1) 1 departure .numbers) × (c2 ≡ set c1 (base + 1) 1))
-        → PassIn false n base cells f2 u2 c2 ts′ ns′ count (n - 1) started
+        → PassIn false n base cells (slices f2 u2 c2 ts′ ns′) count (n - 1) started
     start-in room inside three flags f lts lns lt ln {f1} {u1} {c1} a {f2} {u2} {c2} b =
         let v0 = in-start false n base (slices fs us cells ts ns) room inside flags lts lns in
         let v1 = queued-in v0 (firstOf departure) (omega arith) queued-as lt ln (n + 1) (omega arith) in

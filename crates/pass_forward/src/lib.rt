@@ -1,21 +1,20 @@
-// The forward time pass: `update_times_forward`. Contracts: pass_rules' specs/Forward.antt, pass_state's specs/Held.antt, specs/Strands.antt.
+// The forward time pass: `update_times_forward`. Contracts: pass_rules' specs/Forward.antt, pass_state's specs/Held.antt and
+// specs/Promises.antt, specs/Strands.antt.
 use pass_queue::Entry;
 use pass_rules::Walked;
 use pass_state::Passed;
 use pass_state::Stands;
 ghost use mathlib.Core.Path.{_≡_};
-ghost use mathlib.Core.Bool.{false, not, _||_};
-ghost use mathlib.Core.List.{List};
+ghost use mathlib.Core.Bool.{false};
 ghost use Prim.Native.Nat.{ℕ, _+_, _-_, _*_, _≤_, _<_};
-ghost use lib.Dec.{eqb};
 ghost use lib.ListN.{length};
-ghost use lib.Ieee.{Float};
-ghost use Rattle.net_node.specs.Table.{nodeAt, Room, at, isFake};
-ghost use Rattle.pass_rules.specs.Net.{Pass};
+ghost use Rattle.net_node.specs.Table.{floatWidth, numberWidth, nodeAt, Room};
+ghost use Rattle.net_node.specs.Lent.{tableAtEntry, tableAtExit};
 ghost use Rattle.pass_rules.specs.Walks.{Inside, doneIn};
-ghost use Rattle.pass_rules.specs.Forward.{alternatedBy, step as Forward·step, strand as Forward·strand, settle as Forward·settle, turn as Forward·turn, turns as Forward·turns, forward};
-ghost use Rattle.pass_state.specs.Held.{left, PassIn, Working, PassAs, StandsAs, FindsBy, EnqueuedAs, EndsAs};
-ghost use Rattle.pass_forward.specs.Strands.{standing, reaching, relinking};
+ghost use Rattle.pass_rules.specs.Forward.{forward};
+ghost use Rattle.pass_state.specs.Held.{slices, Working};
+ghost use Rattle.pass_state.specs.Promises.{lent, stopsBy, Enqueues, noMore, fewer, PassTo, StandsTo, EndsTo, PassEnds};
+ghost use Rattle.pass_forward.specs.Strands.{standing, reaching, Relinked, alternating, stepping, stranding, settling, turning, turningAll};
 
 // Puts a node into the queue, at the time at which its next is reached.
 fn enqueue_node(
@@ -26,11 +25,11 @@ fn enqueue_node(
     count: usize,
     i: u32,
 ) -> Passed
-    requires { ⌜ i * 4 + 4 ≤ length (now floats) ⌝ }
-    requires { ⌜ i * 6 + 6 ≤ length (now numbers) ⌝ }
+    requires { ⌜ i * floatWidth + floatWidth ≤ length (now floats) ⌝ }
+    requires { ⌜ i * numberWidth + numberWidth ≤ length (now numbers) ⌝ }
     requires { ⌜ (count + 1) * 2 ≤ length (now times) ⌝ }
     requires { ⌜ count < length (now nodes) ⌝ }
-    ensures { λ r. ⌜ EnqueuedAs false (now (times .entry)) (now (nodes .entry)) (now (times .exit)) (now (nodes .exit)) count (reaching (record { floats = now (floats .entry); numbers = now (numbers .entry) }) i) r ⌝ }
+    ensures { λ r. ⌜ Enqueues times nodes false count (reaching (tableAtEntry floats numbers) i) r ⌝ }
 {
     let node = net_node::load(floats, numbers, i as usize);
     let time = node.time_sched + node.time_to_next;
@@ -55,7 +54,7 @@ fn relink(
     requires { ⌜ Inside (nodeAt (now floats) (now numbers)) n ⌝ }
     requires { ⌜ «done_at» + n ≤ length (now cells) ⌝ }
     requires { ⌜ curr < n ⌝ }
-    ensures { λ r. ⌜ ((p : Pass) (start : List ℕ) (ts : List Float) (ns : List ℕ) (count most : ℕ) → PassIn false n «done_at» start (now (floats .entry)) (now (numbers .entry)) (now (cells .entry)) ts ns count most p → FindsBy (relinking n p curr) (standing curr) false n «done_at» start (now (floats .exit)) (now (numbers .exit)) (now (cells .entry)) ts ns count most (left (p .done) n + 1) r) ⌝ }
+    ensures { λ r. ⌜ Relinked (tableAtEntry floats numbers) (tableAtExit floats numbers) (now (cells .entry)) n «done_at» curr r ⌝ }
 {
     let node = net_node::load(floats, numbers, curr as usize);
     let next = node.idx_next;
@@ -95,9 +94,9 @@ fn alternate(
     count: usize,
     curr: u32,
 ) -> Passed
-    requires { ⌜ Working false n «done_at» (now floats) (now numbers) (now cells) (now times) (now nodes) count (n - 2) ⌝ }
+    requires { ⌜ Working false n «done_at» (slices (now floats) (now numbers) (now cells) (now times) (now nodes)) count (n - 2) ⌝ }
     requires { ⌜ curr < n ⌝ }
-    ensures { λ r. ⌜ ((p : Pass) (start : List ℕ) → PassIn false n «done_at» start (now (floats .entry)) (now (numbers .entry)) (now (cells .entry)) (now (times .entry)) (now (nodes .entry)) count (n - 2) p → PassAs (alternatedBy (at (p .table) curr .«idx_next_alt») p curr) false n «done_at» start (now (floats .exit)) (now (numbers .exit)) (now (cells .exit)) (now (times .exit)) (now (nodes .exit)) (n - 1) (left (p .done) n + 1) r) ⌝ }
+    ensures { λ r. ⌜ PassTo (lent floats numbers cells times nodes) false n «done_at» count (alternating curr) noMore r ⌝ }
 {
     let node = net_node::load(floats, numbers, curr as usize);
     let alt = node.idx_next_alt;
@@ -121,10 +120,10 @@ fn step(
     curr: u32,
     next: u32,
 ) -> Stands
-    requires { ⌜ Working false n «done_at» (now floats) (now numbers) (now cells) (now times) (now nodes) count (n - 2) ⌝ }
+    requires { ⌜ Working false n «done_at» (slices (now floats) (now numbers) (now cells) (now times) (now nodes)) count (n - 2) ⌝ }
     requires { ⌜ curr < n ⌝ }
     requires { ⌜ next < n ⌝ }
-    ensures { λ r. ⌜ ((p : Pass) (start : List ℕ) → PassIn false n «done_at» start (now (floats .entry)) (now (numbers .entry)) (now (cells .entry)) (now (times .entry)) (now (nodes .entry)) count (n - 2) p → StandsAs (Forward·step (standing curr next p)) standing false n «done_at» start (now (floats .exit)) (now (numbers .exit)) (now (cells .exit)) (now (times .exit)) (now (nodes .exit)) (n - 2) (left (p .done) n) r) ⌝ }
+    ensures { λ r. ⌜ StandsTo (lent floats numbers cells times nodes) false n «done_at» count (stepping curr next) standing r ⌝ }
 {
     let Passed::Queued(queued) = alternate(
         floats,
@@ -151,9 +150,9 @@ fn step(
 
 // Whether a strand ends before a node: a join or the last node.
 fn stops_at(floats: &[f64], numbers: &[u32], i: u32) -> bool
-    requires { ⌜ i * 4 + 4 ≤ length (now floats) ⌝ }
-    requires { ⌜ i * 6 + 6 ≤ length (now numbers) ⌝ }
-    ensures { λ r. ⌜ r ≡ (not (eqb (nodeAt (now (floats .entry)) (now (numbers .entry)) i .«idx_prev_alt») 0) || isFake (nodeAt (now (floats .entry)) (now (numbers .entry)) i)) ⌝ }
+    requires { ⌜ i * floatWidth + floatWidth ≤ length (now floats) ⌝ }
+    requires { ⌜ i * numberWidth + numberWidth ≤ length (now numbers) ⌝ }
+    ensures { λ r. ⌜ r ≡ stopsBy (λ x. x .«idx_prev_alt») (nodeAt (now (floats .entry)) (now (numbers .entry)) i) ⌝ }
 {
     let node = net_node::load(floats, numbers, i as usize);
     let event = node.link_event;
@@ -175,10 +174,10 @@ fn strand(
     curr: u32,
     next: u32,
 ) -> Stands
-    requires { ⌜ Working false n «done_at» (now floats) (now numbers) (now cells) (now times) (now nodes) count (n - 2) ⌝ }
+    requires { ⌜ Working false n «done_at» (slices (now floats) (now numbers) (now cells) (now times) (now nodes)) count (n - 2) ⌝ }
     requires { ⌜ curr < n ⌝ }
     requires { ⌜ next < n ⌝ }
-    ensures { λ r. ⌜ ((p : Pass) (start : List ℕ) → PassIn false n «done_at» start (now (floats .entry)) (now (numbers .entry)) (now (cells .entry)) (now (times .entry)) (now (nodes .entry)) count (n - 2) p → StandsAs (Forward·strand n (standing curr next p)) standing false n «done_at» start (now (floats .exit)) (now (numbers .exit)) (now (cells .exit)) (now (times .exit)) (now (nodes .exit)) (n - 2) (left (p .done) n) r) ⌝ }
+    ensures { λ r. ⌜ StandsTo (lent floats numbers cells times nodes) false n «done_at» count (stranding n curr next) standing r ⌝ }
 {
     let mut here = curr;
     let mut ahead = next;
@@ -220,10 +219,10 @@ fn settle(
     curr: u32,
     next: u32,
 ) -> Passed
-    requires { ⌜ Working false n «done_at» (now floats) (now numbers) (now cells) (now times) (now nodes) count (n - 2) ⌝ }
+    requires { ⌜ Working false n «done_at» (slices (now floats) (now numbers) (now cells) (now times) (now nodes)) count (n - 2) ⌝ }
     requires { ⌜ curr < n ⌝ }
     requires { ⌜ next < n ⌝ }
-    ensures { λ r. ⌜ ((p : Pass) (start : List ℕ) → PassIn false n «done_at» start (now (floats .entry)) (now (numbers .entry)) (now (cells .entry)) (now (times .entry)) (now (nodes .entry)) count (n - 2) p → PassAs (Forward·settle (standing curr next p)) false n «done_at» start (now (floats .exit)) (now (numbers .exit)) (now (cells .exit)) (now (times .exit)) (now (nodes .exit)) (n - 1) (left (p .done) n + 1) r) ⌝ }
+    ensures { λ r. ⌜ PassTo (lent floats numbers cells times nodes) false n «done_at» count (settling curr next) noMore r ⌝ }
 {
     let node = net_node::load(floats, numbers, curr as usize);
     let ahead = net_node::load(floats, numbers, next as usize);
@@ -258,9 +257,9 @@ fn turn(
     count: usize,
     curr: u32,
 ) -> Passed
-    requires { ⌜ Working false n «done_at» (now floats) (now numbers) (now cells) (now times) (now nodes) count (n - 2) ⌝ }
+    requires { ⌜ Working false n «done_at» (slices (now floats) (now numbers) (now cells) (now times) (now nodes)) count (n - 2) ⌝ }
     requires { ⌜ curr < n ⌝ }
-    ensures { λ r. ⌜ ((p : Pass) (start : List ℕ) → PassIn false n «done_at» start (now (floats .entry)) (now (numbers .entry)) (now (cells .entry)) (now (times .entry)) (now (nodes .entry)) count (n - 2) p → PassAs (Forward·turn n p curr) false n «done_at» start (now (floats .exit)) (now (numbers .exit)) (now (cells .exit)) (now (times .exit)) (now (nodes .exit)) (n - 1) (left (p .done) n) r) ⌝ }
+    ensures { λ r. ⌜ PassTo (lent floats numbers cells times nodes) false n «done_at» count (turning n curr) fewer r ⌝ }
 {
     let Walked::Found(found) = relink(floats, numbers, n, cells, done_at, curr) else {
         return Passed::Fails;
@@ -304,9 +303,9 @@ fn turns(
     nodes: &mut [u32],
     count: usize,
 ) -> bool
-    requires { ⌜ Working false n «done_at» (now floats) (now numbers) (now cells) (now times) (now nodes) count (n - 1) ⌝ }
+    requires { ⌜ Working false n «done_at» (slices (now floats) (now numbers) (now cells) (now times) (now nodes)) count (n - 1) ⌝ }
     requires { ⌜ 0 < n ⌝ }
-    ensures { λ r. ⌜ ((p : Pass) (start : List ℕ) → PassIn false n «done_at» start (now (floats .entry)) (now (numbers .entry)) (now (cells .entry)) (now (times .entry)) (now (nodes .entry)) count (n - 1) p → EndsAs (Forward·turns n n (p .table) (p .done) (p .queue)) n «done_at» start (now (floats .exit)) (now (numbers .exit)) (now (cells .exit)) r) ⌝ }
+    ensures { λ r. ⌜ EndsTo (lent floats numbers cells times nodes) false n «done_at» count (turningAll n) r ⌝ }
 {
     let mut queued = count;
     while 0 < queued {
@@ -329,7 +328,8 @@ fn turns(
     true
 }
 
-// Times the nodes of a network of n, if no assertion fails. Nodes that are timed are flagged in `cells` from `done_at` on, where no flag is set before; the queue lies in `times` and `nodes`.
+// Times the nodes of a network of n, if no assertion fails. Nodes that are timed are flagged in `cells` from `done_at` on, where no flag
+// is set before; the queue lies in `times` and `nodes`.
 pub fn update_times_forward(
     floats: &mut [f64],
     numbers: &mut [u32],
@@ -347,7 +347,7 @@ pub fn update_times_forward(
     requires { ⌜ ((i : ℕ) → doneIn (now cells) «done_at» i ≡ false) ⌝ }
     requires { ⌜ n * 2 ≤ length (now times) ⌝ }
     requires { ⌜ n ≤ length (now nodes) ⌝ }
-    ensures { λ r. ⌜ EndsAs (forward (record { floats = now (floats .entry); numbers = now (numbers .entry) }) n departure) n «done_at» (now (cells .entry)) (now (floats .exit)) (now (numbers .exit)) (now (cells .exit)) r ⌝ }
+    ensures { λ r. ⌜ PassEnds floats numbers cells n «done_at» (λ t. forward t n departure) r ⌝ }
 {
     let e = Entry {
         time: departure,

@@ -1,9 +1,10 @@
--- The queue of a time pass, the source's `BinaryHeap`. Document 01 under "Passes": "Forward takes the smaller time, ties the smaller index; backward the greatest by `EstTimePrev`'s
--- `partial_cmp`": time, sub, index. The definition is a list, out of which the best entry is taken; where entries stand in it says nothing.
+-- The queue of a time pass, the source's `BinaryHeap`. Document 01 under "Passes": "Forward takes the smaller time, ties the smaller
+-- index; backward the greatest by `EstTimePrev`'s `partial_cmp`": time, sub, index. The definition is a list, out of which the best
+-- entry is taken; where entries stand in it says nothing.
 use mathlib.Core.Path.{_≡_}
 use mathlib.Core.Bool.{Bool, true, false, _&&_, cond}
 use mathlib.Core.List.{List, [], _∷_}
-use Prim.Native.Nat.{ℕ, zero, suc, _+_, _*_, _≤_, _<_}
+use Prim.Native.Nat.{ℕ, zero, suc, _+_, _-_, _*_, _≤_, _<_}
 use lib.Dec.{T, ltb, eqb}
 use lib.ListN.{length, getD}
 use lib.Ieee.{Float, nan, binary64, lt, isNan, fits, toBits}
@@ -75,7 +76,10 @@ slot ts ns i = record { time = getD ts (i * 2) nan; sub = getD ts (i * 2 + 1) na
 
 -- how often an entry, by its bits, is among the first n slots, and in a list
 unfoldable pub sameEntry : Entry → Entry → Bool
-sameEntry a b = eqb (toBits binary64 (a .time)) (toBits binary64 (b .time)) && eqb (toBits binary64 (a .sub)) (toBits binary64 (b .sub)) && eqb (a .node) (b .node)
+sameEntry a b =
+    eqb (toBits binary64 (a .time)) (toBits binary64 (b .time))
+    && eqb (toBits binary64 (a .sub)) (toBits binary64 (b .sub))
+    && eqb (a .node) (b .node)
 
 abbrev pub one : Bool → ℕ
 one true = 1
@@ -96,8 +100,8 @@ abbrev pub Each : (Entry → Type 0) → List Entry → Type 0
 Each P [] = Unit {0}
 Each P (x ∷ xs) = P x × Each P xs
 
--- The first n slots are a heap that holds this list: no slot is taken before the one above it, slot i being above slots 2 i + 1 and 2 i + 2, and each entry is in it as often as in the list.
--- Entries are told apart by their bits, so those of the list are f64s too.
+-- The first n slots are a heap that holds this list: no slot is taken before the one above it, slot i being above slots 2 i + 1 and
+-- 2 i + 2, and each entry is in it as often as in the list. Entries are told apart by their bits, so those of the list are f64s too.
 pub record Holds (backward : Bool) (ts : List Float) (ns : List ℕ) (n : ℕ) (es : List Entry) : Type 0 where
   pub above : (i k : ℕ) → k < n → i * 2 < k → k ≤ i * 2 + 2 → before backward (slot ts ns k) (slot ts ns i) ≡ false
   pub ordered : (i : ℕ) → i < n → Ordered (slot ts ns i)
@@ -108,3 +112,19 @@ pub record Holds (backward : Bool) (ts : List Float) (ns : List ℕ) (n : ℕ) (
 -- a permutation, said of lists: each entry as often in the one as in the other
 abbrev pub SameEntries : List Entry → List Entry → Type 0
 SameEntries xs ys = (length xs ≡ length ys) × ((e : Entry) → timesIn e xs ≡ timesIn e ys)
+
+-- ---- what becomes of a heap: both slices before and after
+
+-- an entry is put into a heap of n
+abbrev pub Added : Bool → List Float → List ℕ → List Float → List ℕ → ℕ → Entry → Type 0
+Added backward ts ns ts′ ns′ n e = (es : List Entry) → Holds backward ts ns n es → Holds backward ts′ ns′ (n + 1) (e ∷ es)
+
+-- the best entry is taken out, so that n are left
+abbrev pub Dropped : Bool → List Float → List ℕ → List Float → List ℕ → ℕ → Type 0
+Dropped backward ts ns ts′ ns′ n =
+    (x : Entry) (es : List Entry) → Holds backward ts ns (n + 1) (x ∷ es) → Holds backward ts′ ns′ n (others backward x es)
+
+-- r is the best entry of a heap of n, and is taken out
+abbrev pub TakenOut : Bool → List Float → List ℕ → List Float → List ℕ → ℕ → Entry → Type 0
+TakenOut backward ts ns ts′ ns′ n r =
+    (x : Entry) (es : List Entry) → Holds backward ts ns n (x ∷ es) → (r ≡ best backward x es) × Holds backward ts′ ns′ (n - 1) (others backward x es)

@@ -1,10 +1,9 @@
 // The queue of a time pass: a binary heap in lent slices. Contracts: specs/Queue.antt, specs/Slots.antt.
 ghost use mathlib.Core.Path.{_≡_};
-ghost use mathlib.Core.List.{List, _∷_};
 ghost use Prim.Native.Nat.{_+_, _*_, _-_, _≤_, _<_};
 ghost use lib.ListN.{length};
 ghost use lib.Ieee.{binary64, toBits};
-ghost use Rattle.pass_queue.specs.Queue.{byBits, beforeForward, beforeBackward, before, Ordered, slot, Holds, best, others};
+ghost use Rattle.pass_queue.specs.Queue.{byBits, beforeForward, beforeBackward, before, Ordered, slot, Added, Dropped, TakenOut};
 ghost use Rattle.pass_queue.specs.Slots.{putTimes, putNodes, BestChild};
 
 // The bits that stand for a NaN.
@@ -125,7 +124,7 @@ fn rise(times: &mut [f64], nodes: &mut [u32], n: usize, backward: bool, e: Entry
     requires { ⌜ n < length (now nodes) ⌝ }
     requires { ⌜ Ordered e ⌝ }
     ensures within { λ r. ⌜ r ≤ n ⌝ }
-    ensures held { λ r. ⌜ ((es : List Entry) → Holds backward (now (times .entry)) (now (nodes .entry)) n es → Holds backward (putTimes (now (times .exit)) r e) (putNodes (now (nodes .exit)) r e) (n + 1) (e ∷ es)) ⌝ }
+    ensures held { λ r. ⌜ Added backward (now (times .entry)) (now (nodes .entry)) (putTimes (now (times .exit)) r e) (putNodes (now (nodes .exit)) r e) n e ⌝ }
 {
     let mut i = n;
     while 0 < i {
@@ -145,7 +144,7 @@ pub fn push(times: &mut [f64], nodes: &mut [u32], n: usize, backward: bool, e: E
     requires { ⌜ (n + 1) * 2 ≤ length (now times) ⌝ }
     requires { ⌜ n < length (now nodes) ⌝ }
     requires { ⌜ Ordered e ⌝ }
-    ensures { λ _. ⌜ ((es : List Entry) → Holds backward (now (times .entry)) (now (nodes .entry)) n es → Holds backward (now (times .exit)) (now (nodes .exit)) (n + 1) (e ∷ es)) ⌝ }
+    ensures { λ _. ⌜ Added backward (now (times .entry)) (now (nodes .entry)) (now (times .exit)) (now (nodes .exit)) n e ⌝ }
 {
     let i = rise(times, nodes, n, backward, e);
     put_entry(times, nodes, i, e);
@@ -178,7 +177,7 @@ fn sink(times: &mut [f64], nodes: &mut [u32], n: usize, backward: bool, e: Entry
     requires { ⌜ n < length (now nodes) ⌝ }
     requires { ⌜ e ≡ slot (now times) (now nodes) n ⌝ }
     ensures within { λ r. ⌜ r < n ⌝ }
-    ensures held { λ r. ⌜ ((x : Entry) (es : List Entry) → Holds backward (now (times .entry)) (now (nodes .entry)) (n + 1) (x ∷ es) → Holds backward (putTimes (now (times .exit)) r e) (putNodes (now (nodes .exit)) r e) n (others backward x es)) ⌝ }
+    ensures held { λ r. ⌜ Dropped backward (now (times .entry)) (now (nodes .entry)) (putTimes (now (times .exit)) r e) (putNodes (now (nodes .exit)) r e) n ⌝ }
 {
     let mut i = 0;
     while i < n / 2 {
@@ -198,7 +197,7 @@ pub fn pop(times: &mut [f64], nodes: &mut [u32], n: usize, backward: bool) -> En
     requires { ⌜ 0 < n ⌝ }
     requires { ⌜ n * 2 ≤ length (now times) ⌝ }
     requires { ⌜ n ≤ length (now nodes) ⌝ }
-    ensures { λ r. ⌜ ((x : Entry) (es : List Entry) → Holds backward (now (times .entry)) (now (nodes .entry)) n (x ∷ es) → (r ≡ best backward x es) × Holds backward (now (times .exit)) (now (nodes .exit)) (n - 1) (others backward x es)) ⌝ }
+    ensures { λ r. ⌜ TakenOut backward (now (times .entry)) (now (nodes .entry)) (now (times .exit)) (now (nodes .exit)) n r ⌝ }
 {
     let top = entry_at(times, nodes, 0);
     let last = n - 1;

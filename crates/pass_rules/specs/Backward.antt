@@ -1,5 +1,5 @@
--- `update_times_backward`: "backward the greatest by `EstTimePrev`'s `partial_cmp`". Each turn takes an entry, relinks the split that it reaches first, with the times and distances to next,
--- and takes what is to be subtracted off the times before it, up to the next split.
+-- `update_times_backward`: "backward the greatest by `EstTimePrev`'s `partial_cmp`". Each turn takes an entry, relinks the split that it
+-- reaches first, with the times and distances to next, and takes what is to be subtracted off the times before it, up to the next split.
 use mathlib.Core.Bool.{Bool, true, false, not, _&&_, _||_}
 use mathlib.Core.List.{List, [], _∷_}
 use Prim.Native.Nat.{ℕ, zero, suc, _-_}
@@ -142,7 +142,8 @@ unfolding relinkWalk relinked strand settle
 turn n p curr less =
     let prev = at (p .table) curr .«idx_prev» in
     asserting (p .done curr)
-    (asserting (not (p .done prev)) (andThen (relinkWalk n p prev) (λ (found : ℕ). andThen (strand n (relinked p curr prev less found)) settle)))
+    (asserting (not (p .done prev))
+    (andThen (relinkWalk n p prev) (λ (found : ℕ). andThen (strand n (relinked p curr prev less found)) settle)))
 
 unfoldable pub turns : ℕ → ℕ → Table → (ℕ → Bool) → List Entry → Answer Pass
 unfolding turn
@@ -150,7 +151,8 @@ turns zero n t done q = given (record { table = t; done = done; queue = q })
 turns (suc k) n t done [] = given (record { table = t; done = done; queue = [] })
 turns (suc k) n t done (x ∷ xs) =
     let e = best true x xs in
-    andThen (turn n (record { table = t; done = done; queue = others true x xs }) (e .node) (e .sub)) (λ (p : Pass). turns k n (p .table) (p .done) (p .queue))
+    andThen (turn n (record { table = t; done = done; queue = others true x xs }) (e .node) (e .sub))
+    (λ (p : Pass). turns k n (p .table) (p .done) (p .queue))
 
 unfoldable pub lastTwo : ℕ → ℕ → Bool
 lastTwo n i = eqb i (n - 1) || eqb i (n - 2)

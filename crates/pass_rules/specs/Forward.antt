@@ -1,4 +1,5 @@
--- `update_times_forward`: "Forward takes the smaller time, ties the smaller index." Each turn takes an entry, relinks the join that it reaches first, and times the nodes behind it up to the next join.
+-- `update_times_forward`: "Forward takes the smaller time, ties the smaller index." Each turn takes an entry, relinks the join that it
+-- reaches first, and times the nodes behind it up to the next join.
 use mathlib.Core.Bool.{Bool, true, false, not, _&&_, _||_}
 use mathlib.Core.List.{List, [], _∷_}
 use Prim.Native.Nat.{ℕ, zero, suc, _-_}
@@ -136,7 +137,8 @@ unfolding relinkWalk relinked strand settle
 turn n p curr =
     let next = at (p .table) curr .«idx_next» in
     asserting (p .done curr)
-    (asserting (not (p .done next)) (andThen (relinkWalk n p n next) (λ (found : ℕ). andThen (strand n (relinked p curr next found)) settle)))
+    (asserting (not (p .done next))
+    (andThen (relinkWalk n p n next) (λ (found : ℕ). andThen (strand n (relinked p curr next found)) settle)))
 
 -- the entries left; each turn times a node
 unfoldable pub turns : ℕ → ℕ → Table → (ℕ → Bool) → List Entry → Answer Pass
@@ -144,7 +146,8 @@ unfolding turn
 turns zero n t done q = given (record { table = t; done = done; queue = q })
 turns (suc k) n t done [] = given (record { table = t; done = done; queue = [] })
 turns (suc k) n t done (x ∷ xs) =
-    andThen (turn n (record { table = t; done = done; queue = others false x xs }) (best false x xs .node)) (λ (p : Pass). turns k n (p .table) (p .done) (p .queue))
+    andThen (turn n (record { table = t; done = done; queue = others false x xs }) (best false x xs .node))
+    (λ (p : Pass). turns k n (p .table) (p .done) (p .queue))
 
 abbrev pub firstTwo : ℕ → Bool
 firstTwo zero = true

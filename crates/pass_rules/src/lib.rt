@@ -5,9 +5,10 @@ ghost use mathlib.Core.Bool.{not, _&&_, _||_};
 ghost use Prim.Native.Nat.{ℕ, _+_, _-_, _*_, _≤_, _<_};
 ghost use lib.Dec.{eqb};
 ghost use lib.ListN.{length};
-ghost use Rattle.net_node.specs.Table.{nodeAt, Room, Table};
-ghost use Rattle.pass_rules.specs.Checks.{differ, prevHolds, nextHolds, fakeHolds, prevLeads, nextLeads, nodeHolds, row14};
-ghost use Rattle.pass_rules.specs.Plain.{plain};
+ghost use Rattle.net_node.specs.Table.{nodeAt, Room};
+ghost use Rattle.net_node.specs.Lent.{tableAtEntry};
+ghost use Rattle.pass_rules.specs.Checks.{differ, prevHolds, nextHolds, fakeHolds, nodeHolds, row14};
+ghost use Rattle.pass_rules.specs.Plain.{plain, neighboursHold};
 ghost use Rattle.pass_rules.specs.Net.{Pass};
 ghost use Rattle.pass_rules.specs.Forward.{swapJoin};
 ghost use Rattle.pass_rules.specs.Backward.{swapSplit};
@@ -43,7 +44,7 @@ fn own_links_hold(here: EstTime, n: usize, i: usize) -> bool
 // The checks of a node by those before and after it.
 fn neighbours_hold(before: EstTime, after: EstTime, n: usize, i: usize) -> bool
     requires { ⌜ i < n ⌝ }
-    ensures { λ r. ⌜ r ≡ (prevLeads (λ _. before) n i && (nextLeads (λ _. after) n i && (not (eqb (before .«idx_next_alt») i) || (not (eqb (after .«idx_prev_alt») i) || (eqb i 0 || eqb i (n - 1)))))) ⌝ }
+    ensures { λ r. ⌜ r ≡ neighboursHold before after n i ⌝ }
 {
     let last = i == n - 1;
     let next_alt = before.idx_next_alt as usize == i;
@@ -124,7 +125,8 @@ fn end_of(n: usize, backward: bool) -> usize
     if backward { 0 } else { n - 1 }
 }
 
-// Whether a node is a Fake that leads to a node which is neither done nor the walk's end. A node is done (timed forward, passed backward) whose cell is set.
+// Whether a node is a Fake that leads to a node which is neither done nor the walk's end. A node is done (timed forward, passed
+// backward) whose cell is set.
 fn is_passable(
     floats: &[f64],
     numbers: &[u32],
@@ -138,7 +140,7 @@ fn is_passable(
     requires { ⌜ Inside (nodeAt (now floats) (now numbers)) n ⌝ }
     requires { ⌜ «done_at» + n ≤ length (now cells) ⌝ }
     requires { ⌜ i < n ⌝ }
-    ensures { λ r. ⌜ r ≡ passable backward (passOf (record { floats = now (floats .entry); numbers = now (numbers .entry) }) (doneIn (now (cells .entry)) «done_at»)) n i ⌝ }
+    ensures { λ r. ⌜ r ≡ passable backward (passOf (tableAtEntry floats numbers) (doneIn (now (cells .entry)) «done_at»)) n i ⌝ }
 {
     let node = net_node::load(floats, numbers, i as usize);
     let event = node.link_event;
@@ -164,7 +166,7 @@ pub fn relink_walk(
     requires { ⌜ Inside (nodeAt (now floats) (now numbers)) n ⌝ }
     requires { ⌜ «done_at» + n ≤ length (now cells) ⌝ }
     requires { ⌜ i < n ⌝ }
-    ensures { λ r. ⌜ RelinkWalk backward (record { floats = now (floats .entry); numbers = now (numbers .entry) }) (doneIn (now (cells .entry)) «done_at») n i r ⌝ }
+    ensures { λ r. ⌜ RelinkWalk backward (tableAtEntry floats numbers) (doneIn (now (cells .entry)) «done_at») n i r ⌝ }
 {
     let mut at = i;
     let mut count = 0;
@@ -195,8 +197,8 @@ pub fn swap_join(
     requires { ⌜ curr < n ⌝ }
     requires { ⌜ save < n ⌝ }
     requires { ⌜ found < n ⌝ }
-    ensures floats { λ _. ⌜ now (floats .exit) ≡ swapJoin (record { floats = now (floats .entry); numbers = now (numbers .entry) }) curr save found .floats ⌝ }
-    ensures numbers { λ _. ⌜ now (numbers .exit) ≡ swapJoin (record { floats = now (floats .entry); numbers = now (numbers .entry) }) curr save found .numbers ⌝ }
+    ensures floats { λ _. ⌜ now (floats .exit) ≡ swapJoin (tableAtEntry floats numbers) curr save found .floats ⌝ }
+    ensures numbers { λ _. ⌜ now (numbers .exit) ≡ swapJoin (tableAtEntry floats numbers) curr save found .numbers ⌝ }
 {
     let node = net_node::load(floats, numbers, found as usize);
     let base = node.idx_prev;
@@ -220,8 +222,8 @@ pub fn swap_split(
     requires { ⌜ curr < n ⌝ }
     requires { ⌜ save < n ⌝ }
     requires { ⌜ found < n ⌝ }
-    ensures floats { λ _. ⌜ now (floats .exit) ≡ swapSplit (record { floats = now (floats .entry); numbers = now (numbers .entry) }) curr save found .floats ⌝ }
-    ensures numbers { λ _. ⌜ now (numbers .exit) ≡ swapSplit (record { floats = now (floats .entry); numbers = now (numbers .entry) }) curr save found .numbers ⌝ }
+    ensures floats { λ _. ⌜ now (floats .exit) ≡ swapSplit (tableAtEntry floats numbers) curr save found .floats ⌝ }
+    ensures numbers { λ _. ⌜ now (numbers .exit) ≡ swapSplit (tableAtEntry floats numbers) curr save found .numbers ⌝ }
 {
     let node = net_node::load(floats, numbers, found as usize);
     let base = node.idx_next;

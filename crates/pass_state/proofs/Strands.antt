@@ -16,6 +16,7 @@ use Rattle.pass_rules.specs.Walks.{doneIn}
 use Rattle.pass_state.specs.declared.Stands.{Stands}
 use Rattle.pass_state.specs.declared.Stands.the-variants.{On, Nowhere}
 use Rattle.pass_state.specs.Held.{PassSlices, slices, left, PassIn, Working, Gives, StandsAs}
+use Rattle.pass_state.specs.Promises.{stopsBy}
 use Rattle.pass_state.proofs.Left.{left-most}
 use Rattle.pass_state.proofs.Kept.{works, node-in}
 
@@ -47,11 +48,7 @@ module _ (w : Walker) (k : ℕ) (a : w .A) where
   after-stop : (b : w .A) (t : Bool) → w .step a ≡ given b → w .stops b ≡ t → w .strand (suc k) a ≡ w .stopIf t b (w .strand k)
   after-stop b t e h = after-step (given b) e ∙ ap (λ (x : Bool). w .stopIf x b (w .strand k)) h
 
--- whether a walk stops before a node, by that node
-abbrev pub stopsBy : (EstTime → ℕ) → EstTime → Bool
-stopsBy alt x = not (eqb (alt x) 0) || isFake x
-
--- that was loaded
+-- whether a walk stops before a node, by that node as it was loaded
 pub stops-by : (alt : EstTime → ℕ) (x y : EstTime) (fake : Bool) → x ≡ y → fake ≡ fakeKind (x .«link_event» .«est_type») → (not (eqb (alt x) 0) || fake) ≡ stopsBy alt y
 stops-by alt x y fake e f = ap (λ (b : Bool). not (eqb (alt x) 0) || b) f ∙ ap (stopsBy alt) e
 

@@ -1,11 +1,12 @@
-// A time pass at work: which nodes are done, and its queue. Contracts: specs/Held.antt.
+// A time pass at work: which nodes are done, and its queue. Contracts: specs/Held.antt, specs/Promises.antt.
 use pass_queue::Entry;
 ghost use mathlib.Core.Path.{_≡_};
 ghost use Prim.Native.Nat.{_+_, _*_, _≤_, _<_};
 ghost use lib.ListN.{length, set};
-ghost use Rattle.net_node.specs.Table.{setTime};
+ghost use Rattle.net_node.specs.Table.{floatWidth, numberWidth, setTime};
+ghost use Rattle.net_node.specs.Lent.{tableAtEntry};
 ghost use Rattle.pass_rules.specs.Walks.{doneIn};
-ghost use Rattle.pass_state.specs.Held.{EnqueuedAs};
+ghost use Rattle.pass_state.specs.Promises.{Enqueues};
 
 // How many entries the queue has then, or that an assertion of the pass fails.
 pub enum Passed {
@@ -36,11 +37,11 @@ pub fn set_done(
     i: u32,
     time: f64,
 )
-    requires { ⌜ i * 4 + 4 ≤ length (now floats) ⌝ }
-    requires { ⌜ i * 6 + 6 ≤ length (now numbers) ⌝ }
+    requires { ⌜ i * floatWidth + floatWidth ≤ length (now floats) ⌝ }
+    requires { ⌜ i * numberWidth + numberWidth ≤ length (now numbers) ⌝ }
     requires { ⌜ «done_at» + i < length (now cells) ⌝ }
-    ensures floats { λ _. ⌜ now (floats .exit) ≡ setTime (record { floats = now (floats .entry); numbers = now (numbers .entry) }) i time .floats ⌝ }
-    ensures numbers { λ _. ⌜ now (numbers .exit) ≡ setTime (record { floats = now (floats .entry); numbers = now (numbers .entry) }) i time .numbers ⌝ }
+    ensures floats { λ _. ⌜ now (floats .exit) ≡ setTime (tableAtEntry floats numbers) i time .floats ⌝ }
+    ensures numbers { λ _. ⌜ now (numbers .exit) ≡ setTime (tableAtEntry floats numbers) i time .numbers ⌝ }
     ensures cells { λ _. ⌜ now (cells .exit) ≡ set (now (cells .entry)) («done_at» + i) 1 ⌝ }
 {
     net_node::set_time(floats, numbers, i as usize, time);
@@ -57,7 +58,7 @@ pub fn enqueue(
 ) -> Passed
     requires { ⌜ (count + 1) * 2 ≤ length (now times) ⌝ }
     requires { ⌜ count < length (now nodes) ⌝ }
-    ensures { λ r. ⌜ EnqueuedAs backward (now (times .entry)) (now (nodes .entry)) (now (times .exit)) (now (nodes .exit)) count e r ⌝ }
+    ensures { λ r. ⌜ Enqueues times nodes backward count e r ⌝ }
 {
     if e.time != e.time {
         return Passed::Fails;

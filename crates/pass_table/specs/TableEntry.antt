@@ -1,5 +1,5 @@
--- The table entry, document 01: "The passes also accept a lent node table of 3 to 65,535 nodes and a departure (row 4, either sign); each node's time is checked, then read as untimed.
--- It gives 3, 4, 5, 14, 15 or 16. Its report: nodes alone."
+-- The table entry, document 01: "The passes also accept a lent node table of 3 to 65,535 nodes and a departure (row 4, either sign);
+-- each node's time is checked, then read as untimed. It gives 3, 4, 5, 14, 15 or 16. Its report: nodes alone."
 use mathlib.Core.Path.{_≡_}
 use mathlib.Core.Bool.{Bool, not, _||_}
 use mathlib.Core.List.{List, [], _∷_}
@@ -83,7 +83,8 @@ abbrev pub tableNodes : TimedTable → ℕ
 tableNodes (Whole n) = n
 tableNodes (Refused k) = 0
 
--- "Accepted: nodes in the lent table (.. as many places as both slices fill, all else zero)"; "Refused: the number; every lent table .. zero"; "Work space is zero either way."
+-- "Accepted: nodes in the lent table (.. as many places as both slices fill, all else zero)"; "Refused: the number; every lent table ..
+-- zero"; "Work space is zero either way."
 pub record TimesUpdated (lent left : Slices) (departure : Float) (r : TimedTable) : Type 0 where
   pub answer : r ≡ timedAnswer (timesOf lent departure)
   pub floats : left .table .floats ≡ floatsLeft (timesOf lent departure) (length (lent .table .floats))
