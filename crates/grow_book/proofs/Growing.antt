@@ -32,6 +32,7 @@ use Rattle.grow_state.specs.declared.GrowthAnswer.{GrowthAnswer}
 use Rattle.grow_state.specs.declared.GrowthAnswer.the-variants.{On, Refused}
 use Rattle.grow_state.specs.Held.{PlanIn, DriveIn, Driving}
 use Rattle.grow_origins.specs.Origins.{startState, OriginsIn, SomeOrigins, OnlyStart, OriginsGiven, OriginsAs}
+use Rattle.net_insertion.specs.Insertion.{tableOf}
 use Rattle.grow_book.specs.declared.GrownBook.{GrownBook}
 use Rattle.grow_book.specs.Answers.{DrivenAs, DriveAs, closing, grownFrom, Closing, SomeClosing, GrownAs}
 
@@ -152,14 +153,14 @@ abbrev firstTable : Table → Float → Table
 firstTable t time = put (put t 0 (fakeNode 1 0 0 (ofBits binary64 0))) 1 (fakeNode 0 0 0 time)
 
 -- nothing is behind node 1
-pub book-start : (fs : List Float) (us : List ℕ) (places : ℕ) → places ≡ placesOf (length fs) (length us) → 2 ≤ places → (time : Float) (fs′ : List Float) (us′ : List ℕ) → fs′ ≡ firstTable (record { floats = fs; numbers = us }) time .floats
-    → us′ ≡ firstTable (record { floats = fs; numbers = us }) time .numbers → OnlyStart (nodeAt fs′ us′) 2
+pub book-start : (fs : List Float) (us : List ℕ) (places : ℕ) → places ≡ placesOf (length fs) (length us) → 2 ≤ places → (time : Float) (fs′ : List Float) (us′ : List ℕ) → fs′ ≡ firstTable (tableOf fs us) time .floats
+    → us′ ≡ firstTable (tableOf fs us) time .numbers → OnlyStart (nodeAt fs′ us′) 2
 unfolding fakeNode at
 book-start fs us places e h time fs′ us′ df du =
     let f = places-fit e in
     let one : nodeAt fs′ us′ 1 ≡ fakeNode 0 0 0 time =
-    ap (λ (x : List Float). nodeAt x us′ 1) df ∙ ap (λ (x : List ℕ). nodeAt (firstTable (record { floats = fs; numbers = us }) time .floats) x 1) du
-    ∙ node-one (record { floats = fs; numbers = us }) time places (record { floats = f .floats-fit; numbers = f .numbers-fit; most = f .most }) (omega arith) in
+    ap (λ (x : List Float). nodeAt x us′ 1) df ∙ ap (λ (x : List ℕ). nodeAt (firstTable (tableOf fs us) time .floats) x 1) du
+    ∙ node-one (tableOf fs us) time places (record { floats = f .floats-fit; numbers = f .numbers-fit; most = f .most }) (omega arith) in
     record { two = refl; no-next = ap (λ (x : EstTime). x .«idx_next») one; no-alt = ap (λ (x : EstTime). x .«idx_next_alt») one }
 
 module _ {b : List ℕ} {s : Sections} {kept : ℕ} {cells marks : List ℕ} (ready : Ready b s kept cells marks) (p : Plan) (reals : List Float) (plan : PlanIn b p (length reals)) (at-zero : getD reals 0 nan ≡ ofBits binary64 0)
@@ -206,27 +207,27 @@ module _ {b : List ℕ} {s : Sections} {kept : ℕ} {cells marks : List ℕ} (re
     firsts = tt;
   }
 
-  first-origins : (fs′ : List Float) (us′ : List ℕ) → fs′ ≡ firstTable (record { floats = fs; numbers = us }) (p .departure) .floats → us′ ≡ firstTable (record { floats = fs; numbers = us }) (p .departure) .numbers → (joins : List ℕ)
-      → OriginsIn b p fs′ us′ reals cells joins (keptOrigins b) startState (firstNodes b (record { floats = fs; numbers = us })) []
+  first-origins : (fs′ : List Float) (us′ : List ℕ) → fs′ ≡ firstTable (tableOf fs us) (p .departure) .floats → us′ ≡ firstTable (tableOf fs us) (p .departure) .numbers → (joins : List ℕ)
+      → OriginsIn b p fs′ us′ reals cells joins (keptOrigins b) startState (firstNodes b (tableOf fs us)) []
   unfolding t
   first-origins fs′ us′ df du joins =
-      subst (λ (x : List Float). OriginsIn b p x us′ reals cells joins (keptOrigins b) startState (firstNodes b (record { floats = fs; numbers = us })) []) (sym df)
-      (subst (λ (x : List ℕ). OriginsIn b p (firstTable (record { floats = fs; numbers = us }) (p .departure) .floats) x reals cells joins (keptOrigins b) startState (firstNodes b (record { floats = fs; numbers = us })) []) (sym du) (start-origins joins))
+      subst (λ (x : List Float). OriginsIn b p x us′ reals cells joins (keptOrigins b) startState (firstNodes b (tableOf fs us)) []) (sym df)
+      (subst (λ (x : List ℕ). OriginsIn b p (firstTable (tableOf fs us) (p .departure) .floats) x reals cells joins (keptOrigins b) startState (firstNodes b (tableOf fs us)) []) (sym du) (start-origins joins))
 
 -- the same by what `grow_book` asks and its parts tell
 module _ {b : List ℕ} {s : Sections} {kept : ℕ} {cells marks : List ℕ} (ready : Ready b s kept cells marks) (p : Plan) (reals : List Float) (plan : PlanIn b p (length reals)) (at-zero : getD reals 0 nan ≡ ofBits binary64 0)
     (fs : List Float) (us : List ℕ) (places : ℕ) (are : places ≡ placesOf (length fs) (length us)) (planned : p .w .places ≡ places) (some : 2 ≤ places) (behind : p .w .«links_at» ≡ (legs b + 1) * 8 + places * 8)
-    (long : (legs b + 1 + placesOf (length fs) (length us) + links b) * 8 ≤ length cells) (fs′ : List Float) (us′ : List ℕ) (df : fs′ ≡ firstTable (record { floats = fs; numbers = us }) (p .departure) .floats)
-    (du : us′ ≡ firstTable (record { floats = fs; numbers = us }) (p .departure) .numbers) (joins : List ℕ) where
-  book-origins : OriginsIn b p fs′ us′ reals cells joins (keptOrigins b) startState (firstNodes b (record { floats = fs; numbers = us })) []
+    (long : (legs b + 1 + placesOf (length fs) (length us) + links b) * 8 ≤ length cells) (fs′ : List Float) (us′ : List ℕ) (df : fs′ ≡ firstTable (tableOf fs us) (p .departure) .floats)
+    (du : us′ ≡ firstTable (tableOf fs us) (p .departure) .numbers) (joins : List ℕ) where
+  book-origins : OriginsIn b p fs′ us′ reals cells joins (keptOrigins b) startState (firstNodes b (tableOf fs us)) []
   book-origins =
       first-origins ready p reals plan at-zero fs us (let f = places-fit (planned ∙ are) in record { floats = f .floats-fit; numbers = f .numbers-fit; most = f .most }) (omega (arith, planned)) (omega (arith, behind, planned)) (omega (arith, long, planned, are)) fs′ us′ df du joins
 
   pub book-some : SomeOrigins b p fs′ us′ reals cells joins (keptOrigins b) startState
-  book-some = record { net = firstNodes b (record { floats = fs; numbers = us }); runs = []; origins = book-origins }
+  book-some = record { net = firstNodes b (tableOf fs us); runs = []; origins = book-origins }
 
   pub book-grown : (fs″ : List Float) (us″ : List ℕ) (r : GrownBook) → ((net : Net) → OriginsIn b p fs′ us′ reals cells joins (keptOrigins b) startState net [] → GrownAs (grownFrom b (p .w .places) net) fs″ us″ r)
-      → GrownAs (grow b (placesOf (length fs) (length us)) (record { floats = fs; numbers = us })) fs″ us″ r
+      → GrownAs (grow b (placesOf (length fs) (length us)) (tableOf fs us)) fs″ us″ r
   book-grown fs″ us″ r f =
-      subst (λ (a : Answer Grown). GrownAs a fs″ us″ r) (sym (grow-from b (placesOf (length fs) (length us)) (record { floats = fs; numbers = us }) (omega (arith, are))))
-      (subst (λ (n : ℕ). GrownAs (grownFrom b n (firstNodes b (record { floats = fs; numbers = us }))) fs″ us″ r) (planned ∙ are) (f (firstNodes b (record { floats = fs; numbers = us })) book-origins))
+      subst (λ (a : Answer Grown). GrownAs a fs″ us″ r) (sym (grow-from b (placesOf (length fs) (length us)) (tableOf fs us) (omega (arith, are))))
+      (subst (λ (n : ℕ). GrownAs (grownFrom b n (firstNodes b (tableOf fs us))) fs″ us″ r) (planned ∙ are) (f (firstNodes b (tableOf fs us)) book-origins))

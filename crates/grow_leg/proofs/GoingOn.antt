@@ -27,7 +27,8 @@ use Rattle.grow_events.specs.Held.{endsAt}
 use Rattle.grow_state.specs.declared.Plan.{Plan}
 use Rattle.grow_state.specs.declared.State.{State}
 use Rattle.grow_state.specs.Held.{PlanIn, GivesAs, RunSound, Begins, Prefixes, pathBefore}
-use Rattle.grow_state.proofs.Keeping.{plan-legs, plan-room, net-same}
+use Rattle.grow_state.proofs.Keeping.{plan-legs, plan-room}
+use Rattle.grow_events.proofs.Kept.{net-same}
 use Rattle.grow_leg.specs.OneLeg.{AtEnd, Free, SavedOver}
 use Rattle.grow_leg.proofs.Paths.{path-long, before-child}
 use Rattle.book_legs.proofs.Found.{LegOf, leg-found}

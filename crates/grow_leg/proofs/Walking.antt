@@ -40,7 +40,7 @@ use Rattle.grow_events.specs.Held.{NetIn, RunIn, Moving, Along, SomePath, Outco
 use Rattle.grow_state.specs.declared.Plan.{Plan}
 use Rattle.grow_state.specs.declared.State.{State}
 use Rattle.grow_state.specs.Held.{PlanIn, DriveIn, Driving, FrontIn, WaitIn, RunsIn, pathBefore}
-use Rattle.grow_state.proofs.Keeping.{net-same}
+use Rattle.grow_events.proofs.Kept.{net-same}
 use Rattle.grow_leg.specs.OneLeg.{outcomeAs, legOutcome, WalkedAs}
 use Rattle.grow_leg.proofs.Paths.{path-is, path-long, path-named}
 use Rattle.grow_path.proofs.Paths.{path-most}

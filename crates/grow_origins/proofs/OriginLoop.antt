@@ -29,6 +29,7 @@ use Rattle.grow_state.specs.declared.GrowthAnswer.{GrowthAnswer}
 use Rattle.grow_state.specs.declared.GrowthAnswer.the-variants.{On, Refused}
 use Rattle.grow_state.specs.Held.{PlanIn}
 use Rattle.net_node.specs.Table.{Indexed, nodeAt, Table, at}
+use Rattle.net_insertion.specs.Insertion.{tableOf}
 use Rattle.grow_origins.specs.Origins.{originAnswer, LeadsFrom, OnlyStart, OtherLinks, AllFirst, NotOver, OriginsIn, SomeOrigin, SomeOrigins, OriginsGiven, OriginsAs, savedOrigin, OriginInserted, SomeOriginInserted}
 use Rattle.grow_origins.proofs.OriginEvents.{fewer-as, origin-joins, origin-not-left, origin-given, origin-refused}
 use Rattle.grow_origins.proofs.Starting.{AtLast, at-start, comes-first, leads-from}
@@ -134,7 +135,7 @@ module _ {b : List ℕ} {p : Plan} {fs : List Float} {us : List ℕ} {reals : Li
   unfolding at
   net-indexed = subst (Indexed (at (net .table))) (sym (o .holds .grown .nodes)) (subst (λ (t : Table). Indexed (at t) (g .counts .nodes)) (sym (o .holds .grown .table)) (o .holds .grown .indexed))
 
-  net-leads : (last link : ℕ) → LeadsFrom (net .table) (net .nodes) last link → LeadsFrom (record { floats = fs; numbers = us }) (g .counts .nodes) last link
+  net-leads : (last link : ℕ) → LeadsFrom (net .table) (net .nodes) last link → LeadsFrom (tableOf fs us) (g .counts .nodes) last link
   net-leads last link l = subst (λ (t : Table). LeadsFrom t (g .counts .nodes) last link) (o .holds .grown .table) (subst (λ (n : ℕ). LeadsFrom (net .table) n last link) (o .holds .grown .nodes) l)
 
 pub loop-start : (b : List ℕ) (p : Plan) (joins : List ℕ) (fs : List Float) (us : List ℕ) (reals : List Float) (cells : List ℕ) (g : State) → OnlyStart (nodeAt fs us) (g .counts .nodes) → OriginLoop b p joins fs us reals cells g fs us reals cells g 1 0
@@ -216,7 +217,7 @@ module _ (b : List ℕ) (p : Plan) (joins : List ℕ) (fs₀ : List Float) (us�
     starts-there : {answer : Answer Growth} → (x : SoFar b p fs us reals cells joins g last k answer) → AtLast b (idx ∷ drop (k + 1) (keptOrigins b)) (x .net .table) (x .net .nodes) last
     starts-there x = subst (λ (idxs : List ℕ). AtLast b idxs (x .net .table) (x .net .nodes) last) idxs-are (x .starts)
 
-    pub loop-leads : SomeOrigins b p fs₀ us₀ reals₀ cells₀ joins (keptOrigins b) g₀ → LeadsFrom (record { floats = fs; numbers = us }) (g .counts .nodes) last (originLink b idx)
+    pub loop-leads : SomeOrigins b p fs₀ us₀ reals₀ cells₀ joins (keptOrigins b) g₀ → LeadsFrom (tableOf fs us) (g .counts .nodes) last (originLink b idx)
     loop-leads s =
         let x = v .so-far (s .net) (s .runs) (s .origins) in
         net-leads (x .origins) last (originLink b idx) (leads-from b (idx ∷ drop (k + 1) (keptOrigins b)) (x .net .table) (x .net .nodes) last (originLink b idx) (starts-there x) (comes-first b idx (drop (k + 1) (keptOrigins b)) (originLink b idx) refl))

@@ -31,12 +31,12 @@ use Rattle.grow_rules.specs.Run.{Net, Run, memberOf}
 use Rattle.grow_rules.specs.Growth.{takes, seekLeg}
 use Rattle.grow_events.specs.declared.Counts.{Counts}
 use Rattle.grow_events.specs.Held.{NetIn, endsAt}
-use Rattle.grow_events.proofs.Kept.{before-kept, unit-kept, net-restart, path-kept}
+use Rattle.grow_events.proofs.Kept.{before-kept, unit-kept, net-restart, path-kept, net-same}
 use Rattle.grow_state.specs.declared.Plan.{Plan}
 use Rattle.grow_state.specs.declared.State.{State}
 use Rattle.grow_state.specs.declared.GrowthAnswer.the-variants.{On}
 use Rattle.grow_state.specs.Held.{PlanIn, pathBefore, Prefixes, Separate, SeparateFrom, RunSound, AllSound, SameRuns, WaitIn, RunsIn, DriveIn}
-use Rattle.grow_state.proofs.Keeping.{plan-legs, plan-room, net-same, chained-same, wait-same, idle-waits, sound-more}
+use Rattle.grow_state.proofs.Keeping.{plan-legs, plan-room, chained-same, wait-same, idle-waits, sound-more}
 use Rattle.grow_origins.specs.Origins.{OtherLinks, AllFirst, NotOver, OriginsAs, savedOrigin, OriginInserted}
 
 -- ---- the leg

@@ -13,9 +13,9 @@ use Rattle.net_node.specs.declared.EstType.the-variants.{Arrive}
 use Rattle.net_node.specs.declared.EstTime.{EstTime}
 use Rattle.net_node.specs.declared.TimedEvent.{TimedEvent}
 use Rattle.net_insertion.specs.declared.Place.{Place}
-use Rattle.net_insertion.specs.Insertion.{inserted, insertedTable}
+use Rattle.net_insertion.specs.Insertion.{inserted, insertedTable, tableOf}
 use Rattle.grow_rules.specs.Run.{Net, Run, After, Outcome, insertEvent, goesOn}
-use Rattle.grow_rules.specs.Growth.{joinGap, originEvent, originRun, seekLeg, Growth, originClear, growOrigin}
+use Rattle.grow_rules.specs.Growth.{joinGap, originEvent, originRun, seekLeg, Growth, originClear, growOrigin, originArrive}
 use Rattle.grow_rules.specs.Growth.{growOrigins}
 use Rattle.grow_events.specs.declared.Counts.{Counts}
 use Rattle.grow_state.specs.declared.Plan.{Plan}
@@ -55,16 +55,12 @@ startState = record {
 unfoldable pub originAnswer : List ℕ → ℕ → ℕ → Net → Answer Outcome
 unfolding originEvent originRun
 originAnswer b places link net =
-    goesOn (andThen (insertEvent places (joinGap b) net (originRun b) (originEvent b link Arrive (ofBits binary64 0)))
+    goesOn (andThen (insertEvent places (joinGap b) net (originRun b) (originArrive b link))
     (λ (a : After). insertEvent places (joinGap b) (a .net) (a .run) (originClear b link)))
 
 -- a place on a node, with a held time and offset
 abbrev pub placeOn : Float → Float → ℕ → Place
 placeOn time offset i = record { «time_to_next» = time; «dist_to_next» = offset; «idx_prev» = i }
-
--- the table of two lists
-abbrev pub tableOf : List Float → List ℕ → Table
-tableOf fs us = record { floats = fs; numbers = us }
 
 -- An event over this link is inserted from node `last` as from the start.
 pub record LeadsFrom (t : Table) (n last link : ℕ) : Type 0 where

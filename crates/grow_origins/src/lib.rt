@@ -29,7 +29,8 @@ ghost use Rattle.grow_state.specs.Held.{PlanIn, listsAtEntry};
 ghost use Rattle.net_node.specs.Lent.{tableAtEntry, tableAtExit};
 ghost use Rattle.grow_waiting.specs.Steps.{stacksAtEntry, stacksAtExit};
 ghost use Rattle.grow_origins.specs.Origins.{startState, LeadsFrom, OnlyStart, SomeOrigin, SomeOrigins};
-ghost use Rattle.grow_origins.specs.Origins.{SomeOriginInserted, tableOf, eventAtRest, moverAt, InsertsOrigin};
+ghost use Rattle.grow_origins.specs.Origins.{SomeOriginInserted, eventAtRest, moverAt, InsertsOrigin};
+ghost use Rattle.net_insertion.specs.Insertion.{tableOf};
 ghost use Rattle.grow_origins.specs.Origins.{SavesOrigin, GrowsOrigin, GrowsOrigins, listsLeft};
 
 // What growth goes by. The legs' units of cells stand first, then the nodes', then the links'; the path's points stand
