@@ -22,7 +22,7 @@ use Rattle.grow_events.specs.declared.Counts.{Counts}
 use Rattle.grow_events.specs.Held.{NetIn, endsAt}
 use Rattle.grow_state.specs.declared.Plan.{Plan}
 use Rattle.grow_state.specs.declared.State.{State}
-use Rattle.grow_state.specs.Held.{PlanIn, GivesAs}
+use Rattle.grow_state.specs.Held.{PlanIn, GivesAs, lists}
 use Rattle.grow_state.proofs.Keeping.{plan-room, chained-same, wait-same}
 use Rattle.grow_events.proofs.Kept.{net-anew, countsWith}
 use Rattle.grow_leg.specs.OneLeg.{AtEnd, standingAt}
@@ -89,7 +89,7 @@ module _ {w : Layout} {start : List ℕ} {fs : List Float} {us cells : List ℕ}
 -- ---- the whole
 
 module _ {b : List ℕ} {p : Plan} {fs : List Float} {us : List ℕ} {reals : List Float} {cells joins : List ℕ} {g : State} {net : Net} {run : Run} {rest : List Run}
-    (plan : PlanIn b p (length reals)) (a : AtEnd b p fs us reals cells joins g net run rest) where
+    (plan : PlanIn b p (length reals)) (a : AtEnd b p (lists fs us reals cells joins) g net run rest) where
   same-place : run .place ≡ g .front .mover .place
   same-place = a .front .moves .place
 
@@ -99,8 +99,8 @@ module _ {b : List ℕ} {p : Plan} {fs : List Float} {us : List ℕ} {reals : Li
   pub finish-gives : (r : Bool) (cells′ : List ℕ) → FinishAs fs us cells (endsAt (p .w)) (g .counts .nodes) (g .front .mover .place) r → MarkedAs cells cells′ (endsAt (p .w)) (g .counts .«last_end») (g .front .mover .place .«idx_prev») r
       → r ≡ true → (h : State)
       → h ≡ standingAt g (countsWith (g .counts) (g .front .mover .place .«idx_prev»)) (g .front .mover) false
-      → GivesAs (finishAs (badFinish net run) net run rest) b p fs us reals cells′ joins h
-  finish-gives r cells′ f m e h d = subst (GivesAs (finishAs (badFinish net run) net run rest) b p fs us reals cells′ joins) (sym d) gives
+      → GivesAs (finishAs (badFinish net run) net run rest) b p (lists fs us reals cells′ joins) h
+  finish-gives r cells′ f m e h d = subst (GivesAs (finishAs (badFinish net run) net run rest) b p (lists fs us reals cells′ joins)) (sym d) gives
     where
       good : badFinish net run ≡ false
       good = finish-told (a .grown) run (g .front .mover .place) same-place r f ∙ ap not e
@@ -111,7 +111,7 @@ module _ {b : List ℕ} {p : Plan} {fs : List Float} {us : List ℕ} {reals : Li
       other : (q : ℕ) → (q ≡ endsAt (p .w) + g .front .mover .place .«idx_prev» * 8 → ⊥) → getD cells′ q 0 ≡ getD cells q 0
       other = marked-else (a .grown) run (g .front .mover .place) same-place cells′ good marked
 
-      gives : GivesAs (finishAs (badFinish net run) net run rest) b p fs us reals cells′ joins (standingAt g (countsWith (g .counts) (g .front .mover .place .«idx_prev»)) (g .front .mover) false)
+      gives : GivesAs (finishAs (badFinish net run) net run rest) b p (lists fs us reals cells′ joins) (standingAt g (countsWith (g .counts) (g .front .mover .place .«idx_prev»)) (g .front .mover) false)
       gives = record {
         growth = record { net = finishedAt net run; saved = rest };
         is = ap (λ (t : Bool). finishAs t net run rest) good;

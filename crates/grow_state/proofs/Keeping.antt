@@ -16,7 +16,7 @@ use Rattle.grow_rules.specs.Run.{Net, Run}
 use Rattle.grow_events.proofs.Kept.{valid-more}
 use Rattle.grow_state.specs.declared.Plan.{Plan}
 use Rattle.grow_state.specs.declared.State.{State}
-use Rattle.grow_state.specs.Held.{PlanIn, WaitIn, RunsIn, AllSound, DriveIn}
+use Rattle.grow_state.specs.Held.{PlanIn, WaitIn, RunsIn, AllSound, DriveIn, lists}
 
 -- ---- the plan
 
@@ -44,7 +44,7 @@ pub wait-same : {b : List ℕ} {r : Rooms} {reals reals′ : List Float} {cells 
 wait-same {b} {r} {reals} {reals′} {cells} {cells′} {top} {used} u w = record { runs = w .runs; kept = saved-same cells reals r top used (w .runs) u (w .kept); same = w .same }
 
 -- of a state with no run at the front all runs wait
-pub idle-waits : {b : List ℕ} {p : Plan} {fs : List Float} {us : List ℕ} {reals : List Float} {cells joins path : List ℕ} {g : State} {net : Net} {runs : List Run} → DriveIn b p fs us reals cells joins path g net runs → g .front .moves ≡ false
+pub idle-waits : {b : List ℕ} {p : Plan} {fs : List Float} {us : List ℕ} {reals : List Float} {cells joins path : List ℕ} {g : State} {net : Net} {runs : List Run} → DriveIn b p (lists fs us reals cells joins) path g net runs → g .front .moves ≡ false
     → WaitIn b (p .r) reals cells (g .top) (g .used) runs
 idle-waits {b} {p} {fs} {us} {reals} {cells} {joins} {path} {g} {net} {runs} d idle = subst (λ (t : Bool). RunsIn t b (p .r) reals cells joins g runs) idle (d .waiting)
 
