@@ -8,7 +8,7 @@ use native.Mathlib.Omega.{arith}
 use borrow.Author.Tests.{eq-eqb, ne-eqb, ltb-true}
 use lib.Dec.{eqb, ltb}
 use lib.Ieee.{binary64, ofBits}
-use Rattle.net_node.proofs.Tables.{RoomIn, put-room, either}
+use Rattle.net_node.proofs.Tables.{RoomIn, put-room, either, put-same, put-other}
 use Rattle.laws.proofs.Answers.{Holds, holds-then}
 use Rattle.laws.proofs.Below.{or-right}
 use Rattle.net_node.specs.declared.EstTime.{EstTime}
@@ -25,7 +25,6 @@ use Rattle.arcs_growth.proofs.Graphs.{Graph, Timed, stop-graph}
 use Rattle.arcs_growth.proofs.Bodies.{EndAt, self-base}
 use Rattle.arcs_growth.proofs.Invariant.{Distinct}
 use Rattle.arcs_growth.proofs.AtEvents.{Notes, notes-more}
-use Rattle.arcs_growth.proofs.Writes.{put-same, put-other}
 
 -- every index of the first n nodes names one of them, a next one of the first m
 pub record Linked (node : ℕ → EstTime) (n m : ℕ) : Type 0 where

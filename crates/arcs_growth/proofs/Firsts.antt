@@ -6,7 +6,7 @@ use mathlib.Core.List.{List, [], _∷_}
 use Prim.Native.Nat.{ℕ, zero, suc, _<_}
 use native.Mathlib.Omega.{arith}
 use lib.Ieee.{binary64, ofBits}
-use Rattle.net_node.proofs.Tables.{RoomIn, put-room}
+use Rattle.net_node.proofs.Tables.{RoomIn, put-room, put-same, put-other}
 use Rattle.net_node.specs.declared.EstTime.{EstTime}
 use Rattle.net_node.specs.Table.{Indexed, blank, noLinkEvent, Table, put, at, isFake}
 use Rattle.laws.specs.Below.{sumBelow}
@@ -19,7 +19,6 @@ use Rattle.arcs_growth.proofs.Laid.{Each, Laid}
 use Rattle.arcs_growth.proofs.NewNodes.{apart}
 use Rattle.arcs_growth.proofs.Weights.{weigh, weigh-none, weigh-empty}
 use Rattle.arcs_growth.proofs.Invariant.{Grows, Waits}
-use Rattle.arcs_growth.proofs.Writes.{put-same, put-other}
 
 abbrev pub firstRole : ℕ → Role
 firstRole zero = nought

@@ -6,7 +6,7 @@ use mathlib.Core.List.{List, [], _∷_}
 use Prim.Native.Nat.{ℕ, zero, suc, _+_, _-_, _<_, _≤_}
 use native.Mathlib.Omega.{arith}
 use lib.Ieee.{binary64, sub}
-use Rattle.net_node.proofs.Tables.{RoomIn, put-room, either}
+use Rattle.net_node.proofs.Tables.{RoomIn, put-room, either, put-same, put-other}
 use Rattle.net_node.specs.declared.LinkEvent.{LinkEvent}
 use Rattle.net_node.specs.declared.EstTime.{EstTime}
 use Rattle.net_node.specs.declared.TimedEvent.{TimedEvent}
@@ -24,7 +24,7 @@ use Rattle.arcs_growth.proofs.Graphs.{Graph, Timed, join-graph}
 use Rattle.arcs_growth.proofs.Bodies.{Chains, EndAt, self-base}
 use Rattle.arcs_growth.proofs.Invariant.{Grows, Stands, Owned, Tip, Last, Waits, Later, stands-more, owned-popped}
 use Rattle.arcs_growth.proofs.Insertions.{real-event}
-use Rattle.arcs_growth.proofs.Writes.{put-same, put-other, put-column}
+use Rattle.arcs_growth.proofs.Writes.{put-column}
 
 -- ---- the end of a chain of previous alternatives
 

@@ -20,7 +20,7 @@ use Rattle.event_walk.specs.Course.{Course}
 use Rattle.event_walk.specs.Walk.{offsetNext, clearsNext, emits, turn, passedAs, passedNext, walk, turnsLeft, passedFrom, pointsPassed, start}
 use Rattle.grow_path.specs.Path.{legsTo, pathOf, linkOf, legCourse, eventAt, eventsAt, legEvents}
 use Rattle.grow_path.proofs.Paths.{path-more}
-use Rattle.grow_rules.specs.Growth.{originEvent}
+use Rattle.grow_rules.specs.Growth.{originArrive, originClear}
 use Rattle.arcs_growth.specs.Runs.{eventsOfLegs, originEvents, runEventsTo}
 use Rattle.arcs_growth.specs.Read.{Read}
 use Rattle.laws.proofs.Members.{All}
@@ -52,12 +52,12 @@ run-events-more {b} r i p h e =
 -- the events of a run that takes its first leg
 pub run-events-first : {b : List ℕ} → Read b → (i : ℕ) → i < legs b → legParent b i ≡ 0
     → runEventsTo b (suc i)
-    ≡ originEvent b (legLink b i) Arrive (ofBits binary64 0) ∷ originEvent b (legLink b i) Clear (add binary64 (ofBits binary64 0) (floatOf (lengthBits b))) ∷ legEvents b (suc i)
+    ≡ originArrive b (legLink b i) ∷ originClear b (legLink b i) ∷ legEvents b (suc i)
 unfolding runEventsTo pathOf legsTo eventsOfLegs linkOf
 run-events-first {b} r i h e =
     ap (λ (xs : List ℕ). originEvents b xs ++ eventsOfLegs b xs) (path r i 0 h e)
-    ∙ ap (λ (m : ℕ). originEvent b (legLink b m) Arrive (ofBits binary64 0) ∷ originEvent b (legLink b m) Clear (add binary64 (ofBits binary64 0) (floatOf (lengthBits b))) ∷ (legEvents b (suc i) ++ [])) less
-    ∙ ap (λ (xs : List TimedEvent). originEvent b (legLink b i) Arrive (ofBits binary64 0) ∷ originEvent b (legLink b i) Clear (add binary64 (ofBits binary64 0) (floatOf (lengthBits b))) ∷ xs) (append-nil (legEvents b (suc i)))
+    ∙ ap (λ (m : ℕ). originArrive b (legLink b m) ∷ originClear b (legLink b m) ∷ (legEvents b (suc i) ++ [])) less
+    ∙ ap (λ (xs : List TimedEvent). originArrive b (legLink b i) ∷ originClear b (legLink b i) ∷ xs) (append-nil (legEvents b (suc i)))
   where
     less : suc i - 1 ≡ i
     less = omega arith

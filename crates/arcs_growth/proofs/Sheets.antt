@@ -9,7 +9,7 @@ use borrow.Author.Tests.{eqb-true, eqb-false, eq-eqb, ne-eqb, ltb-true, lt-ltb}
 use lib.Dec.{eqb, ltb}
 use Rattle.net_node.specs.Table.{isFake}
 use Rattle.laws.specs.Below.{someBelow}
-use Rattle.laws.proofs.Below.{some-at}
+use Rattle.laws.proofs.Below.{some-at, or-right}
 use Rattle.net_node.specs.declared.EstTime.{EstTime}
 use Rattle.grow_rules.specs.Run.{Arc}
 use Rattle.arcs_growth.specs.Arcs.{isAlternative, isBase, alternativeOf, sourceOf, goalOf, arcOf}
@@ -264,10 +264,6 @@ module _ {L : Labels} {node : ℕ → EstTime} {n : ℕ} {arcs : List Arc} {k : 
       itself-is : itself (L .role i) ≡ true → (eqb i 1 || not (isFake (node i))) ≡ true → sourceOf node all (suc m) i ≡ L .owner i
       itself-is s c = source-here m i c ∙ sym (v .laid .each i h .own s)
 
-      either-true : (a c : Bool) → c ≡ true → (a || c) ≡ true
-      either-true true c q = refl
-      either-true false c q = q
-
       is-start : L .role i ≡ start → i ≡ 1
       is-start q = one i q (either i 0) (either i 1)
         where
@@ -279,7 +275,7 @@ module _ {L : Labels} {node : ℕ → EstTime} {n : ℕ} {arcs : List Arc} {k : 
       go : (r : Role) → L .role i ≡ r → baseRole r ≡ true → ((s : ℕ) → s < n → s < m → baseRole (L .role s) ≡ true → sourceOf node all m s ≡ L .owner s) → sourceOf node all (suc m) i ≡ L .owner i
       go nought q b ih = not-both b refl
       go start q b ih = itself-is (ap itself q) (ap (λ (c : Bool). c || not (isFake (node i))) (eq-eqb i 1 (is-start q)))
-      go event q b ih = itself-is (ap itself q) (either-true (eqb i 1) (not (isFake (node i))) (ap not (v .laid .each i h .kind ∙ ap fakeRole q)))
+      go event q b ih = itself-is (ap itself q) (or-right (eqb i 1) (not (isFake (node i))) (ap not (v .laid .each i h .kind ∙ ap fakeRole q)))
       go split q b ih =
           let p : ℕ = node i .«idx_prev» in
           let s : SplitOf L node i p = v .laid .each i h .splits p refl q in

@@ -8,7 +8,7 @@ use native.Mathlib.Omega.{arith}
 use borrow.Author.Tests.{ltb-true}
 use lib.Dec.{ltb}
 use lib.Ieee.{binary64, ofBits}
-use Rattle.net_node.proofs.Tables.{RoomIn, put-room, either}
+use Rattle.net_node.proofs.Tables.{RoomIn, put-room, either, put-same, put-other}
 use Rattle.laws.proofs.Answers.{Holds}
 use Rattle.laws.specs.Below.{sumBelow}
 use Rattle.net_node.specs.declared.EstTime.{EstTime}
@@ -25,7 +25,6 @@ use Rattle.arcs_growth.proofs.Weights.{weigh, weigh-same}
 use Rattle.arcs_growth.proofs.Graphs.{baseCount, next-within}
 use Rattle.arcs_growth.proofs.AtEvents.{Notes, notes-more}
 use Rattle.arcs_growth.proofs.Ends.{Linked, Ending}
-use Rattle.arcs_growth.proofs.Writes.{put-same, put-other}
 
 -- what is laid in n nodes is laid wherever these are the same
 pub laid-same : {L : Labels} {node after : ℕ → EstTime} {n : ℕ} → Laid L node n → ((i : ℕ) → i < n → after i ≡ node i) → Laid L after n

@@ -3,19 +3,10 @@ use mathlib.Core.Path.{_≡_, sym, ap, _∙_}
 use mathlib.Core.Logic.{_⊎_, inl, inr}
 use Prim.Native.Nat.{ℕ, suc, _<_}
 use native.Mathlib.Omega.{arith}
-use Rattle.net_node.proofs.Tables.{RoomIn, either}
+use Rattle.net_node.proofs.Tables.{RoomIn, either, put-same, put-other}
 use Rattle.net_node.specs.Table.{Table, put, at}
 use Rattle.net_node.specs.declared.EstTime.{EstTime}
-use Rattle.net_node.proofs.Nodes.{node-put-same, node-put-other}
 use Rattle.laws.proofs.Cases.{below}
-
-pub put-same : (t : Table) (i : ℕ) (x : EstTime) (places : ℕ) → RoomIn t places → i < places → at (put t i x) i ≡ x
-unfolding put at
-put-same t i x places r h = node-put-same (t .floats) (t .numbers) i x (omega (arith, r .floats)) (omega (arith, r .numbers))
-
-pub put-other : (t : Table) (i : ℕ) (x : EstTime) (j : ℕ) → (j ≡ i → ⊥) → at (put t i x) j ≡ at t j
-unfolding put at
-put-other t i x j h = node-put-other (t .floats) (t .numbers) i x j h
 
 -- a column that the new node has as the old one did
 pub put-column : {A : Type 0} (f : EstTime → A) (t : Table) (i : ℕ) (x : EstTime) (places : ℕ) → RoomIn t places → i < places → f x ≡ f (at t i) → (j : ℕ) → f (at (put t i x) j) ≡ f (at t j)

@@ -75,12 +75,14 @@ module _ (node : ℕ → EstTime) (n : ℕ) where
   unfolding arcsBelow
   arcsRead = arcsBelow n
 
--- ---- "the same as often each, both ends and every bit of time and distance"
+-- ---- arcs that are the same: both ends, and every bit of time and distance
 
 unfoldable pub sameArc : Arc → Arc → Bool
 sameArc a b =
-    eqb (a .from) (b .from) && eqb (a .to) (b .to) && eqb (toBits binary64 (a .time)) (toBits binary64 (b .time)) && eqb
-    (toBits binary64 (a .distance)) (toBits binary64 (b .distance))
+    eqb (a .from) (b .from)
+    && eqb (a .to) (b .to)
+    && eqb (toBits binary64 (a .time)) (toBits binary64 (b .time))
+    && eqb (toBits binary64 (a .distance)) (toBits binary64 (b .distance))
 
 abbrev pub one : Bool → ℕ
 one true = 1

@@ -5,15 +5,12 @@ use mathlib.Core.Path.{_≡_}
 use mathlib.Core.Logic.{_⊎_}
 use mathlib.Core.List.{List, [], _∷_, _++_}
 use Prim.Native.Nat.{ℕ, zero, suc, _-_}
-use lib.Ieee.{Float, binary64, add, sub, ofBits}
-use Rattle.book_format.specs.Format.{lengthBits, floatOf}
-use Rattle.net_node.specs.declared.EstType.{EstType}
-use Rattle.net_node.specs.declared.EstType.the-variants.{Arrive, Clear}
+use lib.Ieee.{binary64, sub}
 use Rattle.net_node.specs.declared.EstTime.{EstTime}
 use Rattle.net_node.specs.declared.TimedEvent.{TimedEvent}
 use Rattle.grow_path.specs.Path.{pathOf, linkOf, legEvents}
 use Rattle.grow_rules.specs.Run.{Arc}
-use Rattle.grow_rules.specs.Growth.{originEvent}
+use Rattle.grow_rules.specs.Growth.{originArrive, originClear}
 
 -- the events of legs, one leg after the other
 unfoldable pub eventsOfLegs : List ℕ → List ℕ → List TimedEvent
@@ -23,9 +20,7 @@ eventsOfLegs b (j ∷ js) = legEvents b j ++ eventsOfLegs b js
 -- "its origin's Arrive and Clear": the origin's link is that of the first leg
 abbrev pub originEvents : List ℕ → List ℕ → List TimedEvent
 originEvents b [] = []
-originEvents b (j ∷ js) =
-    originEvent b (linkOf b j) Arrive (ofBits binary64 0) ∷ originEvent b (linkOf b j) Clear
-    (add binary64 (ofBits binary64 0) (floatOf (lengthBits b))) ∷ []
+originEvents b (j ∷ js) = originArrive b (linkOf b j) ∷ originClear b (linkOf b j) ∷ []
 
 -- the events of the run that has taken the legs up to leg j
 unfoldable pub runEventsTo : List ℕ → ℕ → List TimedEvent

@@ -10,7 +10,7 @@ use Rattle.net_node.specs.Table.{isFake}
 use Rattle.net_node.specs.declared.EstTime.{EstTime}
 use Rattle.arcs_growth.specs.Arcs.{isAlternative, isBase, goalOf}
 
--- "event nodes, join Fakes and end Fakes": no node 0, no start, no end, no split Fake
+-- events, join Fakes and end Fakes: no node 0, no start, no end, no split Fake
 unfoldable pub isReceiver : (ℕ → EstTime) → ℕ → ℕ → Bool
 isReceiver node n i = ltb 1 i && ltb i (n - 1) && not (isAlternative node n i)
 

@@ -18,6 +18,7 @@ use Rattle.net_node.specs.Left.{Network}
 use Rattle.grow_rules.specs.Growth.{Grown}
 use Rattle.grow_events.specs.declared.Counts.{Counts}
 use Rattle.grow_events.specs.Held.{endsAt}
+use Rattle.net_insertion.specs.Insertion.{tableOf}
 use Rattle.grow_book.specs.Answers.{Closing, SomeClosing, closing, WholeAs}
 
 abbrev lastly : ℕ → Net → Network → Answer Grown
@@ -49,7 +50,7 @@ module _ (w : Layout) (fs : List Float) (us cells : List ℕ) (c : Counts) where
         pushed = subst (TailAs (endFakes (w .places) (net .ends) 0 (record { table = record { floats = fs; numbers = us }; nodes = c .nodes })) fs′ us′) e (t (net .ends) (k .holds .ends))
 
         counted : (n ≡ c .nodes + length (net .ends)) × (n ≤ w .places)
-        counted = fakes-counted (w .places) (c .nodes) n (net .ends) (record { floats = fs; numbers = us }) fs′ us′ (k .holds .within) pushed
+        counted = fakes-counted (w .places) (c .nodes) n (net .ends) (tableOf fs us) fs′ us′ (k .holds .within) pushed
 
         then-last : closing (w .places) net ≡ lastly (w .places) net (record { table = record { floats = fs′; numbers = us′ }; nodes = n })
         then-last = tail-is ∙ ap (λ (a : Answer Network). andThen a (lastly (w .places) net)) pushed

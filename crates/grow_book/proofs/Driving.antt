@@ -20,7 +20,7 @@ use Rattle.grow_state.specs.declared.Plan.{Plan}
 use Rattle.grow_state.specs.declared.State.{State}
 use Rattle.grow_state.specs.declared.GrowthAnswer.{GrowthAnswer}
 use Rattle.grow_state.specs.declared.GrowthAnswer.the-variants.{On, Refused}
-use Rattle.grow_state.specs.Held.{PlanIn, SameRuns, RunsIn, DriveIn, Driving, GivesAs, TurnedAs}
+use Rattle.grow_state.specs.Held.{PlanIn, SameRuns, RunsIn, DriveIn, Driving, GivesAs, TurnedAs, lists}
 use Rattle.grow_state.proofs.Keeping.{idle-waits}
 use Rattle.grow_book.specs.Answers.{nextTurn, DriveAs}
 
@@ -47,7 +47,7 @@ both true true e = (refl, refl)
 both true false e = absurd (true≢false (sym e))
 both false b e = absurd (true≢false (sym e))
 
-module _ {b : List ℕ} {p : Plan} {fs : List Float} {us : List ℕ} {reals : List Float} {cells joins path : List ℕ} {g : State} {net : Net} {runs : List Run} (d : DriveIn b p fs us reals cells joins path g net runs) where
+module _ {b : List ℕ} {p : Plan} {fs : List Float} {us : List ℕ} {reals : List Float} {cells joins path : List ℕ} {g : State} {net : Net} {runs : List Run} (d : DriveIn b p (lists fs us reals cells joins) path g net runs) where
   none-same : (ws : List Waiting) (rs : List Run) → ws ≡ [] → SameRuns b ws rs → rs ≡ []
   none-same [] [] e s = refl
   none-same [] (r ∷ rs) e s = absurd s
@@ -71,21 +71,21 @@ some-top false top e h = let d = eqb-false top 0 h in positive top d
     positive (suc n) d = omega arith
 
 module _ (b : List ℕ) (p : Plan) (fs : List Float) (us : List ℕ) (reals : List Float) (cells joins : List ℕ) (g : State) (moves : g .front .moves ≡ true) (fs′ : List Float) (us′ : List ℕ) (reals′ : List Float) (cells′ joins′ : List ℕ) (t : GrowthAnswer)
-    (told : (path : List ℕ) (net : Net) (run : Run) (saved : List Run) → DriveIn b p fs us reals cells joins path g net (run ∷ saved) → TurnedAs (takeLeg b (p .w .places) net run saved) b p fs′ us′ reals′ cells′ joins′ t) where
+    (told : (path : List ℕ) (net : Net) (run : Run) (saved : List Run) → DriveIn b p (lists fs us reals cells joins) path g net (run ∷ saved) → TurnedAs (takeLeg b (p .w .places) net run saved) b p (lists fs′ us′ reals′ cells′ joins′) t) where
   -- where one moves, there is one
-  pub turn-as : (path : List ℕ) (net : Net) (runs : List Run) → DriveIn b p fs us reals cells joins path g net runs → TurnedAs (nextTurn b (p .w .places) net runs) b p fs′ us′ reals′ cells′ joins′ t
+  pub turn-as : (path : List ℕ) (net : Net) (runs : List Run) → DriveIn b p (lists fs us reals cells joins) path g net runs → TurnedAs (nextTurn b (p .w .places) net runs) b p (lists fs′ us′ reals′ cells′ joins′) t
   turn-as path net [] d = absurd (subst (λ (x : Bool). RunsIn x b (p .r) reals cells joins g []) moves (d .waiting))
   turn-as path net (run ∷ saved) d = told path net run saved d
 
 -- the run that was saved last is taken up first
 module _ (b : List ℕ) (p : Plan) (fs : List Float) (us : List ℕ) (reals : List Float) (cells joins joins′ : List ℕ) (g h : State)
-    (held : (b : List ℕ) (fs : List Float) (us path : List ℕ) (net : Net) (runs : List Run) → DriveIn b p fs us reals cells joins path g net runs → DriveIn b p fs us reals cells joins′ path h net runs) where
-  pub up-driving : Driving b p fs us reals cells joins g → Driving b p fs us reals cells joins′ h
+    (held : (b : List ℕ) (fs : List Float) (us path : List ℕ) (net : Net) (runs : List Run) → DriveIn b p (lists fs us reals cells joins) path g net runs → DriveIn b p (lists fs us reals cells joins′) path h net runs) where
+  pub up-driving : Driving b p (lists fs us reals cells joins) g → Driving b p (lists fs us reals cells joins′) h
   up-driving s = record { path = s .path; net = s .net; runs = s .runs; holds = held b fs us (s .path) (s .net) (s .runs) (s .holds) }
 
   pub up-turn-as : (fs′ : List Float) (us′ : List ℕ) (reals′ : List Float) (cells′ joins″ : List ℕ) (t : GrowthAnswer) → h .front .moves ≡ true
-      → ((path : List ℕ) (net : Net) (run : Run) (saved : List Run) → DriveIn b p fs us reals cells joins′ path h net (run ∷ saved) → TurnedAs (takeLeg b (p .w .places) net run saved) b p fs′ us′ reals′ cells′ joins″ t)
-      → (path : List ℕ) (net : Net) (runs : List Run) → DriveIn b p fs us reals cells joins path g net runs → TurnedAs (nextTurn b (p .w .places) net runs) b p fs′ us′ reals′ cells′ joins″ t
+      → ((path : List ℕ) (net : Net) (run : Run) (saved : List Run) → DriveIn b p (lists fs us reals cells joins′) path h net (run ∷ saved) → TurnedAs (takeLeg b (p .w .places) net run saved) b p (lists fs′ us′ reals′ cells′ joins″) t)
+      → (path : List ℕ) (net : Net) (runs : List Run) → DriveIn b p (lists fs us reals cells joins) path g net runs → TurnedAs (nextTurn b (p .w .places) net runs) b p (lists fs′ us′ reals′ cells′ joins″) t
   up-turn-as fs′ us′ reals′ cells′ joins″ t moves told path net runs d = turn-as b p fs us reals cells joins′ h moves fs′ us′ reals′ cells′ joins″ t told path net runs (held b fs us path net runs d)
 
 -- ---- the loop
@@ -95,7 +95,7 @@ pub record Goes (b : List ℕ) (p : Plan) (fs : List Float) (us : List ℕ) (rea
   pub path : List ℕ
   pub net : Net
   pub runs : List Run
-  pub holds : DriveIn b p fs us reals cells joins path g net runs
+  pub holds : DriveIn b p (lists fs us reals cells joins) path g net runs
   pub same : answer ≡ drive n b (p .w .places) net runs
 
 pub record Turning (b : List ℕ) (p : Plan) (fs₀ : List Float) (us₀ : List ℕ) (reals₀ : List Float) (cells₀ joins₀ scratch₀ stack₀ : List ℕ) (g₀ : State) (fs : List Float) (us : List ℕ) (reals : List Float) (cells joins scratch stack : List ℕ) (g : State) (k : ℕ) : Type 0 where
@@ -107,7 +107,7 @@ pub record Turning (b : List ℕ) (p : Plan) (fs₀ : List Float) (us₀ : List 
   pub joins-long : length joins ≡ length joins₀
   pub scratch-long : length scratch ≡ length scratch₀
   pub stack-long : length stack ≡ length stack₀
-  pub goes : (path : List ℕ) (net : Net) (runs : List Run) → DriveIn b p fs₀ us₀ reals₀ cells₀ joins₀ path g₀ net runs → Goes b p fs us reals cells joins g (legs b - k) (drive (legs b) b (p .w .places) net runs)
+  pub goes : (path : List ℕ) (net : Net) (runs : List Run) → DriveIn b p (lists fs₀ us₀ reals₀ cells₀ joins₀) path g₀ net runs → Goes b p fs us reals cells joins g (legs b - k) (drive (legs b) b (p .w .places) net runs)
 
 pub turning-start : (b : List ℕ) (p : Plan) (fs : List Float) (us : List ℕ) (reals : List Float) (cells joins scratch stack : List ℕ) (g : State) → Turning b p fs us reals cells joins scratch stack g fs us reals cells joins scratch stack g 0
 turning-start b p fs us reals cells joins scratch stack g = record {
@@ -133,34 +133,34 @@ module _ (b : List ℕ) (p : Plan) (fs₀ : List Float) (us₀ : List ℕ) (real
   pub turning-plan : PlanIn b p (length reals₀) → PlanIn b p (length reals)
   turning-plan plan = subst (PlanIn b p) (sym (v .reals-long)) plan
 
-  pub turning-some : Driving b p fs₀ us₀ reals₀ cells₀ joins₀ g₀ → Driving b p fs us reals cells joins g
+  pub turning-some : Driving b p (lists fs₀ us₀ reals₀ cells₀ joins₀) g₀ → Driving b p (lists fs us reals cells joins) g
   turning-some s = let x = v .goes (s .path) (s .net) (s .runs) (s .holds) in record { path = x .path; net = x .net; runs = x .runs; holds = x .holds }
 
   -- no run is left
-  pub turning-done : (not (g .front .moves) && eqb (g .top) 0) ≡ true → (path : List ℕ) (net : Net) (runs : List Run) → DriveIn b p fs₀ us₀ reals₀ cells₀ joins₀ path g₀ net runs
+  pub turning-done : (not (g .front .moves) && eqb (g .top) 0) ≡ true → (path : List ℕ) (net : Net) (runs : List Run) → DriveIn b p (lists fs₀ us₀ reals₀ cells₀ joins₀) path g₀ net runs
       → DriveAs (drive (legs b) b (p .w .places) net runs) p fs us cells (On g)
   turning-done e path net runs d =
       let x = v .goes path net runs d in
       record { net = x .net; is = x .same ∙ ap (drive (legs b - k) b (p .w .places) (x .net)) (none-left (x .holds) e) ∙ drive-none (legs b - k) b (p .w .places) (x .net); holds = x .holds .grown }
 
   -- each leg had its turn
-  pub turning-over : legs b ≤ k → (path : List ℕ) (net : Net) (runs : List Run) → DriveIn b p fs₀ us₀ reals₀ cells₀ joins₀ path g₀ net runs → DriveAs (drive (legs b) b (p .w .places) net runs) p fs us cells (On g)
+  pub turning-over : legs b ≤ k → (path : List ℕ) (net : Net) (runs : List Run) → DriveIn b p (lists fs₀ us₀ reals₀ cells₀ joins₀) path g₀ net runs → DriveAs (drive (legs b) b (p .w .places) net runs) p fs us cells (On g)
   turning-over h path net runs d =
       let x = v .goes path net runs d in
       let e : legs b - k ≡ 0 = omega arith in
       record { net = x .net; is = x .same ∙ ap (λ (n : ℕ). drive n b (p .w .places) (x .net) (x .runs)) e ∙ drive-over b (p .w .places) (x .net) (x .runs); holds = x .holds .grown }
 
   module _ (h : k < legs b) (fs′ : List Float) (us′ : List ℕ) (reals′ : List Float) (cells′ joins′ : List ℕ) (t : GrowthAnswer)
-      (told : (path : List ℕ) (net : Net) (runs : List Run) → DriveIn b p fs us reals cells joins path g net runs → TurnedAs (nextTurn b (p .w .places) net runs) b p fs′ us′ reals′ cells′ joins′ t) where
+      (told : (path : List ℕ) (net : Net) (runs : List Run) → DriveIn b p (lists fs us reals cells joins) path g net runs → TurnedAs (nextTurn b (p .w .places) net runs) b p (lists fs′ us′ reals′ cells′ joins′) t) where
     unfolds : {answer : Answer Net} → (x : Goes b p fs us reals cells joins g (legs b - k) answer) → answer ≡ andThen (nextTurn b (p .w .places) (x .net) (x .runs)) (λ (y : Growth). drive (legs b - (k + 1)) b (p .w .places) (y .net) (y .saved))
     unfolds x =
         let e : legs b - k ≡ suc (legs b - (k + 1)) = omega arith in
         x .same ∙ ap (λ (n : ℕ). drive n b (p .w .places) (x .net) (x .runs)) e ∙ drive-turn (legs b - (k + 1)) b (p .w .places) (x .net) (x .runs)
 
-    pub turning-stop : (n : ℕ) → t ≡ Refused n → (path : List ℕ) (net : Net) (runs : List Run) → DriveIn b p fs₀ us₀ reals₀ cells₀ joins₀ path g₀ net runs → DriveAs (drive (legs b) b (p .w .places) net runs) p fs′ us′ cells′ t
+    pub turning-stop : (n : ℕ) → t ≡ Refused n → (path : List ℕ) (net : Net) (runs : List Run) → DriveIn b p (lists fs₀ us₀ reals₀ cells₀ joins₀) path g₀ net runs → DriveAs (drive (legs b) b (p .w .places) net runs) p fs′ us′ cells′ t
     turning-stop n e path net runs d =
         let x = v .goes path net runs d in
-        let q : nextTurn b (p .w .places) (x .net) (x .runs) ≡ refused n = subst (TurnedAs (nextTurn b (p .w .places) (x .net) (x .runs)) b p fs′ us′ reals′ cells′ joins′) e (told (x .path) (x .net) (x .runs) (x .holds)) in
+        let q : nextTurn b (p .w .places) (x .net) (x .runs) ≡ refused n = subst (TurnedAs (nextTurn b (p .w .places) (x .net) (x .runs)) b p (lists fs′ us′ reals′ cells′ joins′)) e (told (x .path) (x .net) (x .runs) (x .holds)) in
         subst (DriveAs (drive (legs b) b (p .w .places) net runs) p fs′ us′ cells′) (sym e) (unfolds x ∙ ap (λ (a : Answer Growth). andThen a (λ (y : Growth). drive (legs b - (k + 1)) b (p .w .places) (y .net) (y .saved))) q)
 
     pub turning-on : (g′ : State) → t ≡ On g′ → (scratch′ stack′ : List ℕ) → length fs′ ≡ length fs → length us′ ≡ length us → length reals′ ≡ length reals → length cells′ ≡ length cells → length joins′ ≡ length joins → length scratch′ ≡ length scratch → length stack′ ≡ length stack
@@ -176,6 +176,6 @@ module _ (b : List ℕ) (p : Plan) (fs₀ : List Float) (us₀ : List ℕ) (real
       stack-long = lt ∙ v .stack-long;
       goes = λ path net runs d.
           let x = v .goes path net runs d in
-          let q : GivesAs (nextTurn b (p .w .places) (x .net) (x .runs)) b p fs′ us′ reals′ cells′ joins′ g′ = subst (TurnedAs (nextTurn b (p .w .places) (x .net) (x .runs)) b p fs′ us′ reals′ cells′ joins′) e (told (x .path) (x .net) (x .runs) (x .holds)) in
+          let q : GivesAs (nextTurn b (p .w .places) (x .net) (x .runs)) b p (lists fs′ us′ reals′ cells′ joins′) g′ = subst (TurnedAs (nextTurn b (p .w .places) (x .net) (x .runs)) b p (lists fs′ us′ reals′ cells′ joins′)) e (told (x .path) (x .net) (x .runs) (x .holds)) in
           record { path = q .path; net = q .growth .net; runs = q .growth .saved; holds = q .holds; same = unfolds x ∙ ap (λ (a : Answer Growth). andThen a (λ (y : Growth). drive (legs b - (k + 1)) b (p .w .places) (y .net) (y .saved))) (q .is) };
     }

@@ -30,8 +30,9 @@ use Rattle.grow_state.specs.declared.Plan.{Plan}
 use Rattle.grow_state.specs.declared.State.{State}
 use Rattle.grow_state.specs.declared.GrowthAnswer.{GrowthAnswer}
 use Rattle.grow_state.specs.declared.GrowthAnswer.the-variants.{On, Refused}
-use Rattle.grow_state.specs.Held.{PlanIn, DriveIn, Driving}
+use Rattle.grow_state.specs.Held.{PlanIn, DriveIn, Driving, lists}
 use Rattle.grow_origins.specs.Origins.{startState, OriginsIn, SomeOrigins, OnlyStart, OriginsGiven, OriginsAs}
+use Rattle.net_insertion.specs.Insertion.{tableOf}
 use Rattle.grow_book.specs.declared.GrownBook.{GrownBook}
 use Rattle.grow_book.specs.Answers.{DrivenAs, DriveAs, closing, grownFrom, Closing, SomeClosing, GrownAs}
 
@@ -57,46 +58,46 @@ unfolding startState
 all-start fs us g first s = subst (λ (x : State). OnlyStart (nodeAt fs us) (x .counts .nodes)) (sym first) s
 
 module _ (b : List ℕ) (p : Plan) (fs : List Float) (us : List ℕ) (reals : List Float) (cells joins : List ℕ) (g : State) (first : g ≡ startState) where
-  pub all-some : SomeOrigins b p fs us reals cells joins (keptOrigins b) startState → SomeOrigins b p fs us reals cells joins (keptOrigins b) g
-  all-some s = subst (SomeOrigins b p fs us reals cells joins (keptOrigins b)) (sym first) s
+  pub all-some : SomeOrigins b p (lists fs us reals cells joins) (keptOrigins b) startState → SomeOrigins b p (lists fs us reals cells joins) (keptOrigins b) g
+  all-some s = subst (SomeOrigins b p (lists fs us reals cells joins) (keptOrigins b)) (sym first) s
 
   module _ (fs′ : List Float) (us′ : List ℕ) (reals′ : List Float) (cells′ : List ℕ) (t : GrowthAnswer)
-      (told : (net : Net) (runs : List Run) → OriginsIn b p fs us reals cells joins (keptOrigins b) g net runs → OriginsAs (growOrigins b (p .w .places) (keptOrigins b) (record { net = net; saved = runs })) b p fs′ us′ reals′ cells′ joins [] t) where
-    with_origins : (net : Net) (runs : List Run) → OriginsIn b p fs us reals cells joins (keptOrigins b) startState net runs → OriginsAs (growOrigins b (p .w .places) (keptOrigins b) (record { net = net; saved = runs })) b p fs′ us′ reals′ cells′ joins [] t
-    with_origins net runs o = told net runs (subst (λ (x : State). OriginsIn b p fs us reals cells joins (keptOrigins b) x net runs) (sym first) o)
+      (told : (net : Net) (runs : List Run) → OriginsIn b p (lists fs us reals cells joins) (keptOrigins b) g net runs → OriginsAs (growOrigins b (p .w .places) (keptOrigins b) (record { net = net; saved = runs })) b p (lists fs′ us′ reals′ cells′ joins) [] t) where
+    with_origins : (net : Net) (runs : List Run) → OriginsIn b p (lists fs us reals cells joins) (keptOrigins b) startState net runs → OriginsAs (growOrigins b (p .w .places) (keptOrigins b) (record { net = net; saved = runs })) b p (lists fs′ us′ reals′ cells′ joins) [] t
+    with_origins net runs o = told net runs (subst (λ (x : State). OriginsIn b p (lists fs us reals cells joins) (keptOrigins b) x net runs) (sym first) o)
 
-    pub all-stopped : (k : ℕ) → t ≡ Refused k → (net : Net) → OriginsIn b p fs us reals cells joins (keptOrigins b) startState net [] → grownFrom b (p .w .places) net ≡ refused k
-    all-stopped k e net o = from-is b (p .w .places) net ∙ ap (λ (a : Answer Growth). andThen a (driven-from b (p .w .places))) (subst (OriginsAs (growOrigins b (p .w .places) (keptOrigins b) (record { net = net; saved = [] })) b p fs′ us′ reals′ cells′ joins []) e (with_origins net [] o))
+    pub all-stopped : (k : ℕ) → t ≡ Refused k → (net : Net) → OriginsIn b p (lists fs us reals cells joins) (keptOrigins b) startState net [] → grownFrom b (p .w .places) net ≡ refused k
+    all-stopped k e net o = from-is b (p .w .places) net ∙ ap (λ (a : Answer Growth). andThen a (driven-from b (p .w .places))) (subst (OriginsAs (growOrigins b (p .w .places) (keptOrigins b) (record { net = net; saved = [] })) b p (lists fs′ us′ reals′ cells′ joins) []) e (with_origins net [] o))
 
     module _ (s : State) (e : t ≡ On s) where
-      as-origins : (net : Net) (runs : List Run) → OriginsIn b p fs us reals cells joins (keptOrigins b) startState net runs → OriginsGiven (growOrigins b (p .w .places) (keptOrigins b) (record { net = net; saved = runs })) b p fs′ us′ reals′ cells′ joins [] s
-      as-origins net runs o = subst (OriginsAs (growOrigins b (p .w .places) (keptOrigins b) (record { net = net; saved = runs })) b p fs′ us′ reals′ cells′ joins []) e (with_origins net runs o)
+      as-origins : (net : Net) (runs : List Run) → OriginsIn b p (lists fs us reals cells joins) (keptOrigins b) startState net runs → OriginsGiven (growOrigins b (p .w .places) (keptOrigins b) (record { net = net; saved = runs })) b p (lists fs′ us′ reals′ cells′ joins) [] s
+      as-origins net runs o = subst (OriginsAs (growOrigins b (p .w .places) (keptOrigins b) (record { net = net; saved = runs })) b p (lists fs′ us′ reals′ cells′ joins) []) e (with_origins net runs o)
 
-      pub all-driving : SomeOrigins b p fs us reals cells joins (keptOrigins b) startState → Driving b p fs′ us′ reals′ cells′ joins s
+      pub all-driving : SomeOrigins b p (lists fs us reals cells joins) (keptOrigins b) startState → Driving b p (lists fs′ us′ reals′ cells′ joins) s
       all-driving q = let x = as-origins (q .net) (q .runs) (q .origins) in record { path = []; net = x .growth .net; runs = x .growth .saved; holds = x .origins .holds }
 
       module _ (fs″ : List Float) (us″ cells″ : List ℕ) (d : GrowthAnswer)
-          (drove : (path : List ℕ) (net : Net) (runs : List Run) → DriveIn b p fs′ us′ reals′ cells′ joins path s net runs → DriveAs (drive (legs b) b (p .w .places) net runs) p fs″ us″ cells″ d) where
-        from-driven : (net : Net) (runs : List Run) (x : OriginsGiven (growOrigins b (p .w .places) (keptOrigins b) (record { net = net; saved = [] })) b p fs′ us′ reals′ cells′ joins [] s)
+          (drove : (path : List ℕ) (net : Net) (runs : List Run) → DriveIn b p (lists fs′ us′ reals′ cells′ joins) path s net runs → DriveAs (drive (legs b) b (p .w .places) net runs) p fs″ us″ cells″ d) where
+        from-driven : (net : Net) (runs : List Run) (x : OriginsGiven (growOrigins b (p .w .places) (keptOrigins b) (record { net = net; saved = [] })) b p (lists fs′ us′ reals′ cells′ joins) [] s)
             → grownFrom b (p .w .places) net ≡ andThen (drive (legs b) b (p .w .places) (x .growth .net) (x .growth .saved)) (closing (p .w .places))
         from-driven net runs x = from-is b (p .w .places) net ∙ ap (λ (a : Answer Growth). andThen a (driven-from b (p .w .places))) (x .is) ∙ driven-is b (p .w .places) (x .growth)
 
-        pub all-refused : (k : ℕ) → d ≡ Refused k → (net : Net) → OriginsIn b p fs us reals cells joins (keptOrigins b) startState net [] → grownFrom b (p .w .places) net ≡ refused k
+        pub all-refused : (k : ℕ) → d ≡ Refused k → (net : Net) → OriginsIn b p (lists fs us reals cells joins) (keptOrigins b) startState net [] → grownFrom b (p .w .places) net ≡ refused k
         all-refused k q net o =
             let x = as-origins net [] o in
             from-driven net [] x ∙ ap (λ (a : Answer Net). andThen a (closing (p .w .places))) (subst (DriveAs (drive (legs b) b (p .w .places) (x .growth .net) (x .growth .saved)) p fs″ us″ cells″) q (drove [] (x .growth .net) (x .growth .saved) (x .origins .holds)))
 
         module _ (z : State) (q : d ≡ On z) where
-          as-driven : (net : Net) (runs : List Run) → DriveIn b p fs′ us′ reals′ cells′ joins [] s net runs → DrivenAs (drive (legs b) b (p .w .places) net runs) p fs″ us″ cells″ z
+          as-driven : (net : Net) (runs : List Run) → DriveIn b p (lists fs′ us′ reals′ cells′ joins) [] s net runs → DrivenAs (drive (legs b) b (p .w .places) net runs) p fs″ us″ cells″ z
           as-driven net runs h = subst (DriveAs (drive (legs b) b (p .w .places) net runs) p fs″ us″ cells″) q (drove [] net runs h)
 
-          pub all-closing : SomeOrigins b p fs us reals cells joins (keptOrigins b) startState → SomeClosing (p .w) fs″ us″ cells″ (z .counts)
+          pub all-closing : SomeOrigins b p (lists fs us reals cells joins) (keptOrigins b) startState → SomeClosing (p .w) fs″ us″ cells″ (z .counts)
           all-closing o =
               let x = as-origins (o .net) (o .runs) (o .origins) in
               let y = as-driven (x .growth .net) (x .growth .saved) (x .origins .holds) in
               record { net = y .net; closes = record { start = cells″; holds = y .holds } }
 
-          pub all-grown : (fs‴ : List Float) (us‴ : List ℕ) (r : GrownBook) → ((net : Net) → Closing (p .w) fs″ us″ cells″ (z .counts) net → GrownAs (closing (p .w .places) net) fs‴ us‴ r) → (net : Net) → OriginsIn b p fs us reals cells joins (keptOrigins b) startState net []
+          pub all-grown : (fs‴ : List Float) (us‴ : List ℕ) (r : GrownBook) → ((net : Net) → Closing (p .w) fs″ us″ cells″ (z .counts) net → GrownAs (closing (p .w .places) net) fs‴ us‴ r) → (net : Net) → OriginsIn b p (lists fs us reals cells joins) (keptOrigins b) startState net []
               → GrownAs (grownFrom b (p .w .places) net) fs‴ us‴ r
           all-grown fs‴ us‴ r f net o =
               let x = as-origins net [] o in
@@ -152,14 +153,14 @@ abbrev firstTable : Table → Float → Table
 firstTable t time = put (put t 0 (fakeNode 1 0 0 (ofBits binary64 0))) 1 (fakeNode 0 0 0 time)
 
 -- nothing is behind node 1
-pub book-start : (fs : List Float) (us : List ℕ) (places : ℕ) → places ≡ placesOf (length fs) (length us) → 2 ≤ places → (time : Float) (fs′ : List Float) (us′ : List ℕ) → fs′ ≡ firstTable (record { floats = fs; numbers = us }) time .floats
-    → us′ ≡ firstTable (record { floats = fs; numbers = us }) time .numbers → OnlyStart (nodeAt fs′ us′) 2
+pub book-start : (fs : List Float) (us : List ℕ) (places : ℕ) → places ≡ placesOf (length fs) (length us) → 2 ≤ places → (time : Float) (fs′ : List Float) (us′ : List ℕ) → fs′ ≡ firstTable (tableOf fs us) time .floats
+    → us′ ≡ firstTable (tableOf fs us) time .numbers → OnlyStart (nodeAt fs′ us′) 2
 unfolding fakeNode at
 book-start fs us places e h time fs′ us′ df du =
     let f = places-fit e in
     let one : nodeAt fs′ us′ 1 ≡ fakeNode 0 0 0 time =
-    ap (λ (x : List Float). nodeAt x us′ 1) df ∙ ap (λ (x : List ℕ). nodeAt (firstTable (record { floats = fs; numbers = us }) time .floats) x 1) du
-    ∙ node-one (record { floats = fs; numbers = us }) time places (record { floats = f .floats-fit; numbers = f .numbers-fit; most = f .most }) (omega arith) in
+    ap (λ (x : List Float). nodeAt x us′ 1) df ∙ ap (λ (x : List ℕ). nodeAt (firstTable (tableOf fs us) time .floats) x 1) du
+    ∙ node-one (tableOf fs us) time places (record { floats = f .floats-fit; numbers = f .numbers-fit; most = f .most }) (omega arith) in
     record { two = refl; no-next = ap (λ (x : EstTime). x .«idx_next») one; no-alt = ap (λ (x : EstTime). x .«idx_next_alt») one }
 
 module _ {b : List ℕ} {s : Sections} {kept : ℕ} {cells marks : List ℕ} (ready : Ready b s kept cells marks) (p : Plan) (reals : List Float) (plan : PlanIn b p (length reals)) (at-zero : getD reals 0 nan ≡ ofBits binary64 0)
@@ -189,7 +190,7 @@ module _ {b : List ℕ} {s : Sections} {kept : ℕ} {cells marks : List ℕ} (re
     elsewhere = λ q h f. refl;
   }
 
-  start-origins : (joins : List ℕ) → OriginsIn b p (firstTable t (p .departure) .floats) (firstTable t (p .departure) .numbers) reals cells joins (keptOrigins b) startState (firstNodes b t) []
+  start-origins : (joins : List ℕ) → OriginsIn b p (lists (firstTable t (p .departure) .floats) (firstTable t (p .departure) .numbers) reals cells joins) (keptOrigins b) startState (firstNodes b t) []
   unfolding startState
   start-origins joins = record {
     holds = record {
@@ -206,27 +207,27 @@ module _ {b : List ℕ} {s : Sections} {kept : ℕ} {cells marks : List ℕ} (re
     firsts = tt;
   }
 
-  first-origins : (fs′ : List Float) (us′ : List ℕ) → fs′ ≡ firstTable (record { floats = fs; numbers = us }) (p .departure) .floats → us′ ≡ firstTable (record { floats = fs; numbers = us }) (p .departure) .numbers → (joins : List ℕ)
-      → OriginsIn b p fs′ us′ reals cells joins (keptOrigins b) startState (firstNodes b (record { floats = fs; numbers = us })) []
+  first-origins : (fs′ : List Float) (us′ : List ℕ) → fs′ ≡ firstTable (tableOf fs us) (p .departure) .floats → us′ ≡ firstTable (tableOf fs us) (p .departure) .numbers → (joins : List ℕ)
+      → OriginsIn b p (lists fs′ us′ reals cells joins) (keptOrigins b) startState (firstNodes b (tableOf fs us)) []
   unfolding t
   first-origins fs′ us′ df du joins =
-      subst (λ (x : List Float). OriginsIn b p x us′ reals cells joins (keptOrigins b) startState (firstNodes b (record { floats = fs; numbers = us })) []) (sym df)
-      (subst (λ (x : List ℕ). OriginsIn b p (firstTable (record { floats = fs; numbers = us }) (p .departure) .floats) x reals cells joins (keptOrigins b) startState (firstNodes b (record { floats = fs; numbers = us })) []) (sym du) (start-origins joins))
+      subst (λ (x : List Float). OriginsIn b p (lists x us′ reals cells joins) (keptOrigins b) startState (firstNodes b (tableOf fs us)) []) (sym df)
+      (subst (λ (x : List ℕ). OriginsIn b p (lists (firstTable (tableOf fs us) (p .departure) .floats) x reals cells joins) (keptOrigins b) startState (firstNodes b (tableOf fs us)) []) (sym du) (start-origins joins))
 
 -- the same by what `grow_book` asks and its parts tell
 module _ {b : List ℕ} {s : Sections} {kept : ℕ} {cells marks : List ℕ} (ready : Ready b s kept cells marks) (p : Plan) (reals : List Float) (plan : PlanIn b p (length reals)) (at-zero : getD reals 0 nan ≡ ofBits binary64 0)
     (fs : List Float) (us : List ℕ) (places : ℕ) (are : places ≡ placesOf (length fs) (length us)) (planned : p .w .places ≡ places) (some : 2 ≤ places) (behind : p .w .«links_at» ≡ (legs b + 1) * 8 + places * 8)
-    (long : (legs b + 1 + placesOf (length fs) (length us) + links b) * 8 ≤ length cells) (fs′ : List Float) (us′ : List ℕ) (df : fs′ ≡ firstTable (record { floats = fs; numbers = us }) (p .departure) .floats)
-    (du : us′ ≡ firstTable (record { floats = fs; numbers = us }) (p .departure) .numbers) (joins : List ℕ) where
-  book-origins : OriginsIn b p fs′ us′ reals cells joins (keptOrigins b) startState (firstNodes b (record { floats = fs; numbers = us })) []
+    (long : (legs b + 1 + placesOf (length fs) (length us) + links b) * 8 ≤ length cells) (fs′ : List Float) (us′ : List ℕ) (df : fs′ ≡ firstTable (tableOf fs us) (p .departure) .floats)
+    (du : us′ ≡ firstTable (tableOf fs us) (p .departure) .numbers) (joins : List ℕ) where
+  book-origins : OriginsIn b p (lists fs′ us′ reals cells joins) (keptOrigins b) startState (firstNodes b (tableOf fs us)) []
   book-origins =
       first-origins ready p reals plan at-zero fs us (let f = places-fit (planned ∙ are) in record { floats = f .floats-fit; numbers = f .numbers-fit; most = f .most }) (omega (arith, planned)) (omega (arith, behind, planned)) (omega (arith, long, planned, are)) fs′ us′ df du joins
 
-  pub book-some : SomeOrigins b p fs′ us′ reals cells joins (keptOrigins b) startState
-  book-some = record { net = firstNodes b (record { floats = fs; numbers = us }); runs = []; origins = book-origins }
+  pub book-some : SomeOrigins b p (lists fs′ us′ reals cells joins) (keptOrigins b) startState
+  book-some = record { net = firstNodes b (tableOf fs us); runs = []; origins = book-origins }
 
-  pub book-grown : (fs″ : List Float) (us″ : List ℕ) (r : GrownBook) → ((net : Net) → OriginsIn b p fs′ us′ reals cells joins (keptOrigins b) startState net [] → GrownAs (grownFrom b (p .w .places) net) fs″ us″ r)
-      → GrownAs (grow b (placesOf (length fs) (length us)) (record { floats = fs; numbers = us })) fs″ us″ r
+  pub book-grown : (fs″ : List Float) (us″ : List ℕ) (r : GrownBook) → ((net : Net) → OriginsIn b p (lists fs′ us′ reals cells joins) (keptOrigins b) startState net [] → GrownAs (grownFrom b (p .w .places) net) fs″ us″ r)
+      → GrownAs (grow b (placesOf (length fs) (length us)) (tableOf fs us)) fs″ us″ r
   book-grown fs″ us″ r f =
-      subst (λ (a : Answer Grown). GrownAs a fs″ us″ r) (sym (grow-from b (placesOf (length fs) (length us)) (record { floats = fs; numbers = us }) (omega (arith, are))))
-      (subst (λ (n : ℕ). GrownAs (grownFrom b n (firstNodes b (record { floats = fs; numbers = us }))) fs″ us″ r) (planned ∙ are) (f (firstNodes b (record { floats = fs; numbers = us })) book-origins))
+      subst (λ (a : Answer Grown). GrownAs a fs″ us″ r) (sym (grow-from b (placesOf (length fs) (length us)) (tableOf fs us) (omega (arith, are))))
+      (subst (λ (n : ℕ). GrownAs (grownFrom b n (firstNodes b (tableOf fs us))) fs″ us″ r) (planned ∙ are) (f (firstNodes b (tableOf fs us)) book-origins))

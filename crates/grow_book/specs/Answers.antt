@@ -91,15 +91,14 @@ GrownAs answer fs us (Stopped k) = answer ≡ refused k
 abbrev pub TakesNext : List ℕ → Plan → State → Lists → Lists → GrowthAnswer → Type 0
 TakesNext b p g s s′ r =
     (path : List ℕ) (net : Net) (runs : List Run)
-    → DriveIn b p (s .floats) (s .numbers) (s .reals) (s .cells) (s .joins) path g net runs
-    → TurnedAs (nextTurn b (p .w .places) net runs)
-    b p (s′ .floats) (s′ .numbers) (s′ .reals) (s′ .cells) (s′ .joins) r
+    → DriveIn b p s path g net runs
+    → TurnedAs (nextTurn b (p .w .places) net runs) b p s′ r
 
 -- all runs take their legs
 abbrev pub Drives : List ℕ → Plan → State → Lists → Lists → GrowthAnswer → Type 0
 Drives b p g s s′ r =
     (path : List ℕ) (net : Net) (runs : List Run)
-    → DriveIn b p (s .floats) (s .numbers) (s .reals) (s .cells) (s .joins) path g net runs
+    → DriveIn b p s path g net runs
     → DriveAs (drive (legs b) b (p .w .places) net runs) p (s′ .floats) (s′ .numbers) (s′ .cells) r
 
 -- the end Fakes and the last node are put behind a network
@@ -112,5 +111,5 @@ Closes w c t cells t′ r =
 abbrev pub GrowsFirst : List ℕ → Plan → Lists → Table → GrownBook → Type 0
 GrowsFirst b p s t′ r =
     (net : Net)
-    → OriginsIn b p (s .floats) (s .numbers) (s .reals) (s .cells) (s .joins) (keptOrigins b) startState net []
+    → OriginsIn b p s (keptOrigins b) startState net []
     → GrownAs (grownFrom b (p .w .places) net) (t′ .floats) (t′ .numbers) r

@@ -21,7 +21,7 @@ ghost use Rattle.book_legs.specs.Legs.{Started};
 ghost use Rattle.book_options.specs.Options.{OptionsIn, keptOrigins};
 ghost use Rattle.book_reader.specs.Reader.{Ready};
 ghost use Rattle.grow_rules.specs.Growth.{grow};
-ghost use Rattle.grow_state.specs.Held.{PlanIn, Driving, SomeDrive, SameDrive, listsAtEntry, listsAtExit};
+ghost use Rattle.grow_state.specs.Held.{PlanIn, Driving, SomeDrive, SameDrive, listsAtEntry, listsAtExit, lists};
 ghost use Rattle.grow_origins.specs.Origins.{startState, SomeOrigins, OnlyStart};
 ghost use Rattle.net_node.specs.Lent.{tableAtEntry, tableAtExit};
 ghost use Rattle.grow_book.specs.Answers.{SomeClosing, GrownAs, TakesNext, Drives, Closes, GrowsFirst};
@@ -73,7 +73,7 @@ fn next_turn(
     requires { ⌜ PlanIn (now book) p (length (now reals)) ⌝ }
     requires { ⌜ OptionsIn (now book) (now marks) ⌝ }
     requires { ⌜ links (now book) ≤ length (now marks) ⌝ }
-    requires { ⌜ Driving (now book) p (now floats) (now numbers) (now reals) (now cells) (now joins) g ⌝ }
+    requires { ⌜ Driving (now book) p (lists (now floats) (now numbers) (now reals) (now cells) (now joins)) g ⌝ }
     requires { ⌜ 2048 ≤ length (now joins) ⌝ }
     requires { ⌜ 2048 ≤ length (now scratch) ⌝ }
     requires { ⌜ 4096 ≤ length (now stack) ⌝ }
@@ -115,7 +115,7 @@ fn drive(
     requires { ⌜ PlanIn (now book) p (length (now reals)) ⌝ }
     requires { ⌜ OptionsIn (now book) (now marks) ⌝ }
     requires { ⌜ links (now book) ≤ length (now marks) ⌝ }
-    requires { ⌜ Driving (now book) p (now floats) (now numbers) (now reals) (now cells) (now joins) g ⌝ }
+    requires { ⌜ Driving (now book) p (lists (now floats) (now numbers) (now reals) (now cells) (now joins)) g ⌝ }
     requires { ⌜ 2048 ≤ length (now joins) ⌝ }
     requires { ⌜ 2048 ≤ length (now scratch) ⌝ }
     requires { ⌜ 4096 ≤ length (now stack) ⌝ }
@@ -199,7 +199,7 @@ fn run_all(
     requires { ⌜ OptionsIn (now book) (now marks) ⌝ }
     requires { ⌜ 2 * links (now book) + destinations (now book) + origins (now book) ≤ length (now marks) ⌝ }
     requires { ⌜ kept ≡ length (keptOrigins (now book)) ⌝ }
-    requires { ⌜ SomeOrigins (now book) p (now floats) (now numbers) (now reals) (now cells) (now joins)
+    requires { ⌜ SomeOrigins (now book) p (lists (now floats) (now numbers) (now reals) (now cells) (now joins))
         (keptOrigins (now book)) startState ⌝ }
     requires { ⌜ OnlyStart (nodeAt (now floats) (now numbers)) 2 ⌝ }
     requires { ⌜ Started (now book) (now marks) ⌝ }

@@ -14,13 +14,11 @@ use Rattle.net_node.specs.Table.{nodeAt, putFloats, putNumbers, Table, put, at}
 use Rattle.net_event_map.specs.EventMap.{headOf}
 use Rattle.grow_rules.specs.Growth.{fakeNode, leadsToEnd, roomFor, endFakes, lastNode}
 use Rattle.net_node.specs.Left.{Network}
+use Rattle.net_insertion.specs.Insertion.{tableOf}
 use Rattle.grow_ends.specs.Ends.{EndsIn, Below, SomeEnds}
 
-abbrev tableOf : List Float → List ℕ → Table
-tableOf fs us = record { floats = fs; numbers = us }
-
-abbrev tailOf : Table → ℕ → Network
-tailOf t k = record { table = t; nodes = k }
+abbrev networkOf : Table → ℕ → Network
+networkOf t k = record { table = t; nodes = k }
 
 -- ---- one store
 
@@ -44,17 +42,17 @@ first-stored t time fs gs us vs u v a f n b g m = (ap (λ (s : Table). s .floats
 -- ---- the last node
 
 module _ (t : Table) (n places : ℕ) where
-  pub last-full : places ≤ n → lastNode places (tailOf t n) ≡ refused 12
+  pub last-full : places ≤ n → lastNode places (networkOf t n) ≡ refused 12
   unfolding lastNode
-  last-full h = ap (λ (b : Bool). roomFor b (tailOf (put t n (fakeNode 0 (n - 1) 0 (ofBits binary64 0))) (suc n))) (le-ltb n places h)
+  last-full h = ap (λ (b : Bool). roomFor b (networkOf (put t n (fakeNode 0 (n - 1) 0 (ofBits binary64 0))) (suc n))) (le-ltb n places h)
 
   pub last-stored : (fs : List Float) (us : List ℕ) (u : EstTime) → n < places → u ≡ fakeNode 0 (n - 1) 0 (ofBits binary64 0) → fs ≡ putFloats (t .floats) n u → us ≡ putNumbers (t .numbers) n u
-      → lastNode places (tailOf t n) ≡ given (tailOf (tableOf fs us) (n + 1))
+      → lastNode places (networkOf t n) ≡ given (networkOf (tableOf fs us) (n + 1))
   unfolding lastNode
   last-stored fs us u h a f m =
       let s : tableOf fs us ≡ put t n (fakeNode 0 (n - 1) 0 (ofBits binary64 0)) = stored-is t n fs us u (fakeNode 0 (n - 1) 0 (ofBits binary64 0)) f m a in
-      ap (λ (b : Bool). roomFor b (tailOf (put t n (fakeNode 0 (n - 1) 0 (ofBits binary64 0))) (suc n))) (lt-ltb n places h)
-      ∙ sym (ap (λ (x : Table). given (tailOf x (n + 1))) s ∙ ap (λ (k : ℕ). given (tailOf (put t n (fakeNode 0 (n - 1) 0 (ofBits binary64 0))) k)) (add-one n))
+      ap (λ (b : Bool). roomFor b (networkOf (put t n (fakeNode 0 (n - 1) 0 (ofBits binary64 0))) (suc n))) (lt-ltb n places h)
+      ∙ sym (ap (λ (x : Table). given (networkOf x (n + 1))) s ∙ ap (λ (k : ℕ). given (networkOf (put t n (fakeNode 0 (n - 1) 0 (ofBits binary64 0))) k)) (add-one n))
 
 -- ---- a chain of ends
 
@@ -103,13 +101,13 @@ module _ (places i alt : ℕ) (is : List ℕ) (s : Table) (k : ℕ) where
   abbrev ledTo : Table
   ledTo = put fakeAt i (leadsToEnd (at fakeAt i) k)
 
-  fakes-full : places ≤ k → endFakes places (i ∷ is) alt (tailOf s k) ≡ refused 12
+  fakes-full : places ≤ k → endFakes places (i ∷ is) alt (networkOf s k) ≡ refused 12
   unfolding endFakes
-  fakes-full h = ap (λ (b : Bool). andThen (roomFor b (tailOf ledTo (suc k))) (endFakes places is k)) (le-ltb k places h)
+  fakes-full h = ap (λ (b : Bool). andThen (roomFor b (networkOf ledTo (suc k))) (endFakes places is k)) (le-ltb k places h)
 
-  fakes-on : k < places → endFakes places (i ∷ is) alt (tailOf s k) ≡ endFakes places is k (tailOf ledTo (suc k))
+  fakes-on : k < places → endFakes places (i ∷ is) alt (networkOf s k) ≡ endFakes places is k (networkOf ledTo (suc k))
   unfolding endFakes
-  fakes-on h = ap (λ (b : Bool). andThen (roomFor b (tailOf ledTo (suc k))) (endFakes places is k)) (lt-ltb k places h)
+  fakes-on h = ap (λ (b : Bool). andThen (roomFor b (networkOf ledTo (suc k))) (endFakes places is k)) (lt-ltb k places h)
 
   -- what the code stores
   led-stored : (fs gs : List Float) (us vs : List ℕ) (u x v : EstTime)
@@ -134,7 +132,7 @@ pub record Faking (cells : List ℕ) (base last n places : ℕ) (t s : Table) (i
   pub rest : List ℕ
   pub chained : EndsIn cells base i rest
   pub below : Below n rest
-  pub same : endFakes places all 0 (tailOf t n) ≡ endFakes places rest alt (tailOf s k)
+  pub same : endFakes places all 0 (networkOf t n) ≡ endFakes places rest alt (networkOf s k)
 
 pub faking-start : (cells : List ℕ) (base last n places : ℕ) (t : Table) → SomeEnds cells base last n → n ≤ places → Faking cells base last n places t t last 0 n
 faking-start cells base last n places t e h = record {
@@ -152,15 +150,15 @@ faking-start cells base last n places t e h = record {
 
 module _ {cells : List ℕ} {base last n places : ℕ} {t s : Table} {i alt k : ℕ} (v : Faking cells base last n places t s i alt k) where
   -- any list of the ends is the loop's
-  alone : (ends : List ℕ) → EndsIn cells base last ends → endFakes places ends 0 (tailOf t n) ≡ endFakes places (v .rest) alt (tailOf s k)
-  alone ends e = ap (λ (is : List ℕ). endFakes places is 0 (tailOf t n)) (ends-alone cells base last ends (v .all) e (v .all-chained)) ∙ v .same
+  alone : (ends : List ℕ) → EndsIn cells base last ends → endFakes places ends 0 (networkOf t n) ≡ endFakes places (v .rest) alt (networkOf s k)
+  alone ends e = ap (λ (is : List ℕ). endFakes places is 0 (networkOf t n)) (ends-alone cells base last ends (v .all) e (v .all-chained)) ∙ v .same
 
-  none-left : (is : List ℕ) → EndsIn cells base i is → i ≡ 0 → endFakes places is alt (tailOf s k) ≡ given (tailOf s k)
+  none-left : (is : List ℕ) → EndsIn cells base i is → i ≡ 0 → endFakes places is alt (networkOf s k) ≡ given (networkOf s k)
   unfolding endFakes
   none-left [] e z = refl
   none-left (j ∷ js) e z = absurd (omega (arith, e .0, e .1 .0, z))
 
-  pub faking-end : i ≡ 0 → (ends : List ℕ) → EndsIn cells base last ends → endFakes places ends 0 (tailOf t n) ≡ given (tailOf s k)
+  pub faking-end : i ≡ 0 → (ends : List ℕ) → EndsIn cells base last ends → endFakes places ends 0 (networkOf t n) ≡ given (networkOf s k)
   faking-end z ends e = alone ends e ∙ none-left (v .rest) (v .chained) z
 
   module _ (h : i ≡ 0 → ⊥) where
@@ -173,10 +171,10 @@ module _ {cells : List ℕ} {base last n places : ℕ} {t s : Table} {i alt k : 
     pub faking-cell : 0 < getD cells (base + i * 8) 0
     faking-cell = omega (arith, next .cell)
 
-    more-left : (ends : List ℕ) → EndsIn cells base last ends → endFakes places ends 0 (tailOf t n) ≡ endFakes places (i ∷ next .after) alt (tailOf s k)
-    more-left ends e = alone ends e ∙ ap (λ (is : List ℕ). endFakes places is alt (tailOf s k)) (next .is-more)
+    more-left : (ends : List ℕ) → EndsIn cells base last ends → endFakes places ends 0 (networkOf t n) ≡ endFakes places (i ∷ next .after) alt (networkOf s k)
+    more-left ends e = alone ends e ∙ ap (λ (is : List ℕ). endFakes places is alt (networkOf s k)) (next .is-more)
 
-    pub faking-full : places ≤ k → (ends : List ℕ) → EndsIn cells base last ends → endFakes places ends 0 (tailOf t n) ≡ refused 12
+    pub faking-full : places ≤ k → (ends : List ℕ) → EndsIn cells base last ends → endFakes places ends 0 (networkOf t n) ≡ refused 12
     faking-full g ends e = more-left ends e ∙ fakes-full places i alt (next .after) s k g
 
     pub faking-on : k < places → (fs gs : List Float) (us vs : List ℕ) (u x y : EstTime)
@@ -199,5 +197,5 @@ module _ {cells : List ℕ} {base last n places : ℕ} {t s : Table} {i alt k : 
           same =
               more-left (v .all) (v .all-chained)
               ∙ fakes-on places i alt (next .after) s k g
-              ∙ sym (ap (λ (z : Table). endFakes places (next .after) k (tailOf z (k + 1))) (led-stored places i alt (next .after) s k fs gs us vs u x y a f m l b c d) ∙ ap (λ (j : ℕ). endFakes places (next .after) k (tailOf (ledTo places i alt (next .after) s k) j)) (add-one k));
+              ∙ sym (ap (λ (z : Table). endFakes places (next .after) k (networkOf z (k + 1))) (led-stored places i alt (next .after) s k fs gs us vs u x y a f m l b c d) ∙ ap (λ (j : ℕ). endFakes places (next .after) k (networkOf (ledTo places i alt (next .after) s k) j)) (add-one k));
         }

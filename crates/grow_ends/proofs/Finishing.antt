@@ -12,7 +12,7 @@ use lib.Ieee.{Float}
 use Rattle.net_node.specs.declared.EstTime.{EstTime}
 use Rattle.net_node.specs.Table.{nodeAt, Table, at}
 use Rattle.net_insertion.specs.declared.Place.{Place}
-use Rattle.net_insertion.specs.Insertion.{flagged}
+use Rattle.net_insertion.specs.Insertion.{flagged, tableOf}
 use Rattle.net_insertion.proofs.Answers.{flagged-set, flagged-clear}
 use Rattle.grow_rules.specs.Run.{Net, Run, memberOf}
 use Rattle.grow_rules.specs.Growth.{badFinish}
@@ -30,29 +30,26 @@ bad-is net run t n place a b c last free ended p q r =
     = λ j. badAs (eqb (c j .«idx_prev») (b j - 1)) (eqb (at (a j) (b j - 1) .«idx_next») 0) (memberOf (net .ends) (b j - 1)) in
     s ∙ (λ j. badAs (p j) (q j) (r j))
 
-abbrev lent : List Float → List ℕ → Table
-lent fs us = record { floats = fs; numbers = us }
-
 module _ (fs : List Float) (us cells : List ℕ) (base n : ℕ) (place : Place) where
   pub finish-elsewhere : (place .«idx_prev» ≡ n - 1 → ⊥) → FinishAs fs us cells base n place false
   finish-elsewhere h = record {
-    is = λ net run a b c f. bad-is net run (lent fs us) n place a b c false (eqb (at (lent fs us) (n - 1) .«idx_next») 0) (memberOf (net .ends) (n - 1)) (ne-eqb (place .«idx_prev») (n - 1) h) refl refl;
+    is = λ net run a b c f. bad-is net run (tableOf fs us) n place a b c false (eqb (at (tableOf fs us) (n - 1) .«idx_next») 0) (memberOf (net .ends) (n - 1)) (ne-eqb (place .«idx_prev») (n - 1) h) refl refl;
   }
 
   module _ (p : place .«idx_prev» ≡ n - 1) (x : EstTime) (l : x ≡ nodeAt fs us (n - 1)) where
-    next-is : at (lent fs us) (n - 1) .«idx_next» ≡ x .«idx_next»
+    next-is : at (tableOf fs us) (n - 1) .«idx_next» ≡ x .«idx_next»
     unfolding at
     next-is = sym (ap (λ (z : EstTime). z .«idx_next») l)
 
     pub finish-with-next : (x .«idx_next» ≡ 0 → ⊥) → FinishAs fs us cells base n place false
     finish-with-next h = record {
-      is = λ net run a b c f. bad-is net run (lent fs us) n place a b c true false (memberOf (net .ends) (n - 1)) (eq-eqb (place .«idx_prev») (n - 1) p) (ne-eqb (at (lent fs us) (n - 1) .«idx_next») 0 (λ (e : at (lent fs us) (n - 1) .«idx_next» ≡ 0). h (sym next-is ∙ e))) refl;
+      is = λ net run a b c f. bad-is net run (tableOf fs us) n place a b c true false (memberOf (net .ends) (n - 1)) (eq-eqb (place .«idx_prev») (n - 1) p) (ne-eqb (at (tableOf fs us) (n - 1) .«idx_next») 0 (λ (e : at (tableOf fs us) (n - 1) .«idx_next» ≡ 0). h (sym next-is ∙ e))) refl;
     }
 
     module _ (o : x .«idx_next» ≡ 0) (r : 0 < n) where
       by-flag : (flag : Bool) → flagged cells base (n - 1) ≡ flag → FinishAs fs us cells base n place (not flag)
       by-flag flag h = record {
-        is = λ net run a b c f. bad-is net run (lent fs us) n place a b c true true flag (eq-eqb (place .«idx_prev») (n - 1) p) (eq-eqb (at (lent fs us) (n - 1) .«idx_next») 0 (next-is ∙ o)) (sym (f (n - 1) (omega arith)) ∙ h) ∙ twice flag;
+        is = λ net run a b c f. bad-is net run (tableOf fs us) n place a b c true true flag (eq-eqb (place .«idx_prev») (n - 1) p) (eq-eqb (at (tableOf fs us) (n - 1) .«idx_next») 0 (next-is ∙ o)) (sym (f (n - 1) (omega arith)) ∙ h) ∙ twice flag;
       }
         where
           twice : (b : Bool) → b ≡ not (not b)

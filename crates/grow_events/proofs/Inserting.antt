@@ -17,16 +17,16 @@ use Rattle.net_node.specs.Table.{nodeAt, Indexed, Table, at, withNextAlt}
 use Rattle.net_insertion.specs.declared.Place.{Place}
 use Rattle.net_insertion.specs.declared.Inserted.{Inserted}
 use Rattle.net_insertion.specs.declared.Inserted.the-variants.{Added, Moved, Refused}
-use Rattle.net_insertion.specs.Insertion.{linkedTo, eventNode, splitFake, inserted, insertedTable, InsertedInto, flagged}
+use Rattle.net_insertion.specs.Insertion.{linkedTo, eventNode, splitFake, inserted, insertedTable, InsertedInto, flagged, tableOf}
 use Rattle.net_insertion.proofs.Kept.{inserted-same, more, Kept, inserted-room, call-kept}
 use Rattle.net_event_map.specs.declared.Layout.{Layout}
-use Rattle.net_event_map.specs.EventMap.{Mapped, MapOnly}
+use Rattle.net_event_map.specs.EventMap.{Mapped, MapOnly, MapsNode}
 use Rattle.net_event_map.proofs.Kept.{apart-same, mapped-same, mapped-fake}
 use Rattle.grow_rules.specs.Run.{Net, Run, arcTo, memberOf, countIf, addedTo, movedTo, insertEvent, goesOn}
 use Rattle.grow_rules.specs.Run.{insertedRun as answeredAs}
 use Rattle.grow_events.specs.declared.Counts.{Counts}
 use Rattle.grow_events.specs.declared.Mover.{Mover}
-use Rattle.grow_events.specs.Held.{endsAt, NetIn, RunIn, GoesAs}
+use Rattle.grow_events.specs.Held.{endsAt, NetIn, RunIn, GoesAs, countsAdded}
 use Rattle.grow_events.proofs.Kept.{valid-more}
 use Rattle.grow_ends.proofs.Kept.{ends-same, below-more}
 
@@ -44,10 +44,6 @@ count-same true n e = absurd (true≢false e)
 added-sum : (n i a s j : ℕ) (split : Bool) → n ≡ 2 + a + s + j → i + 1 ≡ n + more split → i + 1 ≡ 2 + (a + 1) + countIf split s + j
 added-sum n i a s j true e k = omega arith
 added-sum n i a s j false e k = omega arith
-
--- the table that the lent lists hold
-abbrev pub tableOf : List Float → List ℕ → Table
-tableOf fs us = record { floats = fs; numbers = us }
 
 module _ {w : Layout} {start : List ℕ} {fs : List Float} {us cells : List ℕ} {c : Counts} {net : Net} (v : NetIn w start fs us cells c net) where
   pub net-indexed : Indexed (at (tableOf fs us)) (c .nodes)
@@ -177,12 +173,12 @@ module _ {w : Layout} {start : List ℕ} {fs : List Float} {us cells : List ℕ}
 
     -- and from `net_event_map::insert`
     module _ (q : Place) (split : Bool) (h : a ≡ Added q split) (cells′ : List ℕ) (long : length cells′ ≡ length cells)
-        (mapped : (node : ℕ → EstTime) → node (q .«idx_prev») .«link_event» ≡ e .«link_event» → Mapped cells w node (q .«idx_prev») → Mapped cells′ w node (q .«idx_prev» + 1)) (only : MapOnly cells cells′ w) where
+        (mapped : MapsNode cells cells′ w (q .«idx_prev») (e .«link_event»)) (only : MapOnly cells cells′ w) where
       ready : Ready v join (m .place) e (u .stands) (tableOf fs′ us′) (q .«idx_prev») split
       ready = added-ready v join (m .place) e (u .stands) fs′ us′ a f l q split h
 
       abbrev counts : Counts
-      counts = record { nodes = q .«idx_prev» + 1; added = c .added + 1; splits = countIf split (c .splits); joined = c .joined; «last_end» = c .«last_end» }
+      counts = countsAdded c (q .«idx_prev») split
 
       -- an end's cell is none of the map's
       end-stays : (i : ℕ) → i < w .places → getD cells′ (endsAt w + i * 8) 0 ≡ getD cells (endsAt w + i * 8) 0

@@ -22,9 +22,10 @@ use Rattle.grow_rules.specs.Run.{Net, Run, joinedTo, withJoins, insertEvent, go
 use Rattle.grow_events.specs.declared.Counts.{Counts}
 use Rattle.grow_events.specs.declared.Mover.{Mover}
 use Rattle.grow_events.specs.declared.RunAnswer.{RunAnswer}
-use Rattle.grow_events.specs.Held.{NetIn, RunIn, Growing, Moving, LeftAs, OutcomeAs}
+use Rattle.grow_events.specs.Held.{NetIn, RunIn, Growing, Moving, LeftAs, OutcomeAs, countsJoined}
 use Rattle.grow_ends.proofs.Kept.{below-more}
-use Rattle.grow_events.proofs.Inserting.{tableOf, net-indexed, net-mapped}
+use Rattle.grow_events.proofs.Inserting.{net-indexed, net-mapped}
+use Rattle.net_insertion.specs.Insertion.{tableOf}
 
 pub moving-grows : {w : Layout} {fs : List Float} {us cells joins : List ℕ} {c : Counts} {m : Mover} → Moving w fs us cells joins c m → Growing w fs us cells c
 moving-grows v = record { start = v .start; net = v .net; holds = v .holds }
@@ -70,7 +71,7 @@ module _ {w : Layout} {start : List ℕ} {fs : List Float} {us cells : List ℕ}
       same = stepped-table (tableOf fs us) (c .nodes) target e fs′ us′ (subst (SteppedInto (tableOf fs us) (c .nodes) e fs′ us′) g t)
 
       abbrev counts : Counts
-      counts = record { nodes = c .nodes + 1; added = c .added; splits = c .splits; joined = c .joined + 1; «last_end» = c .«last_end» }
+      counts = countsJoined c
 
       joined-net : NetIn w start fs′ us′ cells counts (joinedTo net run e target)
       unfolding joinedTo at

@@ -11,11 +11,18 @@ use Rattle.net_event_map.specs.declared.Layout.{Layout}
 use Rattle.net_strands.specs.declared.EstJoinPath.{EstJoinPath}
 use Rattle.net_strands.specs.Entries.{Valid}
 use Rattle.grow_path.specs.Kept.{PathIn}
-use Rattle.grow_rules.specs.Run.{Net, Run, After, goesOn}
+use Rattle.grow_rules.specs.Run.{Net, Run, After, goesOn, Arc, memberOf}
 use Rattle.grow_rules.specs.Run.{Outcome as Became, Ended as Left, On as Goes}
+use mathlib.Core.Logic.{_≢_}
+use Rattle.net_node.specs.Table.{nodeAt}
+use Rattle.net_insertion.specs.Insertion.{flagged}
+use Rattle.net_event_map.specs.EventMap.{CellsApart, Mapped}
+use Rattle.net_event_map.proofs.Kept.{apart-same}
+use Rattle.grow_ends.specs.Ends.{EndsIn, Below}
+use Rattle.grow_ends.proofs.Kept.{ends-same, flags-same}
 use Rattle.grow_events.specs.declared.Counts.{Counts}
 use Rattle.grow_events.specs.declared.Mover.{Mover}
-use Rattle.grow_events.specs.Held.{NetIn, RunIn, Along}
+use Rattle.grow_events.specs.Held.{NetIn, RunIn, Along, endsAt}
 
 -- ---- cells that stay
 
@@ -28,9 +35,27 @@ module _ {w : Layout} {start : List ℕ} {fs : List Float} {us cells : List ℕ}
   pub unit-kept : (i k : ℕ) → i < w .places → 3 ≤ k → k < 8 → getD cells (w .«nodes_at» + i * 8 + k) 0 ≡ getD start (w .«nodes_at» + i * 8 + k) 0
   unit-kept i k h a b = v .elsewhere (w .«nodes_at» + i * 8 + k) (omega (arith, v .apart .apart)) (λ j m f g d. omega arith)
 
-  -- the cells as they are may be taken as the start
-  pub net-restart : NetIn w cells fs us cells c net
-  net-restart = record {
+-- ---- a network in other cells, with other ends or arcs
+
+-- what cells say of a network of n nodes and of its ends
+pub record InCells (w : Layout) (start : List ℕ) (fs : List Float) (us cells : List ℕ) (n last : ℕ) (is : List ℕ) : Type 0 where
+  pub apart : CellsApart cells w
+  pub mapped : Mapped cells w (nodeAt fs us) n
+  pub ends : EndsIn cells (endsAt w) last is
+  pub ends-below : Below n is
+  pub ended : (i : ℕ) → i < w .places → flagged cells (endsAt w) i ≡ memberOf is i
+  pub elsewhere : (q : ℕ) → q < w .«links_at» → ((i k : ℕ) → i < w .places → k < 3 → q ≢ w .«nodes_at» + i * 8 + k) → getD cells q 0 ≡ getD start q 0
+
+-- the network, all of which but its ends and arcs is as it was, and its counts
+abbrev pub netWith : Net → List ℕ → List Arc → Net
+netWith net is arcs = record { table = net .table; nodes = net .nodes; ends = is; added = net .added; splits = net .splits; joined = net .joined; noted = arcs }
+
+abbrev pub countsWith : Counts → ℕ → Counts
+countsWith c last = record { nodes = c .nodes; added = c .added; splits = c .splits; joined = c .joined; «last_end» = last }
+
+module _ {w : Layout} {start : List ℕ} {fs : List Float} {us cells : List ℕ} {c : Counts} {net : Net} (v : NetIn w start fs us cells c net) where
+  pub net-anew : (arcs : List Arc) {start′ cells′ : List ℕ} {last : ℕ} {is : List ℕ} → InCells w start′ fs us cells′ (c .nodes) last is → NetIn w start′ fs us cells′ (countsWith c last) (netWith net is arcs)
+  net-anew arcs h = record {
     table = v .table;
     nodes = v .nodes;
     added = v .added;
@@ -40,13 +65,32 @@ module _ {w : Layout} {start : List ℕ} {fs : List Float} {us cells : List ℕ}
     room = v .room;
     within = v .within;
     indexed = v .indexed;
-    apart = v .apart;
-    mapped = v .mapped;
-    ends = v .ends;
-    ends-below = v .ends-below;
-    ended = v .ended;
-    elsewhere = λ q h f. refl;
+    apart = h .apart;
+    mapped = h .mapped;
+    ends = h .ends;
+    ends-below = h .ends-below;
+    ended = h .ended;
+    elsewhere = h .elsewhere;
   }
+
+  -- what is held says nothing of the arcs
+  pub net-noted : (arcs : List Arc) → NetIn w start fs us cells c (netWith net (net .ends) arcs)
+  net-noted arcs = net-anew arcs (record { apart = v .apart; mapped = v .mapped; ends = v .ends; ends-below = v .ends-below; ended = v .ended; elsewhere = v .elsewhere })
+
+  -- in cells with the map and the marks of the ends, which may be taken as the start
+  pub net-same : (cells′ : List ℕ) → length cells′ ≡ length cells → Mapped cells′ w (nodeAt fs us) (c .nodes)
+      → ((i : ℕ) → i < w .places → getD cells′ (endsAt w + i * 8) 0 ≡ getD cells (endsAt w + i * 8) 0) → NetIn w cells′ fs us cells′ c net
+  net-same cells′ l m h = net-anew (net .noted) (record {
+    apart = apart-same l (v .apart);
+    mapped = m;
+    ends = ends-same cells (endsAt w) cells′ (c .«last_end») (c .nodes) (net .ends) (v .ends-below) (λ i k. h i (omega (arith, v .within))) (v .ends);
+    ends-below = v .ends-below;
+    ended = λ i k. flags-same cells (endsAt w) cells′ i (h i k) ∙ v .ended i k;
+    elsewhere = λ q k f. refl;
+  })
+
+  pub net-restart : NetIn w cells fs us cells c net
+  net-restart = net-same cells refl (v .mapped) (λ i h. refl)
 
 -- a path that lies before the nodes' units stays
 module _ {w : Layout} {start : List ℕ} {fs fs′ : List Float} {us us′ cells cells′ : List ℕ} {c c′ : Counts} {net net′ : Net} (v : NetIn w start fs us cells c net) (v′ : NetIn w start fs′ us′ cells′ c′ net′) {b : List ℕ} {reals : List Float} {path : List ℕ} where

@@ -25,6 +25,7 @@ use Rattle.net_event_map.specs.declared.Layout.{Layout}
 use Rattle.net_event_map.specs.EventMap.{RealKind, Real}
 use Rattle.grow_rules.specs.Run.{Net, Run, After, runEvent, nextEvent, runEvents}
 use Rattle.grow_rules.specs.Run.{Outcome}
+use Rattle.grow_path.specs.Kept.{eventIn}
 use Rattle.grow_events.specs.declared.Counts.{Counts}
 use Rattle.grow_events.specs.declared.Mover.{Mover}
 use Rattle.grow_events.specs.declared.RunAnswer.{RunAnswer}
@@ -68,18 +69,15 @@ all-ahead c k = each-ahead (c .points) (pointsPassed c) (walk-real (turnsLeft c 
 
 -- ---- a point as an event
 
-abbrev pointEvent : List ℕ → PassedPoint → TimedEvent
-pointEvent cells p = record { time = p .time; offset = p .offset; speed = p .speed; «link_event» = record { «link_idx» = getD cells (p .point * 8 + 3) 0; «est_type» = p .«est_type» } }
-
 module _ {b : List ℕ} {reals : List Float} {cells : List ℕ} {w : Layout} {n : ℕ} {path : List ℕ} (a : Along b reals cells w n path) {p : PassedPoint} (d : Ahead n p) where
   on-path : p .point < length path
   on-path = omega (arith, a .points, d .before-last)
 
-  event-is : pointEvent cells p ≡ eventAt b path p
+  event-is : eventIn cells p ≡ eventAt b path p
   unfolding eventAt
   event-is = ap (λ (l : ℕ). record { time = p .time; offset = p .offset; speed = p .speed; «link_event» = record { «link_idx» = l; «est_type» = p .«est_type» } }) (a .kept .links (p .point) on-path)
 
-  event-real : Real (pointEvent cells p .«link_event») (w .links)
+  event-real : Real (eventIn cells p .«link_event») (w .links)
   event-real = (d .kind, subst (λ (l : ℕ). l < w .links) (sym (a .kept .links (p .point) on-path)) (a .named (p .point) on-path))
 
   event-inside : p .point * 8 + 3 < w .«nodes_at»
@@ -163,11 +161,11 @@ module _ (b : List ℕ) (reals : List Float) (v : Movement) (w : Layout) (join :
           pub next-inside : p .point * 8 + 3 < length cells
           next-inside = omega (arith, event-inside (way .along) next-ahead, way .holds .apart .nodes-inside)
 
-          pub next-real : (x : TimedEvent) → x ≡ pointEvent cells p → Real (x .«link_event») (w .links)
+          pub next-real : (x : TimedEvent) → x ≡ eventIn cells p → Real (x .«link_event») (w .links)
           next-real x z = subst (λ (y : TimedEvent). Real (y .«link_event») (w .links)) (sym z) (event-real (way .along) next-ahead)
 
         -- what became of it
-        module _ (x : TimedEvent) (z : x ≡ pointEvent cells p) (fs′ : List Float) (us′ cells′ joins′ : List ℕ) (r : RunAnswer)
+        module _ (x : TimedEvent) (z : x ≡ eventIn cells p) (fs′ : List Float) (us′ cells′ joins′ : List ℕ) (r : RunAnswer)
             (f : (start : List ℕ) (leg : ℕ) (net : Net) (run : Run) → NetIn w start fs us cells c net → RunIn (c .nodes) leg joins m run → OutcomeAs (runEvent (w .places) join net run x) w start leg fs′ us′ cells′ joins′ r)
             (k : NotFewer c r) (ok : badPoint p ≡ false) where
           fine-left : someBad (pointsPassed course) ≡ someBad (passedFrom course g)

@@ -12,19 +12,20 @@ use Rattle.net_node.specs.Table.{nodeAt, Room}
 use Rattle.net_insertion.specs.declared.Place.{Place}
 use Rattle.net_event_map.specs.declared.Layout.{Layout}
 use Rattle.net_event_map.specs.EventMap.{Mapped}
-use Rattle.net_event_map.proofs.Kept.{mapped-else}
+use Rattle.net_event_map.proofs.Kept.{mapped-else, apart-same}
 use Rattle.grow_ends.specs.Ends.{EndsIn, FinishAs, MarkedAs}
 use Rattle.grow_ends.proofs.Kept.{Finished, finished, last-below}
 use Rattle.grow_path.specs.Path.{pathOf}
-use Rattle.grow_rules.specs.Run.{Net, Run}
+use Rattle.grow_rules.specs.Run.{Net, Run, arcToEnd}
 use Rattle.grow_rules.specs.Growth.{badFinish, finishedAt, finishAs}
 use Rattle.grow_events.specs.declared.Counts.{Counts}
 use Rattle.grow_events.specs.Held.{NetIn, endsAt}
 use Rattle.grow_state.specs.declared.Plan.{Plan}
 use Rattle.grow_state.specs.declared.State.{State}
-use Rattle.grow_state.specs.Held.{PlanIn, GivesAs}
-use Rattle.grow_state.proofs.Keeping.{plan-room, apart-same, chained-same, wait-same}
-use Rattle.grow_leg.specs.OneLeg.{AtEnd}
+use Rattle.grow_state.specs.Held.{PlanIn, GivesAs, lists}
+use Rattle.grow_state.proofs.Keeping.{plan-room, chained-same, wait-same}
+use Rattle.grow_events.proofs.Kept.{net-anew, countsWith}
+use Rattle.grow_leg.specs.OneLeg.{AtEnd, standingAt}
 
 -- ---- what `grow_ends::finish` asks
 
@@ -50,7 +51,7 @@ module _ {w : Layout} {start : List ℕ} {fs : List Float} {us cells : List ℕ}
     -- ---- the network then
 
     abbrev ended : Counts
-    ended = record { nodes = c .nodes; added = c .added; splits = c .splits; joined = c .joined; «last_end» = place .«idx_prev» }
+    ended = countsWith c (place .«idx_prev»)
 
     module _ (cells′ : List ℕ) (good : badFinish net run ≡ false) (marked : MarkedAs cells cells′ (endsAt w) (c .«last_end») (place .«idx_prev») true) where
       abbrev i : ℕ
@@ -76,28 +77,19 @@ module _ {w : Layout} {start : List ℕ} {fs : List Float} {us cells : List ℕ}
 
       pub net-finished : NetIn w cells′ fs us cells′ ended (finishedAt net run)
       unfolding finishedAt
-      net-finished = record {
-        table = v .table;
-        nodes = v .nodes;
-        added = v .added;
-        splits = v .splits;
-        joined = v .joined;
-        sum = v .sum;
-        room = v .room;
-        within = v .within;
-        indexed = v .indexed;
+      net-finished = net-anew v (arcToEnd (run .place) ∷ net .noted) (record {
         apart = apart-same marked-long (v .apart);
         mapped = map-left;
         ends = subst (λ (k : ℕ). EndsIn cells′ (endsAt w) k (run .place .«idx_prev» ∷ net .ends)) (ap (λ (q : Place). q .«idx_prev») same) (done .chained);
         ends-below = (omega (arith, done .within, v .nodes), v .ends-below);
         ended = λ k h. done .flags k (v .ended k h);
         elsewhere = λ q h f. refl;
-      }
+      })
 
 -- ---- the whole
 
 module _ {b : List ℕ} {p : Plan} {fs : List Float} {us : List ℕ} {reals : List Float} {cells joins : List ℕ} {g : State} {net : Net} {run : Run} {rest : List Run}
-    (plan : PlanIn b p (length reals)) (a : AtEnd b p fs us reals cells joins g net run rest) where
+    (plan : PlanIn b p (length reals)) (a : AtEnd b p (lists fs us reals cells joins) g net run rest) where
   same-place : run .place ≡ g .front .mover .place
   same-place = a .front .moves .place
 
@@ -106,9 +98,9 @@ module _ {b : List ℕ} {p : Plan} {fs : List Float} {us : List ℕ} {reals : Li
 
   pub finish-gives : (r : Bool) (cells′ : List ℕ) → FinishAs fs us cells (endsAt (p .w)) (g .counts .nodes) (g .front .mover .place) r → MarkedAs cells cells′ (endsAt (p .w)) (g .counts .«last_end») (g .front .mover .place .«idx_prev») r
       → r ≡ true → (h : State)
-      → h ≡ record { counts = record { nodes = g .counts .nodes; added = g .counts .added; splits = g .counts .splits; joined = g .counts .joined; «last_end» = g .front .mover .place .«idx_prev» }; top = g .top; used = g .used; front = record { moves = false; mover = g .front .mover; leg = g .front .leg; depth = g .front .depth } }
-      → GivesAs (finishAs (badFinish net run) net run rest) b p fs us reals cells′ joins h
-  finish-gives r cells′ f m e h d = subst (GivesAs (finishAs (badFinish net run) net run rest) b p fs us reals cells′ joins) (sym d) gives
+      → h ≡ standingAt g (countsWith (g .counts) (g .front .mover .place .«idx_prev»)) (g .front .mover) false
+      → GivesAs (finishAs (badFinish net run) net run rest) b p (lists fs us reals cells′ joins) h
+  finish-gives r cells′ f m e h d = subst (GivesAs (finishAs (badFinish net run) net run rest) b p (lists fs us reals cells′ joins)) (sym d) gives
     where
       good : badFinish net run ≡ false
       good = finish-told (a .grown) run (g .front .mover .place) same-place r f ∙ ap not e
@@ -119,7 +111,7 @@ module _ {b : List ℕ} {p : Plan} {fs : List Float} {us : List ℕ} {reals : Li
       other : (q : ℕ) → (q ≡ endsAt (p .w) + g .front .mover .place .«idx_prev» * 8 → ⊥) → getD cells′ q 0 ≡ getD cells q 0
       other = marked-else (a .grown) run (g .front .mover .place) same-place cells′ good marked
 
-      gives : GivesAs (finishAs (badFinish net run) net run rest) b p fs us reals cells′ joins (record { counts = record { nodes = g .counts .nodes; added = g .counts .added; splits = g .counts .splits; joined = g .counts .joined; «last_end» = g .front .mover .place .«idx_prev» }; top = g .top; used = g .used; front = record { moves = false; mover = g .front .mover; leg = g .front .leg; depth = g .front .depth } })
+      gives : GivesAs (finishAs (badFinish net run) net run rest) b p (lists fs us reals cells′ joins) (standingAt g (countsWith (g .counts) (g .front .mover .place .«idx_prev»)) (g .front .mover) false)
       gives = record {
         growth = record { net = finishedAt net run; saved = rest };
         is = ap (λ (t : Bool). finishAs t net run rest) good;

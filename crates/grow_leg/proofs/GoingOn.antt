@@ -26,8 +26,9 @@ use Rattle.grow_rules.specs.Growth.{takes, seekLeg, onOver, waiting, fitsIn, sa
 use Rattle.grow_events.specs.Held.{endsAt}
 use Rattle.grow_state.specs.declared.Plan.{Plan}
 use Rattle.grow_state.specs.declared.State.{State}
-use Rattle.grow_state.specs.Held.{PlanIn, GivesAs, RunSound, Begins, Prefixes, pathBefore}
-use Rattle.grow_state.proofs.Keeping.{plan-legs, plan-room, net-same}
+use Rattle.grow_state.specs.Held.{PlanIn, GivesAs, RunSound, Begins, Prefixes, pathBefore, lists}
+use Rattle.grow_state.proofs.Keeping.{plan-legs, plan-room}
+use Rattle.grow_events.proofs.Kept.{net-same}
 use Rattle.grow_leg.specs.OneLeg.{AtEnd, Free, SavedOver}
 use Rattle.grow_leg.proofs.Paths.{path-long, before-child}
 use Rattle.book_legs.proofs.Found.{LegOf, leg-found}
@@ -67,7 +68,7 @@ module _ (b : List ℕ) (p l : ℕ) (t : Taken) (told : t ≡ takenLeg b p l) wh
 -- ---- the way on
 
 module _ {b : List ℕ} {p : Plan} {fs : List Float} {us : List ℕ} {reals : List Float} {cells joins : List ℕ} {g : State} {net : Net} {run : Run} {rest : List Run}
-    (plan : PlanIn b p (length reals)) (a : AtEnd b p fs us reals cells joins g net run rest) where
+    (plan : PlanIn b p (length reals)) (a : AtEnd b p (lists fs us reals cells joins) g net run rest) where
   pub front-leg : g .front .leg ≤ legs b
   front-leg = omega (arith, a .front .moves .leg, a .sound .0 .within)
 
@@ -123,7 +124,7 @@ module _ {b : List ℕ} {p : Plan} {fs : List Float} {us : List ℕ} {reals : Li
 
       -- the run takes it next
       pub on-gives : Free b run rest link
-          → GivesAs (onOver b net run link rest) b p fs us reals cells joins (record { counts = g .counts; top = g .top; used = g .used; front = record { moves = true; mover = g .front .mover; leg = x .number; depth = g .front .depth + 1 } })
+          → GivesAs (onOver b net run link rest) b p (lists fs us reals cells joins) (record { counts = g .counts; top = g .top; used = g .used; front = record { moves = true; mover = g .front .mover; leg = x .number; depth = g .front .depth + 1 } })
       on-gives f = record {
         growth = record { net = net; saved = taking (run .«has_split») ∷ rest };
         is = on-is;
@@ -185,7 +186,7 @@ module _ {b : List ℕ} {p : Plan} {fs : List Float} {us : List ℕ} {reals : Li
         others : Untaken (x .number) (a .waiting .runs)
         others = subst (λ (j : ℕ). Untaken j (a .waiting .runs)) (sym (child .number)) (clear-others (plan-above plan) (suc i) (g .counts .nodes) (a .waiting .runs) rest (a .sound .1) (a .waiting .same) (free .legs-separate i (child .of .within) (child .of .parent) (child .of .link)))
 
-        save-kept : SavedOver (saveOver b (p .w .places) run link rest) b p fs us reals′ cells′ joins (record { counts = g .counts; top = x .number; used = g .used + g .front .mover .count; front = g .front }) net run rest link
+        save-kept : SavedOver (saveOver b (p .w .places) run link rest) b p (lists fs us reals′ cells′ joins) (record { counts = g .counts; top = x .number; used = g .used + g .front .mover .count; front = g .front }) net run rest link
         unfolding waitingOf
         save-kept = record {
           more = taking false ∷ rest;
@@ -209,5 +210,5 @@ module _ {b : List ℕ} {p : Plan} {fs : List Float} {us : List ℕ} {reals : Li
           free = λ l d f. free-more (plan-above plan) run (taking false) i rest link (child .of .within) (child .of .parent) (child .of .link) refl l d f;
         }
 
-        pub save-gives : (used : ℕ) → used ≡ g .used + g .front .mover .count → SavedOver (saveOver b (p .w .places) run link rest) b p fs us reals′ cells′ joins (record { counts = g .counts; top = x .number; used = used; front = g .front }) net run rest link
-        save-gives used e = subst (λ (n : ℕ). SavedOver (saveOver b (p .w .places) run link rest) b p fs us reals′ cells′ joins (record { counts = g .counts; top = x .number; used = n; front = g .front }) net run rest link) (sym e) save-kept
+        pub save-gives : (used : ℕ) → used ≡ g .used + g .front .mover .count → SavedOver (saveOver b (p .w .places) run link rest) b p (lists fs us reals′ cells′ joins) (record { counts = g .counts; top = x .number; used = used; front = g .front }) net run rest link
+        save-gives used e = subst (λ (n : ℕ). SavedOver (saveOver b (p .w .places) run link rest) b p (lists fs us reals′ cells′ joins) (record { counts = g .counts; top = x .number; used = n; front = g .front }) net run rest link) (sym e) save-kept

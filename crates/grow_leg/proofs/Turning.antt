@@ -28,7 +28,7 @@ use Rattle.grow_events.proofs.Kept.{before-kept, unit-kept, net-restart}
 use Rattle.grow_state.specs.declared.Plan.{Plan}
 use Rattle.grow_state.specs.declared.State.{State}
 use Rattle.grow_state.specs.declared.GrowthAnswer.{GrowthAnswer}
-use Rattle.grow_state.specs.Held.{PlanIn, DriveIn, WaitIn, AllSound, Prefixes, SeparateFrom, GivesAs, TurnedAs, pathBefore}
+use Rattle.grow_state.specs.Held.{PlanIn, DriveIn, WaitIn, AllSound, Prefixes, SeparateFrom, GivesAs, TurnedAs, pathBefore, lists}
 use Rattle.grow_state.proofs.Keeping.{plan-room, chained-same, wait-same, sound-more}
 use Rattle.grow_leg.specs.OneLeg.{outcomeAs, legOutcome, WalkedAs, AtEnd, SomeWay, Free}
 use Rattle.grow_leg.proofs.Paths.{path-is}
@@ -47,7 +47,7 @@ take-is b places net run saved = go (row11 (legCourse b (run .leg)))
     go false = refl
 
 module _ {b : List ℕ} {p : Plan} {fs : List Float} {us : List ℕ} {reals : List Float} {cells joins path : List ℕ} {g : State} {net : Net} {run : Run} {saved : List Run}
-    (plan : PlanIn b p (length reals)) (moves : g .front .moves ≡ true) (d : DriveIn b p fs us reals cells joins path g net (run ∷ saved))
+    (plan : PlanIn b p (length reals)) (moves : g .front .moves ≡ true) (d : DriveIn b p (lists fs us reals cells joins) path g net (run ∷ saved))
     (fs′ : List Float) (us′ : List ℕ) (reals′ : List Float) (cells′ joins′ : List ℕ) (long : length cells′ ≡ length cells) (r : RunAnswer)
     (w : WalkedAs b p (run .leg) (g .front .depth) (legOutcome b (p .w .places) net run) reals cells fs′ us′ reals′ cells′ joins′ r) (more : NotFewer (g .counts) r) where
   abbrev start : List ℕ
@@ -92,8 +92,8 @@ module _ {b : List ℕ} {p : Plan} {fs : List Float} {us : List ℕ} {reals : Li
 
   pub take-ended : (c : Counts) → r ≡ Ended c → (h : State)
       → h ≡ record { counts = c; top = g .top; used = g .used; front = record { moves = false; mover = g .front .mover; leg = g .front .leg; depth = g .front .depth } }
-      → GivesAs (takeLeg b (p .w .places) net run saved) b p fs′ us′ reals′ cells′ joins′ h
-  take-ended c e h is = subst (GivesAs (takeLeg b (p .w .places) net run saved) b p fs′ us′ reals′ cells′ joins′) (sym is) gives
+      → GivesAs (takeLeg b (p .w .places) net run saved) b p (lists fs′ us′ reals′ cells′ joins′) h
+  take-ended c e h is = subst (GivesAs (takeLeg b (p .w .places) net run saved) b p (lists fs′ us′ reals′ cells′ joins′)) (sym is) gives
     where
       o : LeftAs (legOutcome b (p .w .places) net run) (p .w) start fs′ us′ cells′ c
       o = subst (OutcomeAs (legOutcome b (p .w .places) net run) (p .w) start (run .leg) fs′ us′ cells′ joins′) e (w .outcome)
@@ -101,7 +101,7 @@ module _ {b : List ℕ} {p : Plan} {fs : List Float} {us : List ℕ} {reals : Li
       grows : g .counts .nodes ≤ c .nodes
       grows = subst (NotFewer (g .counts)) e more
 
-      gives : GivesAs (takeLeg b (p .w .places) net run saved) b p fs′ us′ reals′ cells′ joins′ (record { counts = c; top = g .top; used = g .used; front = record { moves = false; mover = g .front .mover; leg = g .front .leg; depth = g .front .depth } })
+      gives : GivesAs (takeLeg b (p .w .places) net run saved) b p (lists fs′ us′ reals′ cells′ joins′) (record { counts = c; top = g .top; used = g .used; front = record { moves = false; mover = g .front .mover; leg = g .front .leg; depth = g .front .depth } })
       gives = record {
         growth = record { net = o .after; saved = saved };
         is = take-is b (p .w .places) net run saved ∙ ap (λ (x : Answer Outcome). andThen x (legDone b (p .w .places) saved)) (o .is);
@@ -145,9 +145,9 @@ module _ {b : List ℕ} {p : Plan} {fs : List Float} {us : List ℕ} {reals : Li
       sound-more b (g .counts .nodes) (c .nodes) saved grows (d .sound .1),
     )
 
-    pub took-ends : AtEnd b p fs′ us′ reals′ cells′ joins′ h (took .after .net) on saved
+    pub took-ends : AtEnd b p (lists fs′ us′ reals′ cells′ joins′) h (took .after .net) on saved
     took-ends =
-        subst (λ (s : State). AtEnd b p fs′ us′ reals′ cells′ joins′ s (took .after .net) on saved) (sym is)
+        subst (λ (s : State). AtEnd b p (lists fs′ us′ reals′ cells′ joins′) s (took .after .net) on saved) (sym is)
         (record {
           moves = refl;
           grown = net-restart (took .net);
@@ -167,9 +167,9 @@ module _ {b : List ℕ} {p : Plan} {fs : List Float} {us : List ℕ} {reals : Li
     pub took-free : (l : ℕ) → Free b on saved l
     took-free = all-free (plan-above plan) on (c .nodes) saved sound (subst (λ (j : ℕ). SeparateFrom b j saved) (sym leg-same) (d .separate .0))
 
-    pub took-way : SomeWay b p fs′ us′ reals′ cells′ joins′ h
+    pub took-way : SomeWay b p (lists fs′ us′ reals′ cells′ joins′) h
     took-way = record { net = took .after .net; run = on; rest = saved; ends = took-ends; free = took-free }
 
-    pub take-on : (reals″ : List Float) (cells″ : List ℕ) (t : GrowthAnswer) → TurnedAs (legEndAs (finishes b (on .leg)) b (p .w .places) (took .after) saved) b p fs′ us′ reals″ cells″ joins′ t → TurnedAs (takeLeg b (p .w .places) net run saved) b p fs′ us′ reals″ cells″ joins′ t
+    pub take-on : (reals″ : List Float) (cells″ : List ℕ) (t : GrowthAnswer) → TurnedAs (legEndAs (finishes b (on .leg)) b (p .w .places) (took .after) saved) b p (lists fs′ us′ reals″ cells″ joins′) t → TurnedAs (takeLeg b (p .w .places) net run saved) b p (lists fs′ us′ reals″ cells″ joins′) t
     take-on reals″ cells″ t x =
-        subst (λ (y : Answer Growth). TurnedAs y b p fs′ us′ reals″ cells″ joins′ t) (sym (take-is b (p .w .places) net run saved ∙ ap (λ (y : Answer Outcome). andThen y (legDone b (p .w .places) saved)) (took .is))) x
+        subst (λ (y : Answer Growth). TurnedAs y b p (lists fs′ us′ reals″ cells″ joins′) t) (sym (take-is b (p .w .places) net run saved ∙ ap (λ (y : Answer Outcome). andThen y (legDone b (p .w .places) saved)) (took .is))) x

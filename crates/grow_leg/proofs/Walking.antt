@@ -39,8 +39,8 @@ use Rattle.grow_events.specs.declared.RunAnswer.the-variants.{Refused}
 use Rattle.grow_events.specs.Held.{NetIn, RunIn, Moving, Along, SomePath, OutcomeAs, unlessBad}
 use Rattle.grow_state.specs.declared.Plan.{Plan}
 use Rattle.grow_state.specs.declared.State.{State}
-use Rattle.grow_state.specs.Held.{PlanIn, DriveIn, Driving, FrontIn, WaitIn, RunsIn, pathBefore}
-use Rattle.grow_state.proofs.Keeping.{net-same}
+use Rattle.grow_state.specs.Held.{PlanIn, DriveIn, Driving, FrontIn, WaitIn, RunsIn, pathBefore, lists}
+use Rattle.grow_events.proofs.Kept.{net-same}
 use Rattle.grow_leg.specs.OneLeg.{outcomeAs, legOutcome, WalkedAs}
 use Rattle.grow_leg.proofs.Paths.{path-is, path-long, path-named}
 use Rattle.grow_path.proofs.Paths.{path-most}
@@ -77,17 +77,17 @@ pub record SomeFront (b : List ℕ) (p : Plan) (fs : List Float) (us : List ℕ)
   pub net : Net
   pub run : Run
   pub saved : List Run
-  pub holds : DriveIn b p fs us reals cells joins path g net (run ∷ saved)
+  pub holds : DriveIn b p (lists fs us reals cells joins) path g net (run ∷ saved)
 
-pub some-front : {b : List ℕ} {p : Plan} {fs : List Float} {us : List ℕ} {reals : List Float} {cells joins : List ℕ} {g : State} → g .front .moves ≡ true → Driving b p fs us reals cells joins g → SomeFront b p fs us reals cells joins g
+pub some-front : {b : List ℕ} {p : Plan} {fs : List Float} {us : List ℕ} {reals : List Float} {cells joins : List ℕ} {g : State} → g .front .moves ≡ true → Driving b p (lists fs us reals cells joins) g → SomeFront b p fs us reals cells joins g
 some-front {b} {p} {fs} {us} {reals} {cells} {joins} {g} moves v = go (v .runs) (v .holds)
   where
-    go : (runs : List Run) → DriveIn b p fs us reals cells joins (v .path) g (v .net) runs → SomeFront b p fs us reals cells joins g
+    go : (runs : List Run) → DriveIn b p (lists fs us reals cells joins) (v .path) g (v .net) runs → SomeFront b p fs us reals cells joins g
     go [] d = absurd (subst (λ (t : Bool). RunsIn t b (p .r) reals cells joins g []) moves (d .waiting))
     go (run ∷ saved) d = record { path = v .path; net = v .net; run = run; saved = saved; holds = d }
 
 module _ {b : List ℕ} {p : Plan} {fs : List Float} {us : List ℕ} {reals : List Float} {cells joins path : List ℕ} {g : State} {net : Net} {run : Run} {saved : List Run}
-    (plan : PlanIn b p (length reals)) (moves : g .front .moves ≡ true) (d : DriveIn b p fs us reals cells joins path g net (run ∷ saved)) where
+    (plan : PlanIn b p (length reals)) (moves : g .front .moves ≡ true) (d : DriveIn b p (lists fs us reals cells joins) path g net (run ∷ saved)) where
   both : FrontIn b joins (g .counts .nodes) (g .front) run × WaitIn b (p .r) reals cells (g .top) (g .used) saved
   both = subst (λ (t : Bool). RunsIn t b (p .r) reals cells joins g (run ∷ saved)) moves (d .waiting)
 

@@ -20,11 +20,13 @@ ghost use Rattle.book_options.specs.Options.{OptionsIn};
 ghost use Rattle.grow_path.specs.Path.{linkOf};
 ghost use Rattle.grow_rules.specs.Growth.{isDestination};
 ghost use Rattle.grow_events.specs.Held.{NotFewer};
-ghost use Rattle.grow_state.specs.Held.{PlanIn, Driving, listsAtEntry, listsAtExit};
+ghost use Rattle.grow_state.specs.Held.{PlanIn, Driving, listsAtEntry, listsAtExit, lists};
 ghost use Rattle.net_node.specs.Lent.{tableAtEntry};
+ghost use Rattle.grow_waiting.specs.Steps.{stacksAtEntry, stacksAtExit};
 ghost use Rattle.grow_leg.specs.OneLeg.{SomeFinish, SomeLeg, SomeEnding, SomeWay, SomeGoing, waysBehind};
+ghost use Rattle.grow_leg.specs.OneLeg.{listsSaved};
 ghost use Rattle.grow_leg.specs.OneLeg.{standingAt, FinishesRun, GoesOver, SavesOver, GoesBehind, EndsLeg};
-ghost use Rattle.grow_leg.specs.OneLeg.{WalksLeg, TakesLeg, savesAtEntry, savesAtExit};
+ghost use Rattle.grow_leg.specs.OneLeg.{WalksLeg, TakesLeg};
 
 // The links over which a run can go on. Of two the alternative is saved.
 pub enum Ways {
@@ -179,8 +181,8 @@ fn save_over(
     requires { ⌜ PlanIn (now book) p (length (now reals)) ⌝ }
     requires { ⌜ SomeEnding (now book) p (now reals) (now cells) (now joins) g ⌝ }
     requires { ⌜ 2048 ≤ length (now joins) ⌝ }
-    ensures { λ r. ⌜ SavesOver (now (book .entry)) p g «link_idx» (savesAtEntry reals cells joins)
-        (savesAtExit reals cells joins) r ⌝ }
+    ensures { λ r. ⌜ SavesOver (now (book .entry)) p g «link_idx» (stacksAtEntry cells reals)
+        (stacksAtExit cells reals) (now (joins .entry)) r ⌝ }
 {
     let s = p.s;
     let r = p.r;
@@ -233,8 +235,8 @@ fn go_on(
     requires { ⌜ SomeGoing (now book) p (now reals) (now cells) (now joins) g ⌝ }
     requires { ⌜ «link_idx» ≡ linkOf (now book) (g .front .leg) ⌝ }
     requires { ⌜ 2048 ≤ length (now joins) ⌝ }
-    ensures { λ r. ⌜ GoesBehind (now (book .entry)) p g (savesAtEntry reals cells joins) (savesAtExit reals cells joins)
-        r ⌝ }
+    ensures { λ r. ⌜ GoesBehind (now (book .entry)) p g (stacksAtEntry cells reals) (stacksAtExit cells reals)
+        (now (joins .entry)) r ⌝ }
 {
     let s = p.s;
     let ways = ways_behind(book, s, marks, link_idx);
@@ -267,10 +269,10 @@ fn end_leg(
     requires { ⌜ PlanIn (now book) p (length (now reals)) ⌝ }
     requires { ⌜ OptionsIn (now book) (now marks) ⌝ }
     requires { ⌜ links (now book) ≤ length (now marks) ⌝ }
-    requires { ⌜ SomeWay (now book) p (now floats) (now numbers) (now reals) (now cells) (now joins) g ⌝ }
+    requires { ⌜ SomeWay (now book) p (lists (now floats) (now numbers) (now reals) (now cells) (now joins)) g ⌝ }
     requires { ⌜ 2048 ≤ length (now joins) ⌝ }
-    ensures { λ r. ⌜ EndsLeg (now (book .entry)) p g (tableAtEntry floats numbers) (savesAtEntry reals cells joins)
-        (savesAtExit reals cells joins) r ⌝ }
+    ensures { λ r. ⌜ EndsLeg (now (book .entry)) p g (listsAtEntry floats numbers reals cells joins)
+        (listsSaved floats numbers reals cells joins) r ⌝ }
 {
     let s = p.s;
     let front = g.front;
@@ -296,7 +298,7 @@ fn walk_leg(
     g: State,
 ) -> RunAnswer
     requires { ⌜ PlanIn (now book) p (length (now reals)) ⌝ }
-    requires { ⌜ Driving (now book) p (now floats) (now numbers) (now reals) (now cells) (now joins) g ⌝ }
+    requires { ⌜ Driving (now book) p (lists (now floats) (now numbers) (now reals) (now cells) (now joins)) g ⌝ }
     requires { ⌜ g .front .moves ≡ true ⌝ }
     requires { ⌜ 2048 ≤ length (now joins) ⌝ }
     requires { ⌜ 2048 ≤ length (now scratch) ⌝ }
@@ -351,7 +353,7 @@ pub fn turn(
     requires { ⌜ PlanIn (now book) p (length (now reals)) ⌝ }
     requires { ⌜ OptionsIn (now book) (now marks) ⌝ }
     requires { ⌜ links (now book) ≤ length (now marks) ⌝ }
-    requires { ⌜ Driving (now book) p (now floats) (now numbers) (now reals) (now cells) (now joins) g ⌝ }
+    requires { ⌜ Driving (now book) p (lists (now floats) (now numbers) (now reals) (now cells) (now joins)) g ⌝ }
     requires { ⌜ g .front .moves ≡ true ⌝ }
     requires { ⌜ 2048 ≤ length (now joins) ⌝ }
     requires { ⌜ 2048 ≤ length (now scratch) ⌝ }

@@ -22,7 +22,7 @@ use Rattle.net_insertion.specs.declared.Inserted.the-variants.{Added}
 use Rattle.net_insertion.specs.Insertion.{seek, linkedTo, eventNode, splitFake, addBehind, splitAt, placeAt, addedAs, inserted, insertedTable}
 use Rattle.net_insertion.proofs.Puts.{add-found, add-new, add-indexed, add-other, add-room, split-found, split-new, split-indexed, split-other, split-room}
 use Rattle.grow_rules.specs.Run.{Net, Run, After, addedTo, movedTo, memberOf, insertedRun, insertEvent}
-use Rattle.grow_rules.specs.Growth.{Growth, joinGap, originEvent, originRun, seekLeg, growOrigin}
+use Rattle.grow_rules.specs.Growth.{Growth, joinGap, originEvent, originRun, seekLeg, growOrigin, originClear, originArrive}
 use Rattle.grow_origins.specs.Origins.{OtherLinks}
 use Rattle.grow_origins.proofs.Starting.{AtLast, Alone, Leading, Comes, comes-first, first-finds, last-past, open-stops, open-answer, open-table, past-answer, past-table, last-behind, last-split}
 use Rattle.grow_origins.proofs.OriginEvents.{Filled, arrived, clears}
@@ -132,10 +132,10 @@ new-event e i = refl
 module _ (b : List ℕ) (places idx : ℕ) (idxs : List ℕ) (net : Net) (last link : ℕ) (v : AtLast b (idx ∷ idxs) (net .table) (net .nodes) last) (room : RoomIn (net .table) places) (indexed : Indexed (at (net .table)) (net .nodes))
     (named : link ≡ originLink b idx) (apart : OtherLinks b link idxs) (mid : After) (first : arrived b places link net ≡ given mid) (a : After) (second : clears b places link net mid ≡ given a) where
   abbrev arrive : TimedEvent
-  arrive = originEvent b link Arrive (ofBits binary64 0)
+  arrive = originArrive b link
 
   abbrev clear : TimedEvent
-  clear = originEvent b link Clear (add binary64 (ofBits binary64 0) (floatOf (lengthBits b)))
+  clear = originClear b link
 
   link-is : arrive .«link_event» .«link_idx» ≡ link
   unfolding originEvent

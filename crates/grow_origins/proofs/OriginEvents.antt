@@ -16,37 +16,31 @@ use Rattle.net_insertion.specs.declared.Place.{Place}
 use Rattle.net_insertion.specs.declared.Inserted.{Inserted}
 use Rattle.net_insertion.specs.declared.Inserted.the-variants.{Added, Moved}
 use Rattle.net_insertion.specs.declared.Inserted.the-variants.{Refused as NotIn}
-use Rattle.net_insertion.specs.Insertion.{inserted, insertedTable}
+use Rattle.net_insertion.specs.Insertion.{inserted, insertedTable, tableOf}
 use Rattle.net_strands.specs.declared.EstJoinPath.{EstJoinPath}
 use Rattle.net_strands.specs.Entries.{entriesIn}
 use Rattle.net_event_map.specs.declared.Layout.{Layout}
 use Rattle.net_event_map.specs.EventMap.{RealKind, Real}
 use Rattle.grow_rules.specs.Run.{Arc, Net, Run, After, arcTo, addedTo, movedTo, insertedRun, insertEvent, goesOn, memberOf}
 use Rattle.grow_rules.specs.Run.{Outcome, Ended as Left, On as Goes}
-use Rattle.grow_rules.specs.Growth.{joinGap, departure, originEvent, originRun, seekLeg, growOrigin}
+use Rattle.grow_rules.specs.Growth.{joinGap, departure, originEvent, originRun, seekLeg, growOrigin, originClear, originArrive}
 use Rattle.grow_events.specs.declared.Counts.{Counts}
 use Rattle.grow_events.specs.declared.Mover.{Mover}
 use Rattle.grow_events.specs.declared.RunAnswer.{RunAnswer}
 use Rattle.grow_events.specs.declared.RunAnswer.the-variants.{On, Ended, Refused}
-use Rattle.grow_events.specs.Held.{NetIn, RunIn, Growing, OutcomeAs, NotFewer}
-use Rattle.grow_events.proofs.Kept.{goes-given}
+use Rattle.grow_events.specs.Held.{NetIn, RunIn, Growing, OutcomeAs, NotFewer, InsertsEvent}
+use Rattle.grow_events.proofs.Kept.{goes-given, net-noted}
 use Rattle.grow_state.specs.declared.Plan.{Plan}
 use Rattle.grow_state.specs.Held.{PlanIn}
-use Rattle.grow_origins.specs.Origins.{originAnswer, placeOn, LeadsFrom, savedOrigin}
+use Rattle.grow_origins.specs.Origins.{originAnswer, placeOn, LeadsFrom, savedOrigin, moverAt, eventAtRest}
 
 -- ---- the run and the events, as the code makes them
-
-abbrev moverAt : Float → ℕ → Mover
-moverAt time i = record { place = placeOn time (ofBits binary64 0) i; «has_split» = false; count = 0 }
 
 -- the run of the definition, but on node i
 abbrev runAt : Float → ℕ → Run
 runAt time i = record { place = placeOn time (ofBits binary64 0) i; leg = 0; «has_split» = false; joins = [] }
 
-abbrev eventOf : Float → ℕ → EstType → Float → TimedEvent
-eventOf time link kind offset = record { time = time; offset = offset; speed = ofBits binary64 0; «link_event» = record { «link_idx» = link; «est_type» = kind } }
-
-pub real-event : (e : TimedEvent) (time : Float) (link : ℕ) (kind : EstType) (offset : Float) (links : ℕ) → e ≡ eventOf time link kind offset → RealKind kind → link < links → Real (e .«link_event») links
+pub real-event : (e : TimedEvent) (time : Float) (link : ℕ) (kind : EstType) (offset : Float) (links : ℕ) → e ≡ eventAtRest time link kind offset → RealKind kind → link < links → Real (e .«link_event») links
 real-event e time link kind offset links d k h = subst (λ (x : TimedEvent). Real (x .«link_event») links) (sym d) (k, h)
 
 run-there : (n : ℕ) (joins : List ℕ) (time : Float) (i : ℕ) (m : Mover) → m ≡ moverAt time i → i < n → RunIn n 0 joins m (runAt time i)
@@ -65,11 +59,7 @@ run-there n joins time i m e h = subst (λ (x : Mover). RunIn n 0 joins x (runAt
 pub first-there : (time : Float) (i : ℕ) (m : Mover) → m ≡ moverAt time i → (n : ℕ) → i < n → m .place .«idx_prev» < n
 first-there time i m e n h = subst (λ (x : Mover). x .place .«idx_prev» < n) (sym e) h
 
--- ---- what the code is told of an insertion
-
-abbrev pub Tells : Layout → Float → List Float → List ℕ → List ℕ → Counts → Mover → TimedEvent → List Float → List ℕ → List ℕ → RunAnswer → Type 0
-Tells w join fs us cells c m e fs′ us′ cells′ r =
-    (start joins : List ℕ) (leg : ℕ) (net : Net) (run : Run) → NetIn w start fs us cells c net → RunIn (c .nodes) leg joins m run → OutcomeAs (goesOn (insertEvent (w .places) join net run e)) w start leg fs′ us′ cells′ joins r
+-- ---- how many nodes there are
 
 pub fewer-more : (c d : Counts) (r : RunAnswer) → c .nodes ≤ d .nodes → NotFewer d r → NotFewer c r
 fewer-more c d (On x y) h g = omega arith
@@ -81,7 +71,7 @@ fewer-as c d m r e h = subst (NotFewer c) e h
 
 -- ---- the first event
 
-module _ (w : Layout) (join time : Float) (last : ℕ) (fs : List Float) (us cells : List ℕ) (c : Counts) (m : Mover) (e : TimedEvent) (fs′ : List Float) (us′ cells′ : List ℕ) (r : RunAnswer) (t : Tells w join fs us cells c m e fs′ us′ cells′ r)
+module _ (w : Layout) (join time : Float) (last : ℕ) (fs : List Float) (us cells : List ℕ) (c : Counts) (m : Mover) (e : TimedEvent) (fs′ : List Float) (us′ cells′ : List ℕ) (r : RunAnswer) (t : InsertsEvent w join c m e (tableOf fs us) cells (tableOf fs′ us′) cells′ r)
     (dm : m ≡ moverAt time last) (within : last < c .nodes) where
   -- a network is there for the second
   pub first-grown : Growing w fs us cells c → (d : Counts) (n : Mover) → r ≡ On d n → Growing w fs′ us′ cells′ d × (n .place .«idx_prev» < d .nodes)
@@ -120,31 +110,10 @@ goneIn d (given (Goes x)) = x
 goneIn d (given (Left net)) = d
 goneIn d (refused n) = d
 
--- what is held says nothing of the arcs
-net-noted : {w : Layout} {start : List ℕ} {fs : List Float} {us cells : List ℕ} {c : Counts} (net : Net) (t : Table) (q : Place) (split : Bool) (x y : Arc) → NetIn w start fs us cells c (addedTo net t q split x) → NetIn w start fs us cells c (addedTo net t q split y)
-unfolding addedTo
-net-noted net t q split x y v = record {
-  table = v .table;
-  nodes = v .nodes;
-  added = v .added;
-  splits = v .splits;
-  joined = v .joined;
-  sum = v .sum;
-  room = v .room;
-  within = v .within;
-  indexed = v .indexed;
-  apart = v .apart;
-  mapped = v .mapped;
-  ends = v .ends;
-  ends-below = v .ends-below;
-  ended = v .ended;
-  elsewhere = v .elsewhere;
-}
-
 module _ (net : Net) (time : Float) (last : ℕ) (e : TimedEvent) (w : Layout) (start : List ℕ) (fs : List Float) (us cells joins : List ℕ) (r : RunAnswer) where
   -- an answer from node `last` is one from the start: only the arc differs
   answer-from : (t : Table) (x : Inserted) → OutcomeAs (goesOn (insertedRun net (runAt time last) e t x)) w start 0 fs us cells joins r → OutcomeAs (goesOn (insertedRun net (runAt time 1) e t x)) w start 0 fs us cells joins r
-  unfolding movedTo
+  unfolding movedTo addedTo
   answer-from t (NotIn k) o = o
   answer-from t (Moved q) o = o
   answer-from t (Added q split) o = go r o
@@ -158,7 +127,7 @@ module _ (net : Net) (time : Float) (last : ℕ) (e : TimedEvent) (w : Layout) (
           record {
             after = record { net = addedTo net t q split (arcTo (placeOn time (ofBits binary64 0) 1) (q .«idx_prev») e); run = movedTo (runAt time 1) q true };
             is = refl;
-            net = net-noted net t q split _ _ (subst (λ (z : After). NetIn w start fs us cells c (z .net)) s (o .net));
+            net = net-noted (subst (λ (z : After). NetIn w start fs us cells c (z .net)) s (o .net)) (arcTo (placeOn time (ofBits binary64 0) 1) (q .«idx_prev») e ∷ net .noted);
             run = subst (λ (z : After). RunIn (c .nodes) 0 joins m (z .run)) s (o .run);
           }
       go (Ended c) o = absurd (subst Lost (sym (o .is)) tt)
@@ -175,7 +144,7 @@ module _ (net : Net) (time : Float) (last : ℕ) (e : TimedEvent) (w : Layout) (
       (l .table join time (ofBits binary64 0) e d)
       o))
 
-leads-net : {w : Layout} {start : List ℕ} {fs : List Float} {us cells : List ℕ} {c : Counts} {net : Net} (last link : ℕ) → NetIn w start fs us cells c net → LeadsFrom (record { floats = fs; numbers = us }) (c .nodes) last link → LeadsFrom (net .table) (net .nodes) last link
+leads-net : {w : Layout} {start : List ℕ} {fs : List Float} {us cells : List ℕ} {c : Counts} {net : Net} (last link : ℕ) → NetIn w start fs us cells c net → LeadsFrom (tableOf fs us) (c .nodes) last link → LeadsFrom (net .table) (net .nodes) last link
 leads-net {c = c} {net = net} last link v l =
     subst (λ (n : ℕ). LeadsFrom (net .table) n last link) (sym (v .nodes)) (subst (λ (t : Table). LeadsFrom t (c .nodes) last link) (sym (v .table)) l)
 
@@ -183,24 +152,24 @@ leads-net {c = c} {net = net} last link v l =
 
 module _ (b : List ℕ) (places link : ℕ) (net : Net) where
   abbrev pub clears : After → Answer After
-  clears a = insertEvent places (joinGap b) (a .net) (a .run) (originEvent b link Clear (add binary64 (ofBits binary64 0) (floatOf (lengthBits b))))
+  clears a = insertEvent places (joinGap b) (a .net) (a .run) (originClear b link)
 
   abbrev pub arrived : Answer After
-  arrived = insertEvent places (joinGap b) net (originRun b) (originEvent b link Arrive (ofBits binary64 0))
+  arrived = insertEvent places (joinGap b) net (originRun b) (originArrive b link)
 
   answered : originAnswer b places link net ≡ goesOn (andThen arrived clears)
   unfolding originAnswer
   answered = refl
 
 module _ (b : List ℕ) (p : Plan) (reals : ℕ) (plan : PlanIn b p reals) (link : ℕ) (fs : List Float) (us cells : List ℕ) (c : Counts) (m : Mover) (e : TimedEvent) (fs′ : List Float) (us′ cells′ : List ℕ) (r : RunAnswer)
-    (t : Tells (p .w) (p .join) fs us cells c m e fs′ us′ cells′ r) (last : ℕ) (leads : LeadsFrom (record { floats = fs; numbers = us }) (c .nodes) last link) (dm : m ≡ moverAt (p .departure) last)
-    (de : e ≡ eventOf (p .departure) link Arrive (ofBits binary64 0)) (start joins : List ℕ) (net : Net) (v : NetIn (p .w) start fs us cells c net) where
-  arrives : OutcomeAs (goesOn (insertEvent (p .w .places) (joinGap b) net (originRun b) (originEvent b link Arrive (ofBits binary64 0)))) (p .w) start 0 fs′ us′ cells′ joins r
+    (t : InsertsEvent (p .w) (p .join) c m e (tableOf fs us) cells (tableOf fs′ us′) cells′ r) (last : ℕ) (leads : LeadsFrom (tableOf fs us) (c .nodes) last link) (dm : m ≡ moverAt (p .departure) last)
+    (de : e ≡ eventAtRest (p .departure) link Arrive (ofBits binary64 0)) (start joins : List ℕ) (net : Net) (v : NetIn (p .w) start fs us cells c net) where
+  arrives : OutcomeAs (goesOn (insertEvent (p .w .places) (joinGap b) net (originRun b) (originArrive b link))) (p .w) start 0 fs′ us′ cells′ joins r
   unfolding originRun originEvent
   arrives =
-      event-from net (departure b) last (originEvent b link Arrive (ofBits binary64 0)) (p .w) start fs′ us′ cells′ joins r (p .w .places) (joinGap b) link (leads-net last link v leads) refl
-      (subst (λ (j : Float). OutcomeAs (goesOn (insertEvent (p .w .places) j net (runAt (departure b) last) (originEvent b link Arrive (ofBits binary64 0)))) (p .w) start 0 fs′ us′ cells′ joins r) (plan .join)
-      (subst (λ (x : TimedEvent). OutcomeAs (goesOn (insertEvent (p .w .places) (p .join) net (runAt (departure b) last) x)) (p .w) start 0 fs′ us′ cells′ joins r) (de ∙ ap (λ (x : Float). eventOf x link Arrive (ofBits binary64 0)) (plan .departs))
+      event-from net (departure b) last (originArrive b link) (p .w) start fs′ us′ cells′ joins r (p .w .places) (joinGap b) link (leads-net last link v leads) refl
+      (subst (λ (j : Float). OutcomeAs (goesOn (insertEvent (p .w .places) j net (runAt (departure b) last) (originArrive b link))) (p .w) start 0 fs′ us′ cells′ joins r) (plan .join)
+      (subst (λ (x : TimedEvent). OutcomeAs (goesOn (insertEvent (p .w .places) (p .join) net (runAt (departure b) last) x)) (p .w) start 0 fs′ us′ cells′ joins r) (de ∙ ap (λ (x : Float). eventAtRest x link Arrive (ofBits binary64 0)) (plan .departs))
       (t start joins 0 net (runAt (departure b) last) v (run-there (c .nodes) joins (departure b) last m (dm ∙ ap (λ (x : Float). moverAt x last) (plan .departs)) (leads .within)))))
 
   -- the run does not go on at the Arrive
@@ -213,16 +182,16 @@ module _ (b : List ℕ) (p : Plan) (reals : ℕ) (plan : PlanIn b p reals) (link
       go (Refused k) q o = answered b (p .w .places) link net ∙ ap (λ (a : Answer After). goesOn (andThen a (clears b (p .w .places) link net))) (goes-refused (arrived b (p .w .places) link net) k o)
 
   -- it goes on, and clears
-  pub origin-clears : (d : Counts) (n : Mover) → r ≡ On d n → (f : TimedEvent) → f ≡ eventOf (p .departure) link Clear (add binary64 (ofBits binary64 0) (p .length)) → (fs″ : List Float) (us″ cells″ : List ℕ) (x : RunAnswer)
-      → Tells (p .w) (p .join) fs′ us′ cells′ d n f fs″ us″ cells″ x → OutcomeAs (originAnswer b (p .w .places) link net) (p .w) start 0 fs″ us″ cells″ joins x
+  pub origin-clears : (d : Counts) (n : Mover) → r ≡ On d n → (f : TimedEvent) → f ≡ eventAtRest (p .departure) link Clear (add binary64 (ofBits binary64 0) (p .length)) → (fs″ : List Float) (us″ cells″ : List ℕ) (x : RunAnswer)
+      → InsertsEvent (p .w) (p .join) d n f (tableOf fs′ us′) cells′ (tableOf fs″ us″) cells″ x → OutcomeAs (originAnswer b (p .w .places) link net) (p .w) start 0 fs″ us″ cells″ joins x
   unfolding originEvent
   origin-clears d n q f df fs″ us″ cells″ x u =
       let o = subst (OutcomeAs (goesOn (arrived b (p .w .places) link net)) (p .w) start 0 fs′ us′ cells′ joins) q arrives in
       let a : After = o .after in
       let g : arrived b (p .w .places) link net ≡ given a = goes-given (arrived b (p .w .places) link net) a (o .is) in
-      let ev : f ≡ originEvent b link Clear (add binary64 (ofBits binary64 0) (floatOf (lengthBits b))) = df ∙ ap (λ (y : Float). eventOf y link Clear (add binary64 (ofBits binary64 0) (p .length))) (plan .departs) ∙ ap (λ (y : Float). eventOf (departure b) link Clear (add binary64 (ofBits binary64 0) y)) (plan .train) in
+      let ev : f ≡ originClear b link = df ∙ ap (λ (y : Float). eventAtRest y link Clear (add binary64 (ofBits binary64 0) (p .length))) (plan .departs) ∙ ap (λ (y : Float). eventAtRest (departure b) link Clear (add binary64 (ofBits binary64 0) y)) (plan .train) in
       subst (λ (y : Answer Outcome). OutcomeAs y (p .w) start 0 fs″ us″ cells″ joins x) (sym (answered b (p .w .places) link net ∙ ap (λ (y : Answer After). goesOn (andThen y (clears b (p .w .places) link net))) g))
-      (subst (λ (j : Float). OutcomeAs (goesOn (insertEvent (p .w .places) j (a .net) (a .run) (originEvent b link Clear (add binary64 (ofBits binary64 0) (floatOf (lengthBits b)))))) (p .w) start 0 fs″ us″ cells″ joins x) (plan .join)
+      (subst (λ (j : Float). OutcomeAs (goesOn (insertEvent (p .w .places) j (a .net) (a .run) (originClear b link))) (p .w) start 0 fs″ us″ cells″ joins x) (plan .join)
       (subst (λ (y : TimedEvent). OutcomeAs (goesOn (insertEvent (p .w .places) (p .join) (a .net) (a .run) y)) (p .w) start 0 fs″ us″ cells″ joins x) ev
       (u start joins 0 (a .net) (a .run) (o .net) (o .run))))
 
@@ -269,8 +238,8 @@ module _ (b : List ℕ) (places link : ℕ) (net : Net) where
   unfolding originRun
   origin-joins a h =
       let k = then-both (arrived b places link net) (clears b places link net) a (goes-given (andThen (arrived b places link net) (clears b places link net)) a (sym (answered b places link net) ∙ h)) in
-      insert-joins places (joinGap b) (k .mid .net) (k .mid .run) (originEvent b link Clear (add binary64 (ofBits binary64 0) (floatOf (lengthBits b)))) a (k .second)
-      ∙ insert-joins places (joinGap b) net (originRun b) (originEvent b link Arrive (ofBits binary64 0)) (k .mid) (k .first)
+      insert-joins places (joinGap b) (k .mid .net) (k .mid .run) (originClear b link) a (k .second)
+      ∙ insert-joins places (joinGap b) net (originRun b) (originArrive b link) (k .mid) (k .first)
 
   -- insertion never ends a run
   pub origin-not-left : (after : Net) → originAnswer b places link net ≡ given (Left after) → ⊥

@@ -27,8 +27,9 @@ use Rattle.grow_state.specs.declared.Plan.{Plan}
 use Rattle.grow_state.specs.declared.State.{State}
 use Rattle.grow_state.specs.declared.GrowthAnswer.{GrowthAnswer}
 use Rattle.grow_state.specs.declared.GrowthAnswer.the-variants.{On, Refused}
-use Rattle.grow_state.specs.Held.{PlanIn}
+use Rattle.grow_state.specs.Held.{PlanIn, lists}
 use Rattle.net_node.specs.Table.{Indexed, nodeAt, Table, at}
+use Rattle.net_insertion.specs.Insertion.{tableOf}
 use Rattle.grow_origins.specs.Origins.{originAnswer, LeadsFrom, OnlyStart, OtherLinks, AllFirst, NotOver, OriginsIn, SomeOrigin, SomeOrigins, OriginsGiven, OriginsAs, savedOrigin, OriginInserted, SomeOriginInserted}
 use Rattle.grow_origins.proofs.OriginEvents.{fewer-as, origin-joins, origin-not-left, origin-given, origin-refused}
 use Rattle.grow_origins.proofs.Starting.{AtLast, at-start, comes-first, leads-from}
@@ -57,13 +58,13 @@ leads-as t n last link link′ e l = subst (LeadsFrom t n last) (sym e) l
 module _ (b : List ℕ) (p : Plan) (fs : List Float) (us : List ℕ) (reals : List Float) (cells joins : List ℕ) (g : State) (idx link : ℕ) (named : link ≡ originLink b idx) (plan : PlanIn b p (length reals))
     (fs′ : List Float) (us′ cells′ : List ℕ) (long : length cells′ ≡ length cells) (r : RunAnswer) (more : NotFewer (g .counts) r)
     (t : (b : List ℕ) (reals : ℕ) (start joins : List ℕ) (net : Net) → PlanIn b p reals → NetIn (p .w) start fs us cells (g .counts) net → OutcomeAs (originAnswer b (p .w .places) link net) (p .w) start 0 fs′ us′ cells′ joins r) where
-  module _ (idxs : List ℕ) (net : Net) (runs : List Run) (o : OriginsIn b p fs us reals cells joins (idx ∷ idxs) g net runs) where
+  module _ (idxs : List ℕ) (net : Net) (runs : List Run) (o : OriginsIn b p (lists fs us reals cells joins) (idx ∷ idxs) g net runs) where
     told : OutcomeAs (originAnswer b (p .w .places) link net) (p .w) cells 0 fs′ us′ cells′ joins r
     told = t b (length reals) cells joins net plan (o .holds .grown)
 
     -- its run is at a place
     inserted-origin : OtherLinks b (originLink b idx) idxs → (c : Counts) (m : Mover) → r ≡ Goes c m → (x : GoesAs (originAnswer b (p .w .places) link net) (p .w) cells 0 fs′ us′ cells′ joins c m)
-        → OriginInserted b p fs′ us′ reals cells′ joins idxs g c (m .place) link (x .after .net) (x .after .run) runs
+        → OriginInserted b p (lists fs′ us′ reals cells′ joins) idxs g c (m .place) link (x .after .net) (x .after .run) runs
     inserted-origin d c m e x = record {
       origins = record {
         holds = drive-grown plan (o .holds) (o .idle) (x .net) (fewer-as (g .counts) c m r e more) long;
@@ -79,12 +80,12 @@ module _ (b : List ℕ) (p : Plan) (fs : List Float) (us : List ℕ) (reals : Li
 
     -- what saving it gives
     pub origin-on : OtherLinks b (originLink b idx) idxs → (c : Counts) (m : Mover) → r ≡ Goes c m → (reals′ : List Float) (cells″ : List ℕ) (k : GrowthAnswer)
-        → ((fs : List Float) (us idxs : List ℕ) (net : Net) (run : Run) (runs : List Run) → OriginInserted b p fs us reals cells′ joins idxs g c (m .place) link net run runs → OriginsAs (savedOrigin b link net run runs) b p fs us reals′ cells″ joins idxs k)
-        → OriginsAs (growOrigin b (p .w .places) (originLink b idx) (record { net = net; saved = runs })) b p fs′ us′ reals′ cells″ joins idxs k
+        → ((fs : List Float) (us idxs : List ℕ) (net : Net) (run : Run) (runs : List Run) → OriginInserted b p (lists fs us reals cells′ joins) idxs g c (m .place) link net run runs → OriginsAs (savedOrigin b link net run runs) b p (lists fs us reals′ cells″ joins) idxs k)
+        → OriginsAs (growOrigin b (p .w .places) (originLink b idx) (record { net = net; saved = runs })) b p (lists fs′ us′ reals′ cells″ joins) idxs k
     origin-on d c m e reals′ cells″ k f =
         let x : GoesAs (originAnswer b (p .w .places) link net) (p .w) cells 0 fs′ us′ cells′ joins c m = subst (OutcomeAs (originAnswer b (p .w .places) link net) (p .w) cells 0 fs′ us′ cells′ joins) e told in
-        subst (λ (l : ℕ). OriginsAs (growOrigin b (p .w .places) l (record { net = net; saved = runs })) b p fs′ us′ reals′ cells″ joins idxs k) named
-        (subst (λ (a : Answer Growth). OriginsAs a b p fs′ us′ reals′ cells″ joins idxs k) (sym (origin-given b (p .w .places) link net runs (x .after) (x .is)))
+        subst (λ (l : ℕ). OriginsAs (growOrigin b (p .w .places) l (record { net = net; saved = runs })) b p (lists fs′ us′ reals′ cells″ joins) idxs k) named
+        (subst (λ (a : Answer Growth). OriginsAs a b p (lists fs′ us′ reals′ cells″ joins) idxs k) (sym (origin-given b (p .w .places) link net runs (x .after) (x .is)))
         (f fs′ us′ idxs (x .after .net) (x .after .run) runs (inserted-origin d c m e x)))
 
     pub origin-not : (k : ℕ) → r ≡ NotIn k → growOrigin b (p .w .places) (originLink b idx) (record { net = net; saved = runs }) ≡ refused k
@@ -97,9 +98,9 @@ module _ (b : List ℕ) (p : Plan) (fs : List Float) (us : List ℕ) (reals : Li
     origin-never c e = let x = subst (OutcomeAs (originAnswer b (p .w .places) link net) (p .w) cells 0 fs′ us′ cells′ joins) e told in origin-not-left b (p .w .places) link net (x .after) (x .is)
 
   -- what saving asks
-  pub some-inserted : SomeOrigin b p fs us reals cells joins idx g → (c : Counts) (m : Mover) → r ≡ Goes c m → SomeOriginInserted b p reals cells′ joins g c (m .place) link
+  pub some-inserted : SomeOrigin b p (lists fs us reals cells joins) idx g → (c : Counts) (m : Mover) → r ≡ Goes c m → SomeOriginInserted b p reals cells′ joins g c (m .place) link
   some-inserted s c m e =
-      let o : OriginsIn b p fs us reals cells joins (idx ∷ []) g (s .net) (s .runs) = record { holds = s .origins .holds; idle = s .origins .idle; firsts = idx-alone b idx (s .idxs) (s .runs) (s .origins .firsts) } in
+      let o : OriginsIn b p (lists fs us reals cells joins) (idx ∷ []) g (s .net) (s .runs) = record { holds = s .origins .holds; idle = s .origins .idle; firsts = idx-alone b idx (s .idxs) (s .runs) (s .origins .firsts) } in
       let x : GoesAs (originAnswer b (p .w .places) link (s .net)) (p .w) cells 0 fs′ us′ cells′ joins c m = subst (OutcomeAs (originAnswer b (p .w .places) link (s .net)) (p .w) cells 0 fs′ us′ cells′ joins) e (told [] (s .net) (s .runs) o) in
       record { fs = fs′; us = us′; idxs = []; net = x .after .net; run = x .after .run; runs = s .runs; inserted-origin = inserted-origin [] (s .net) (s .runs) o tt c m e x }
 
@@ -109,7 +110,7 @@ module _ (b : List ℕ) (p : Plan) (fs : List Float) (us : List ℕ) (reals : Li
 pub record SoFar (b : List ℕ) (p : Plan) (fs : List Float) (us : List ℕ) (reals : List Float) (cells joins : List ℕ) (g : State) (last k : ℕ) (answer : Answer Growth) : Type 0 where
   pub net : Net
   pub runs : List Run
-  pub origins : OriginsIn b p fs us reals cells joins (drop k (keptOrigins b)) g net runs
+  pub origins : OriginsIn b p (lists fs us reals cells joins) (drop k (keptOrigins b)) g net runs
   pub same : answer ≡ growOrigins b (p .w .places) (drop k (keptOrigins b)) (record { net = net; saved = runs })
   pub starts : AtLast b (drop k (keptOrigins b)) (net .table) (net .nodes) last
 
@@ -119,10 +120,10 @@ pub record OriginLoop (b : List ℕ) (p : Plan) (joins : List ℕ) (fs₀ : List
   pub numbers : length us ≡ length us₀
   pub reals-long : length reals ≡ length reals₀
   pub cells-long : length cells ≡ length cells₀
-  pub so-far : (net : Net) (runs : List Run) → OriginsIn b p fs₀ us₀ reals₀ cells₀ joins (keptOrigins b) g₀ net runs → SoFar b p fs us reals cells joins g last k (growOrigins b (p .w .places) (keptOrigins b) (record { net = net; saved = runs }))
+  pub so-far : (net : Net) (runs : List Run) → OriginsIn b p (lists fs₀ us₀ reals₀ cells₀ joins) (keptOrigins b) g₀ net runs → SoFar b p fs us reals cells joins g last k (growOrigins b (p .w .places) (keptOrigins b) (record { net = net; saved = runs }))
 
 -- the network's table and nodes, as the slices hold them
-module _ {b : List ℕ} {p : Plan} {fs : List Float} {us : List ℕ} {reals : List Float} {cells joins idxs : List ℕ} {g : State} {net : Net} {runs : List Run} (o : OriginsIn b p fs us reals cells joins idxs g net runs) where
+module _ {b : List ℕ} {p : Plan} {fs : List Float} {us : List ℕ} {reals : List Float} {cells joins idxs : List ℕ} {g : State} {net : Net} {runs : List Run} (o : OriginsIn b p (lists fs us reals cells joins) idxs g net runs) where
   net-start : OnlyStart (nodeAt fs us) (g .counts .nodes) → OnlyStart (at (net .table)) (net .nodes)
   unfolding at
   net-start s = subst (OnlyStart (at (net .table))) (sym (o .holds .grown .nodes)) (subst (λ (t : Table). OnlyStart (at t) (g .counts .nodes)) (sym (o .holds .grown .table)) s)
@@ -134,7 +135,7 @@ module _ {b : List ℕ} {p : Plan} {fs : List Float} {us : List ℕ} {reals : Li
   unfolding at
   net-indexed = subst (Indexed (at (net .table))) (sym (o .holds .grown .nodes)) (subst (λ (t : Table). Indexed (at t) (g .counts .nodes)) (sym (o .holds .grown .table)) (o .holds .grown .indexed))
 
-  net-leads : (last link : ℕ) → LeadsFrom (net .table) (net .nodes) last link → LeadsFrom (record { floats = fs; numbers = us }) (g .counts .nodes) last link
+  net-leads : (last link : ℕ) → LeadsFrom (net .table) (net .nodes) last link → LeadsFrom (tableOf fs us) (g .counts .nodes) last link
   net-leads last link l = subst (λ (t : Table). LeadsFrom t (g .counts .nodes) last link) (o .holds .grown .table) (subst (λ (n : ℕ). LeadsFrom (net .table) n last link) (o .holds .grown .nodes) l)
 
 pub loop-start : (b : List ℕ) (p : Plan) (joins : List ℕ) (fs : List Float) (us : List ℕ) (reals : List Float) (cells : List ℕ) (g : State) → OnlyStart (nodeAt fs us) (g .counts .nodes) → OriginLoop b p joins fs us reals cells g fs us reals cells g 1 0
@@ -196,7 +197,7 @@ module _ (b : List ℕ) (p : Plan) (joins : List ℕ) (fs₀ : List Float) (us�
   pub loop-plan : PlanIn b p (length reals₀) → PlanIn b p (length reals)
   loop-plan plan = subst (PlanIn b p) (sym (v .reals-long)) plan
 
-  pub loop-small : SomeOrigins b p fs₀ us₀ reals₀ cells₀ joins (keptOrigins b) g₀ → g .counts .nodes ≤ 65535
+  pub loop-small : SomeOrigins b p (lists fs₀ us₀ reals₀ cells₀ joins) (keptOrigins b) g₀ → g .counts .nodes ≤ 65535
   loop-small s = let x = v .so-far (s .net) (s .runs) (s .origins) in omega (arith, x .origins .holds .grown .within, x .origins .holds .grown .room .most)
 
   module _ (idx : ℕ) (is : idx ≡ getD (keptOrigins b) k 0) (h : k < length (keptOrigins b)) where
@@ -208,15 +209,15 @@ module _ (b : List ℕ) (p : Plan) (joins : List ℕ) (fs₀ : List Float) (us�
     pub idx-named : idx < origins b
     idx-named = subst (λ (x : ℕ). x < origins b) (sym is) (kept-named b k h)
 
-    pub loop-some : SomeOrigins b p fs₀ us₀ reals₀ cells₀ joins (keptOrigins b) g₀ → SomeOrigin b p fs us reals cells joins idx g
+    pub loop-some : SomeOrigins b p (lists fs₀ us₀ reals₀ cells₀ joins) (keptOrigins b) g₀ → SomeOrigin b p (lists fs us reals cells joins) idx g
     loop-some s =
         let x = v .so-far (s .net) (s .runs) (s .origins) in
-        record { idxs = drop (k + 1) (keptOrigins b); net = x .net; runs = x .runs; origins = subst (λ (idxs : List ℕ). OriginsIn b p fs us reals cells joins idxs g (x .net) (x .runs)) idxs-are (x .origins) }
+        record { idxs = drop (k + 1) (keptOrigins b); net = x .net; runs = x .runs; origins = subst (λ (idxs : List ℕ). OriginsIn b p (lists fs us reals cells joins) idxs g (x .net) (x .runs)) idxs-are (x .origins) }
 
     starts-there : {answer : Answer Growth} → (x : SoFar b p fs us reals cells joins g last k answer) → AtLast b (idx ∷ drop (k + 1) (keptOrigins b)) (x .net .table) (x .net .nodes) last
     starts-there x = subst (λ (idxs : List ℕ). AtLast b idxs (x .net .table) (x .net .nodes) last) idxs-are (x .starts)
 
-    pub loop-leads : SomeOrigins b p fs₀ us₀ reals₀ cells₀ joins (keptOrigins b) g₀ → LeadsFrom (record { floats = fs; numbers = us }) (g .counts .nodes) last (originLink b idx)
+    pub loop-leads : SomeOrigins b p (lists fs₀ us₀ reals₀ cells₀ joins) (keptOrigins b) g₀ → LeadsFrom (tableOf fs us) (g .counts .nodes) last (originLink b idx)
     loop-leads s =
         let x = v .so-far (s .net) (s .runs) (s .origins) in
         net-leads (x .origins) last (originLink b idx) (leads-from b (idx ∷ drop (k + 1) (keptOrigins b)) (x .net .table) (x .net .nodes) last (originLink b idx) (starts-there x) (comes-first b idx (drop (k + 1) (keptOrigins b)) (originLink b idx) refl))
@@ -226,20 +227,20 @@ module _ (b : List ℕ) (p : Plan) (joins : List ℕ) (fs₀ : List Float) (us�
 
     -- what the code is told of the next origin
     module _ (fs′ : List Float) (us′ : List ℕ) (reals′ : List Float) (cells′ : List ℕ) (t : GrowthAnswer)
-        (told : (idxs : List ℕ) (net : Net) (runs : List Run) → OriginsIn b p fs us reals cells joins (idx ∷ idxs) g net runs → OtherLinks b (originLink b idx) idxs → OriginsAs (growOrigin b (p .w .places) (originLink b idx) (record { net = net; saved = runs })) b p fs′ us′ reals′ cells′ joins idxs t) where
-      next : {answer : Answer Growth} → (x : SoFar b p fs us reals cells joins g last k answer) → OriginsAs (growOrigin b (p .w .places) (originLink b idx) (record { net = x .net; saved = x .runs })) b p fs′ us′ reals′ cells′ joins (drop (k + 1) (keptOrigins b)) t
-      next x = told (drop (k + 1) (keptOrigins b)) (x .net) (x .runs) (subst (λ (idxs : List ℕ). OriginsIn b p fs us reals cells joins idxs g (x .net) (x .runs)) idxs-are (x .origins)) apart
+        (told : (idxs : List ℕ) (net : Net) (runs : List Run) → OriginsIn b p (lists fs us reals cells joins) (idx ∷ idxs) g net runs → OtherLinks b (originLink b idx) idxs → OriginsAs (growOrigin b (p .w .places) (originLink b idx) (record { net = net; saved = runs })) b p (lists fs′ us′ reals′ cells′ joins) idxs t) where
+      next : {answer : Answer Growth} → (x : SoFar b p fs us reals cells joins g last k answer) → OriginsAs (growOrigin b (p .w .places) (originLink b idx) (record { net = x .net; saved = x .runs })) b p (lists fs′ us′ reals′ cells′ joins) (drop (k + 1) (keptOrigins b)) t
+      next x = told (drop (k + 1) (keptOrigins b)) (x .net) (x .runs) (subst (λ (idxs : List ℕ). OriginsIn b p (lists fs us reals cells joins) idxs g (x .net) (x .runs)) idxs-are (x .origins)) apart
 
       unfolds : {answer : Answer Growth} → (x : SoFar b p fs us reals cells joins g last k answer) → answer ≡ andThen (growOrigin b (p .w .places) (originLink b idx) (record { net = x .net; saved = x .runs })) (growOrigins b (p .w .places) (drop (k + 1) (keptOrigins b)))
       unfolds x =
           x .same ∙ ap (λ (idxs : List ℕ). growOrigins b (p .w .places) idxs (record { net = x .net; saved = x .runs })) idxs-are ∙ origin-first b (p .w .places) idx (drop (k + 1) (keptOrigins b)) (record { net = x .net; saved = x .runs })
 
-      pub loop-stop : (n : ℕ) → t ≡ Refused n → (net : Net) (runs : List Run) → OriginsIn b p fs₀ us₀ reals₀ cells₀ joins (keptOrigins b) g₀ net runs
-          → OriginsAs (growOrigins b (p .w .places) (keptOrigins b) (record { net = net; saved = runs })) b p fs′ us′ reals′ cells′ joins [] t
+      pub loop-stop : (n : ℕ) → t ≡ Refused n → (net : Net) (runs : List Run) → OriginsIn b p (lists fs₀ us₀ reals₀ cells₀ joins) (keptOrigins b) g₀ net runs
+          → OriginsAs (growOrigins b (p .w .places) (keptOrigins b) (record { net = net; saved = runs })) b p (lists fs′ us′ reals′ cells′ joins) [] t
       loop-stop n e net runs o =
           let x = v .so-far net runs o in
-          let q = subst (OriginsAs (growOrigin b (p .w .places) (originLink b idx) (record { net = x .net; saved = x .runs })) b p fs′ us′ reals′ cells′ joins (drop (k + 1) (keptOrigins b))) e (next x) in
-          subst (OriginsAs (growOrigins b (p .w .places) (keptOrigins b) (record { net = net; saved = runs })) b p fs′ us′ reals′ cells′ joins []) (sym e) (unfolds x ∙ ap (λ (a : Answer Growth). andThen a (growOrigins b (p .w .places) (drop (k + 1) (keptOrigins b)))) q)
+          let q = subst (OriginsAs (growOrigin b (p .w .places) (originLink b idx) (record { net = x .net; saved = x .runs })) b p (lists fs′ us′ reals′ cells′ joins) (drop (k + 1) (keptOrigins b))) e (next x) in
+          subst (OriginsAs (growOrigins b (p .w .places) (keptOrigins b) (record { net = net; saved = runs })) b p (lists fs′ us′ reals′ cells′ joins) []) (sym e) (unfolds x ∙ ap (λ (a : Answer Growth). andThen a (growOrigins b (p .w .places) (drop (k + 1) (keptOrigins b)))) q)
 
       pub loop-on : (g′ : State) → t ≡ On g′ → (last′ : ℕ) → (g .counts .nodes ≡ 2 → last′ ≡ 1) → (g .counts .nodes ≢ 2 → last′ ≡ g .counts .nodes) → length fs′ ≡ length fs → length us′ ≡ length us → length reals′ ≡ length reals → length cells′ ≡ length cells → OriginLoop b p joins fs₀ us₀ reals₀ cells₀ g₀ fs′ us′ reals′ cells′ g′ last′ (k + 1)
       loop-on g′ e last′ one more lf lu lr lc = record {
@@ -250,7 +251,7 @@ module _ (b : List ℕ) (p : Plan) (joins : List ℕ) (fs₀ : List Float) (us�
         cells-long = lc ∙ v .cells-long;
         so-far = λ net runs o.
             let x = v .so-far net runs o in
-            let q : OriginsGiven (growOrigin b (p .w .places) (originLink b idx) (record { net = x .net; saved = x .runs })) b p fs′ us′ reals′ cells′ joins (drop (k + 1) (keptOrigins b)) g′ = subst (OriginsAs (growOrigin b (p .w .places) (originLink b idx) (record { net = x .net; saved = x .runs })) b p fs′ us′ reals′ cells′ joins (drop (k + 1) (keptOrigins b))) e (next x) in
+            let q : OriginsGiven (growOrigin b (p .w .places) (originLink b idx) (record { net = x .net; saved = x .runs })) b p (lists fs′ us′ reals′ cells′ joins) (drop (k + 1) (keptOrigins b)) g′ = subst (OriginsAs (growOrigin b (p .w .places) (originLink b idx) (record { net = x .net; saved = x .runs })) b p (lists fs′ us′ reals′ cells′ joins) (drop (k + 1) (keptOrigins b))) e (next x) in
             let n : x .net .nodes ≡ g .counts .nodes = x .origins .holds .grown .nodes in
             record {
               net = q .growth .net;
@@ -264,8 +265,8 @@ module _ (b : List ℕ) (p : Plan) (joins : List ℕ) (fs₀ : List Float) (us�
       }
 
   -- none is left
-  pub loop-end : length (keptOrigins b) ≤ k → (net : Net) (runs : List Run) → OriginsIn b p fs₀ us₀ reals₀ cells₀ joins (keptOrigins b) g₀ net runs
-      → OriginsAs (growOrigins b (p .w .places) (keptOrigins b) (record { net = net; saved = runs })) b p fs us reals cells joins [] (On g)
+  pub loop-end : length (keptOrigins b) ≤ k → (net : Net) (runs : List Run) → OriginsIn b p (lists fs₀ us₀ reals₀ cells₀ joins) (keptOrigins b) g₀ net runs
+      → OriginsAs (growOrigins b (p .w .places) (keptOrigins b) (record { net = net; saved = runs })) b p (lists fs us reals cells joins) [] (On g)
   loop-end h net runs o =
       let x = v .so-far net runs o in
       let n : k ≡ length (keptOrigins b) = omega (arith, v .within) in
@@ -273,5 +274,5 @@ module _ (b : List ℕ) (p : Plan) (joins : List ℕ) (fs₀ : List Float) (us�
       record {
         growth = record { net = x .net; saved = x .runs };
         is = x .same ∙ ap (λ (idxs : List ℕ). growOrigins b (p .w .places) idxs (record { net = x .net; saved = x .runs })) e ∙ origin-last b (p .w .places) (record { net = x .net; saved = x .runs });
-        origins = subst (λ (idxs : List ℕ). OriginsIn b p fs us reals cells joins idxs g (x .net) (x .runs)) e (x .origins);
+        origins = subst (λ (idxs : List ℕ). OriginsIn b p (lists fs us reals cells joins) idxs g (x .net) (x .runs)) e (x .origins);
       }

@@ -31,12 +31,12 @@ use Rattle.grow_rules.specs.Run.{Net, Run, memberOf}
 use Rattle.grow_rules.specs.Growth.{takes, seekLeg}
 use Rattle.grow_events.specs.declared.Counts.{Counts}
 use Rattle.grow_events.specs.Held.{NetIn, endsAt}
-use Rattle.grow_events.proofs.Kept.{before-kept, unit-kept, net-restart, path-kept}
+use Rattle.grow_events.proofs.Kept.{before-kept, unit-kept, net-restart, path-kept, net-same}
 use Rattle.grow_state.specs.declared.Plan.{Plan}
 use Rattle.grow_state.specs.declared.State.{State}
 use Rattle.grow_state.specs.declared.GrowthAnswer.the-variants.{On}
-use Rattle.grow_state.specs.Held.{PlanIn, pathBefore, Prefixes, Separate, SeparateFrom, RunSound, AllSound, SameRuns, WaitIn, RunsIn, DriveIn}
-use Rattle.grow_state.proofs.Keeping.{plan-legs, plan-room, net-same, chained-same, wait-same, idle-waits, sound-more}
+use Rattle.grow_state.specs.Held.{PlanIn, pathBefore, Prefixes, Separate, SeparateFrom, RunSound, AllSound, SameRuns, WaitIn, RunsIn, DriveIn, lists}
+use Rattle.grow_state.proofs.Keeping.{plan-legs, plan-room, chained-same, wait-same, idle-waits, sound-more}
 use Rattle.grow_origins.specs.Origins.{OtherLinks, AllFirst, NotOver, OriginsAs, savedOrigin, OriginInserted}
 
 -- ---- the leg
@@ -134,7 +134,7 @@ module _ {w : Layout} {r : Rooms} {fs : List Float} {us cells : List ℕ} {c : C
 
 -- ---- all that is held, while events are inserted and no run is at the front
 
-module _ {b : List ℕ} {p : Plan} {fs : List Float} {us : List ℕ} {reals : List Float} {cells joins path : List ℕ} {g : State} {net : Net} {runs : List Run} {many : ℕ} (plan : PlanIn b p many) (d : DriveIn b p fs us reals cells joins path g net runs) (idle : g .front .moves ≡ false) where
+module _ {b : List ℕ} {p : Plan} {fs : List Float} {us : List ℕ} {reals : List Float} {cells joins path : List ℕ} {g : State} {net : Net} {runs : List Run} {many : ℕ} (plan : PlanIn b p many) (d : DriveIn b p (lists fs us reals cells joins) path g net runs) (idle : g .front .moves ≡ false) where
   module _ {fs′ : List Float} {us′ cells′ : List ℕ} {c′ : Counts} {net′ : Net} (v : NetIn (p .w) cells fs′ us′ cells′ c′ net′) (more : g .counts .nodes ≤ c′ .nodes) (long : length cells′ ≡ length cells) where
     chained-grown : Chained b cells′
     chained-grown = chained-same long (λ q h f. before-kept v q (omega (arith, plan .nodes-at))) (d .chained)
@@ -145,7 +145,7 @@ module _ {b : List ℕ} {p : Plan} {fs : List Float} {us : List ℕ} {reals : Li
     waits-grown : WaitIn b (p .r) reals cells′ (g .top) (g .used) runs
     waits-grown = wait-same (record { fields = λ j k h f e. before-kept v (j * 8 + k) (omega (arith, plan .nodes-at, plan .all-legs)); entries = unit-same; reals = λ q h. refl }) (idle-waits d idle)
 
-    pub drive-grown : DriveIn b p fs′ us′ reals cells′ joins path (record { counts = c′; top = g .top; used = g .used; front = g .front }) net′ runs
+    pub drive-grown : DriveIn b p (lists fs′ us′ reals cells′ joins) path (record { counts = c′; top = g .top; used = g .used; front = g .front }) net′ runs
     drive-grown = record {
       grown = net-restart v;
       chained = chained-grown;
@@ -160,7 +160,7 @@ module _ {b : List ℕ} {p : Plan} {fs : List Float} {us : List ℕ} {reals : Li
 -- ---- the run is saved
 
 module _ (b : List ℕ) (p : Plan) (fs : List Float) (us : List ℕ) (reals : List Float) (cells joins idxs : List ℕ) (g : State) (c : Counts) (place : Place) (link : ℕ) (net : Net) (run : Run) (runs : List Run)
-    (plan : PlanIn b p (length reals)) (v : OriginInserted b p fs us reals cells joins idxs g c place link net run runs) (t : Taken) (told : t ≡ takenLeg b 0 link) where
+    (plan : PlanIn b p (length reals)) (v : OriginInserted b p (lists fs us reals cells joins) idxs g c place link net run runs) (t : Taken) (told : t ≡ takenLeg b 0 link) where
   -- row 10
   pub origin-no-leg : (k : ℕ) → t ≡ NoLeg k → savedOrigin b link net run runs ≡ refused 10
   unfolding savedOrigin seekLeg takenLeg legSearch
@@ -173,7 +173,7 @@ module _ (b : List ℕ) (p : Plan) (fs : List Float) (us : List ℕ) (reals : Li
     of : LegOf b (legs b) 0 link (leg-is .idx)
     of = leg-found b (legs b) 0 link (leg-is .idx) (leg-is .below)
 
-    held : DriveIn b p fs us reals cells joins [] (record { counts = c; top = g .top; used = g .used; front = g .front }) net runs
+    held : DriveIn b p (lists fs us reals cells joins) [] (record { counts = c; top = g .top; used = g .used; front = g .front }) net runs
     held = v .origins .holds
 
     wait : WaitIn b (p .r) reals cells (g .top) (g .used) runs
@@ -234,7 +234,7 @@ module _ (b : List ℕ) (p : Plan) (fs : List Float) (us : List ℕ) (reals : Li
         valid = subst (λ (es : List EstJoinPath). Valid es (c .nodes)) (sym (v .no-joins)) (record { node = λ k h. absurd (omega arith) });
       }
 
-      pub origin-saved : OriginsAs (savedOrigin b link net run runs) b p fs us reals′ cells′ joins idxs (On state)
+      pub origin-saved : OriginsAs (savedOrigin b link net run runs) b p (lists fs us reals′ cells′ joins) idxs (On state)
       unfolding then
       origin-saved = record {
         growth = record { net = net; saved = then ∷ runs };

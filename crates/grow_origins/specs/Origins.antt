@@ -13,16 +13,17 @@ use Rattle.net_node.specs.declared.EstType.the-variants.{Arrive}
 use Rattle.net_node.specs.declared.EstTime.{EstTime}
 use Rattle.net_node.specs.declared.TimedEvent.{TimedEvent}
 use Rattle.net_insertion.specs.declared.Place.{Place}
-use Rattle.net_insertion.specs.Insertion.{inserted, insertedTable}
+use Rattle.net_insertion.specs.Insertion.{inserted, insertedTable, tableOf}
 use Rattle.grow_rules.specs.Run.{Net, Run, After, Outcome, insertEvent, goesOn}
 use Rattle.grow_rules.specs.Growth.{joinGap, originEvent, originRun, seekLeg, Growth, originClear, growOrigin}
+use Rattle.grow_rules.specs.Growth.{originArrive}
 use Rattle.grow_rules.specs.Growth.{growOrigins}
 use Rattle.grow_events.specs.declared.Counts.{Counts}
 use Rattle.grow_state.specs.declared.Plan.{Plan}
 use Rattle.grow_state.specs.declared.State.{State}
 use Rattle.grow_state.specs.declared.GrowthAnswer.{GrowthAnswer}
 use Rattle.grow_state.specs.declared.GrowthAnswer.the-variants.{On, Refused}
-use Rattle.grow_state.specs.Held.{DriveIn, PlanIn, Lists}
+use Rattle.grow_state.specs.Held.{DriveIn, PlanIn, Lists, lists}
 use denote.Ref.{now}
 use Rattle.space.specs.Lent.{Lent}
 use Rattle.book_options.specs.Options.{keptOrigins}
@@ -55,16 +56,12 @@ startState = record {
 unfoldable pub originAnswer : List ℕ → ℕ → ℕ → Net → Answer Outcome
 unfolding originEvent originRun
 originAnswer b places link net =
-    goesOn (andThen (insertEvent places (joinGap b) net (originRun b) (originEvent b link Arrive (ofBits binary64 0)))
+    goesOn (andThen (insertEvent places (joinGap b) net (originRun b) (originArrive b link))
     (λ (a : After). insertEvent places (joinGap b) (a .net) (a .run) (originClear b link)))
 
 -- a place on a node, with a held time and offset
 abbrev pub placeOn : Float → Float → ℕ → Place
 placeOn time offset i = record { «time_to_next» = time; «dist_to_next» = offset; «idx_prev» = i }
-
--- the table of two lists
-abbrev pub tableOf : List Float → List ℕ → Table
-tableOf fs us = record { floats = fs; numbers = us }
 
 -- An event over this link is inserted from node `last` as from the start.
 pub record LeadsFrom (t : Table) (n last link : ℕ) : Type 0 where
@@ -100,39 +97,36 @@ NotOver b l (r ∷ rs) = (legLink b (r .leg - 1) ≢ l) × NotOver b l rs
 
 -- Between two origins: what growth keeps between two legs, with no run at the front and no path; these origins are
 -- still to come.
-pub record OriginsIn (b : List ℕ) (p : Plan) (fs : List Float) (us : List ℕ) (reals : List Float)
-    (cells joins idxs : List ℕ) (g : State) (net : Net) (runs : List Run) : Type 0 where
-  pub holds : DriveIn b p fs us reals cells joins [] g net runs
+pub record OriginsIn (b : List ℕ) (p : Plan) (s : Lists) (idxs : List ℕ) (g : State) (net : Net)
+    (runs : List Run) : Type 0 where
+  pub holds : DriveIn b p s [] g net runs
   pub idle : g .front .moves ≡ false
   pub firsts : AllFirst b idxs runs
 
 -- some network and runs are, before an origin and others behind it
-pub record SomeOrigin (b : List ℕ) (p : Plan) (fs : List Float) (us : List ℕ) (reals : List Float)
-    (cells joins : List ℕ) (idx : ℕ) (g : State) : Type 0 where
+pub record SomeOrigin (b : List ℕ) (p : Plan) (s : Lists) (idx : ℕ) (g : State) : Type 0 where
   pub idxs : List ℕ
   pub net : Net
   pub runs : List Run
-  pub origins : OriginsIn b p fs us reals cells joins (idx ∷ idxs) g net runs
+  pub origins : OriginsIn b p s (idx ∷ idxs) g net runs
 
 -- some network and runs are, before these origins
-pub record SomeOrigins (b : List ℕ) (p : Plan) (fs : List Float) (us : List ℕ) (reals : List Float)
-    (cells joins idxs : List ℕ) (g : State) : Type 0 where
+pub record SomeOrigins (b : List ℕ) (p : Plan) (s : Lists) (idxs : List ℕ) (g : State) : Type 0 where
   pub net : Net
   pub runs : List Run
-  pub origins : OriginsIn b p fs us reals cells joins idxs g net runs
+  pub origins : OriginsIn b p s idxs g net runs
 
 -- an answer's network and runs, where these origins are still to come
-pub record OriginsGiven (answer : Answer Growth) (b : List ℕ) (p : Plan) (fs : List Float) (us : List ℕ)
-    (reals : List Float) (cells joins idxs : List ℕ) (g : State) : Type 0 where
+pub record OriginsGiven (answer : Answer Growth) (b : List ℕ) (p : Plan) (s : Lists) (idxs : List ℕ)
+    (g : State) : Type 0 where
   pub growth : Growth
   pub is : answer ≡ given growth
-  pub origins : OriginsIn b p fs us reals cells joins idxs g (growth .net) (growth .saved)
+  pub origins : OriginsIn b p s idxs g (growth .net) (growth .saved)
 
 -- what the code answers: the state then, or a refusal
-abbrev pub OriginsAs : Answer Growth → List ℕ → Plan → List Float → List ℕ → List Float → List ℕ → List ℕ → List ℕ
-    → GrowthAnswer → Type 0
-OriginsAs answer b p fs us reals cells joins idxs (On g) = OriginsGiven answer b p fs us reals cells joins idxs g
-OriginsAs answer b p fs us reals cells joins idxs (Refused k) = answer ≡ refused k
+abbrev pub OriginsAs : Answer Growth → List ℕ → Plan → Lists → List ℕ → GrowthAnswer → Type 0
+OriginsAs answer b p s idxs (On g) = OriginsGiven answer b p s idxs g
+OriginsAs answer b p s idxs (Refused k) = answer ≡ refused k
 
 -- an origin's run, which is saved: "The leg is found or the book is refused with 10"
 unfoldable pub savedOrigin : List ℕ → ℕ → Net → Run → List Run → Answer Growth
@@ -141,11 +135,9 @@ savedOrigin b link net run runs =
     andThen (seekLeg b run 0 link) (λ (r : Run). given (record { net = net; saved = r ∷ runs }))
 
 -- an origin's events are in the network, and its run is at a place; it is yet to be saved
-pub record OriginInserted (b : List ℕ) (p : Plan) (fs : List Float) (us : List ℕ) (reals : List Float)
-    (cells joins idxs : List ℕ) (g : State) (c : Counts) (place : Place) (link : ℕ) (net : Net) (run : Run)
-    (runs : List Run) : Type 0 where
-  pub origins : OriginsIn b p fs us reals cells joins idxs
-      (record { counts = c; top = g .top; used = g .used; front = g .front }) net runs
+pub record OriginInserted (b : List ℕ) (p : Plan) (s : Lists) (idxs : List ℕ) (g : State) (c : Counts) (place : Place)
+    (link : ℕ) (net : Net) (run : Run) (runs : List Run) : Type 0 where
+  pub origins : OriginsIn b p s idxs (record { counts = c; top = g .top; used = g .used; front = g .front }) net runs
   pub stands : run .place ≡ place
   pub within : place .«idx_prev» < c .nodes
   pub no-joins : run .joins ≡ []
@@ -161,7 +153,7 @@ pub record SomeOriginInserted (b : List ℕ) (p : Plan) (reals : List Float) (ce
   pub net : Net
   pub run : Run
   pub runs : List Run
-  pub inserted-origin : OriginInserted b p fs us reals cells joins idxs g c place link net run runs
+  pub inserted-origin : OriginInserted b p (lists fs us reals cells joins) idxs g c place link net run runs
 
 -- ---- the parts
 
@@ -191,32 +183,27 @@ InsertsOrigin p c link t cells t′ cells′ r =
 abbrev pub SavesOrigin : List ℕ → Plan → State → Counts → Place → ℕ → Stacks → Stacks → List ℕ → GrowthAnswer → Type 0
 SavesOrigin b p g c place link s s′ joins r =
     (fs : List Float) (us idxs : List ℕ) (net : Net) (run : Run) (runs : List Run)
-    → OriginInserted b p fs us (s .reals) (s .cells) joins idxs g c place link net run runs
-    → OriginsAs (savedOrigin b link net run runs) b p fs us (s′ .reals) (s′ .cells) joins idxs r
+    → OriginInserted b p (lists fs us (s .reals) (s .cells) joins) idxs g c place link net run runs
+    → OriginsAs (savedOrigin b link net run runs) b p (lists fs us (s′ .reals) (s′ .cells) joins) idxs r
 
 -- a row of origins is grown, before those behind it
 abbrev pub GrowsOrigin : List ℕ → Plan → State → ℕ → Lists → Lists → GrowthAnswer → Type 0
 GrowsOrigin b p g idx s s′ r =
     (idxs : List ℕ) (net : Net) (runs : List Run)
-    → OriginsIn b p (s .floats) (s .numbers) (s .reals) (s .cells) (s .joins) (idx ∷ idxs) g net runs
+    → OriginsIn b p s (idx ∷ idxs) g net runs
     → OtherLinks b (originLink b idx) idxs
     → OriginsAs (growOrigin b (p .w .places) (originLink b idx) (record { net = net; saved = runs }))
-    b p (s′ .floats) (s′ .numbers) (s′ .reals) (s′ .cells) (s′ .joins) idxs r
+    b p s′ idxs r
 
 -- all of them are
 abbrev pub GrowsOrigins : List ℕ → Plan → State → Lists → Lists → GrowthAnswer → Type 0
 GrowsOrigins b p g s s′ r =
     (net : Net) (runs : List Run)
-    → OriginsIn b p (s .floats) (s .numbers) (s .reals) (s .cells) (s .joins) (keptOrigins b) g net runs
+    → OriginsIn b p s (keptOrigins b) g net runs
     → OriginsAs (growOrigins b (p .w .places) (keptOrigins b) (record { net = net; saved = runs }))
-    b p (s′ .floats) (s′ .numbers) (s′ .reals) (s′ .cells) (s′ .joins) [] r
+    b p s′ [] r
 
 -- what the slices hold at exit, where the join entries are only read
 abbrev pub listsLeft : Lent (List Float) → Lent (List ℕ) → Lent (List Float) → Lent (List ℕ) → Lent (List ℕ) → Lists
-listsLeft floats numbers reals cells joins = record {
-  floats = now (floats .exit);
-  numbers = now (numbers .exit);
-  reals = now (reals .exit);
-  cells = now (cells .exit);
-  joins = now (joins .entry);
-}
+listsLeft floats numbers reals cells joins =
+    lists (now (floats .exit)) (now (numbers .exit)) (now (reals .exit)) (now (cells .exit)) (now (joins .entry))

@@ -25,11 +25,12 @@ ghost use Rattle.book_format.specs.Chains.{Readable};
 ghost use Rattle.book_legs.specs.Legs.{Started};
 ghost use Rattle.book_options.specs.Options.{OptionsIn, keptOrigins};
 ghost use Rattle.grow_events.specs.Held.{Growing, NotFewer};
-ghost use Rattle.grow_state.specs.Held.{PlanIn, listsAtEntry};
+ghost use Rattle.grow_state.specs.Held.{PlanIn, listsAtEntry, lists};
 ghost use Rattle.net_node.specs.Lent.{tableAtEntry, tableAtExit};
 ghost use Rattle.grow_waiting.specs.Steps.{stacksAtEntry, stacksAtExit};
 ghost use Rattle.grow_origins.specs.Origins.{startState, LeadsFrom, OnlyStart, SomeOrigin, SomeOrigins};
-ghost use Rattle.grow_origins.specs.Origins.{SomeOriginInserted, tableOf, eventAtRest, moverAt, InsertsOrigin};
+ghost use Rattle.grow_origins.specs.Origins.{SomeOriginInserted, eventAtRest, moverAt, InsertsOrigin};
+ghost use Rattle.net_insertion.specs.Insertion.{tableOf};
 ghost use Rattle.grow_origins.specs.Origins.{SavesOrigin, GrowsOrigin, GrowsOrigins, listsLeft};
 
 // What growth goes by. The legs' units of cells stand first, then the nodes', then the links'; the path's points stand
@@ -214,7 +215,8 @@ fn origin(
 ) -> GrowthAnswer
     requires { ⌜ PlanIn (now book) p (length (now reals)) ⌝ }
     requires { ⌜ idx < origins (now book) ⌝ }
-    requires { ⌜ SomeOrigin (now book) p (now floats) (now numbers) (now reals) (now cells) (now joins) idx g ⌝ }
+    requires { ⌜ SomeOrigin (now book) p (lists (now floats) (now numbers) (now reals) (now cells) (now joins)) idx
+        g ⌝ }
     requires { ⌜ LeadsFrom (tableOf (now floats) (now numbers)) (g .counts .nodes) last (originLink (now book) idx) ⌝ }
     requires { ⌜ Started (now book) (now marks) ⌝ }
     requires { ⌜ 2 * links (now book) ≤ length (now marks) ⌝ }
@@ -276,7 +278,7 @@ pub fn origins(
     requires { ⌜ OptionsIn (now book) (now marks) ⌝ }
     requires { ⌜ 2 * links (now book) + destinations (now book) + origins (now book) ≤ length (now marks) ⌝ }
     requires { ⌜ kept ≡ length (keptOrigins (now book)) ⌝ }
-    requires { ⌜ SomeOrigins (now book) p (now floats) (now numbers) (now reals) (now cells) (now joins)
+    requires { ⌜ SomeOrigins (now book) p (lists (now floats) (now numbers) (now reals) (now cells) (now joins))
         (keptOrigins (now book)) g ⌝ }
     requires { ⌜ OnlyStart (nodeAt (now floats) (now numbers)) (g .counts .nodes) ⌝ }
     requires { ⌜ Started (now book) (now marks) ⌝ }

@@ -25,6 +25,7 @@ use Rattle.book_format.proofs.Given.{link-float, length-float, sample-good}
 use Rattle.event_walk.specs.declared.Movement.{Movement}
 use Rattle.event_walk.specs.Course.{Course, courseOf, Held, Rises}
 use Rattle.event_walk.proofs.Alike.{Alike}
+use Rattle.laws.proofs.Cases.{and-right}
 use Rattle.grow_path.specs.Path.{pathOf, pointLink, pointOffset, legCourse}
 use Rattle.grow_path.specs.Kept.{PathIn, Sound}
 
@@ -36,10 +37,6 @@ zero-book = refl
 
 zero-size : Size (ofBits binary64 0)
 zero-size = size-of-bits 0 zero-book
-
-right : (t u : Bool) → (t && u) ≡ true → u ≡ true
-right true u e = e
-right false u e = absurd (true≢false (sym e))
 
 table-finite : (x : Float) → tableFloat x ≡ true → finite x ≡ true
 unfolding tableFloat
@@ -53,7 +50,7 @@ unfolding bookFloat
 book-finite n h = go (ltb n (top binary64)) (ofBits binary64 n) h
   where
     go : (t : Bool) (x : Float) → (t && tableFloat x) ≡ true → finite x ≡ true
-    go t x e = table-finite x (right t (tableFloat x) e)
+    go t x e = table-finite x (and-right t (tableFloat x) e)
 
 module _ (b path : List ℕ) (named : (k : ℕ) → k < length path → bookFloat (linkLength b (pointLink b path k)) ≡ true) where
   pub point-size : (k : ℕ) → k ≤ length path → Size (pointOffset b path k)

@@ -62,7 +62,7 @@ firstNodes b t = record {
 
 -- ---- origins
 
--- an origin's Arrive at offset 0 and Clear at the train's length, at the departure and at rest
+-- an event of an origin, at the departure and at rest
 unfoldable pub originEvent : List ℕ → ℕ → EstType → Float → TimedEvent
 originEvent b link kind offset = record {
   time = departure b;
@@ -71,7 +71,10 @@ originEvent b link kind offset = record {
   «link_event» = record { «link_idx» = link; «est_type» = kind };
 }
 
--- "its origin's Arrive and Clear": the Clear is where the train's length is behind it
+-- "its origin's Arrive and Clear": the Arrive at offset 0, the Clear at the train's length
+abbrev pub originArrive : List ℕ → ℕ → TimedEvent
+originArrive b link = originEvent b link Arrive (ofBits binary64 0)
+
 abbrev pub originClear : List ℕ → ℕ → TimedEvent
 originClear b link = originEvent b link Clear (add binary64 (ofBits binary64 0) (floatOf (lengthBits b)))
 
@@ -101,7 +104,7 @@ saves g net run = record { net = net; saved = run ∷ g .saved }
 unfoldable pub growOrigin : List ℕ → ℕ → ℕ → Growth → Answer Growth
 unfolding originEvent originRun seekLeg
 growOrigin b places link g =
-    andThen (insertEvent places (joinGap b) (g .net) (originRun b) (originEvent b link Arrive (ofBits binary64 0)))
+    andThen (insertEvent places (joinGap b) (g .net) (originRun b) (originArrive b link))
     (λ (a : After). andThen (insertEvent places (joinGap b) (a .net) (a .run) (originClear b link))
     (λ (c : After). andThen (seekLeg b (c .run) 0 link) (λ (run : Run). given (saves g (c .net) run))))
 

@@ -1,4 +1,4 @@
--- What a change elsewhere in the work space leaves: the network, the legs' chains, the runs that wait; and what more nodes leave.
+-- What a change elsewhere in the work space leaves: the legs' chains, the runs that wait; and what more nodes leave.
 use mathlib.Core.Path.{_≡_, refl, _∙_, subst}
 use mathlib.Core.Logic.{_≢_}
 use mathlib.Core.Bool.{Bool, false}
@@ -10,19 +10,13 @@ use lib.Ieee.{Float}
 use Rattle.book_format.specs.Format.{legs}
 use Rattle.book_format.specs.Chains.{Chained}
 use Rattle.book_format.proofs.Given.{limits}
-use Rattle.net_node.specs.Table.{nodeAt}
-use Rattle.net_event_map.specs.declared.Layout.{Layout}
-use Rattle.net_event_map.specs.EventMap.{CellsApart, Mapped}
-use Rattle.grow_ends.proofs.Kept.{ends-same, flags-same}
 use Rattle.grow_waiting.specs.declared.Rooms.{Rooms}
 use Rattle.grow_waiting.proofs.Kept.{Undisturbed, saved-same}
 use Rattle.grow_rules.specs.Run.{Net, Run}
-use Rattle.grow_events.specs.declared.Counts.{Counts}
-use Rattle.grow_events.specs.Held.{NetIn, endsAt}
 use Rattle.grow_events.proofs.Kept.{valid-more}
 use Rattle.grow_state.specs.declared.Plan.{Plan}
 use Rattle.grow_state.specs.declared.State.{State}
-use Rattle.grow_state.specs.Held.{PlanIn, WaitIn, RunsIn, AllSound, DriveIn}
+use Rattle.grow_state.specs.Held.{PlanIn, WaitIn, RunsIn, AllSound, DriveIn, lists}
 
 -- ---- the plan
 
@@ -33,33 +27,6 @@ module _ {b : List ℕ} {p : Plan} {n : ℕ} (a : PlanIn b p n) where
   -- the legs' units stand before the nodes'
   pub plan-room : (p .r .legs + 1) * 8 ≤ p .r .«nodes_at»
   plan-room = omega (arith, a .all-legs, a .nodes-at, a .same-nodes)
-
--- ---- the network
-
-pub apart-same : {c c′ : List ℕ} {w : Layout} → length c′ ≡ length c → CellsApart c w → CellsApart c′ w
-apart-same e a = record { links-inside = omega (arith, e, a .links-inside); nodes-inside = omega (arith, e, a .nodes-inside); apart = a .apart }
-
-module _ {w : Layout} {start : List ℕ} {fs : List Float} {us cells : List ℕ} {c : Counts} {net : Net} (v : NetIn w start fs us cells c net) where
-  -- the map is there still, and so are the marks of the ends
-  pub net-same : (cells′ : List ℕ) → length cells′ ≡ length cells → Mapped cells′ w (nodeAt fs us) (c .nodes)
-      → ((i : ℕ) → i < w .places → getD cells′ (endsAt w + i * 8) 0 ≡ getD cells (endsAt w + i * 8) 0) → NetIn w cells′ fs us cells′ c net
-  net-same cells′ l m h = record {
-    table = v .table;
-    nodes = v .nodes;
-    added = v .added;
-    splits = v .splits;
-    joined = v .joined;
-    sum = v .sum;
-    room = v .room;
-    within = v .within;
-    indexed = v .indexed;
-    apart = apart-same l (v .apart);
-    mapped = m;
-    ends = ends-same cells (endsAt w) cells′ (c .«last_end») (c .nodes) (net .ends) (v .ends-below) (λ i k. h i (omega (arith, v .within))) (v .ends);
-    ends-below = v .ends-below;
-    ended = λ i k. flags-same cells (endsAt w) cells′ i (h i k) ∙ v .ended i k;
-    elsewhere = λ q k f. refl;
-  }
 
 -- ---- the chains: all cells of the legs' units but the path's
 
@@ -77,7 +44,7 @@ pub wait-same : {b : List ℕ} {r : Rooms} {reals reals′ : List Float} {cells 
 wait-same {b} {r} {reals} {reals′} {cells} {cells′} {top} {used} u w = record { runs = w .runs; kept = saved-same cells reals r top used (w .runs) u (w .kept); same = w .same }
 
 -- of a state with no run at the front all runs wait
-pub idle-waits : {b : List ℕ} {p : Plan} {fs : List Float} {us : List ℕ} {reals : List Float} {cells joins path : List ℕ} {g : State} {net : Net} {runs : List Run} → DriveIn b p fs us reals cells joins path g net runs → g .front .moves ≡ false
+pub idle-waits : {b : List ℕ} {p : Plan} {fs : List Float} {us : List ℕ} {reals : List Float} {cells joins path : List ℕ} {g : State} {net : Net} {runs : List Run} → DriveIn b p (lists fs us reals cells joins) path g net runs → g .front .moves ≡ false
     → WaitIn b (p .r) reals cells (g .top) (g .used) runs
 idle-waits {b} {p} {fs} {us} {reals} {cells} {joins} {path} {g} {net} {runs} d idle = subst (λ (t : Bool). RunsIn t b (p .r) reals cells joins g runs) idle (d .waiting)
 

@@ -16,7 +16,7 @@ use Rattle.grow_waiting.proofs.Kept.{saved-rest}
 use Rattle.grow_rules.specs.Run.{Net, Run}
 use Rattle.grow_state.specs.declared.Plan.{Plan}
 use Rattle.grow_state.specs.declared.State.{State}
-use Rattle.grow_state.specs.Held.{AllSound, SameRuns, WaitIn, RunsIn, DriveIn, SomeDrive}
+use Rattle.grow_state.specs.Held.{AllSound, SameRuns, WaitIn, RunsIn, DriveIn, SomeDrive, lists}
 use Rattle.grow_state.proofs.Keeping.{idle-waits}
 
 -- the state with a popped run at the front
@@ -39,7 +39,7 @@ module _ {r : Rooms} {reals : List Float} {cells : List ℕ} (top used : ℕ) (s
   few-waits : SomeWaits cells reals r top used → (joins : List ℕ) (p : Popped) → ((w : Waiting) (ws : List Waiting) → SavedIn cells reals r top used (w ∷ ws) → PoppedAs w ws joins p) → p .count ≤ used
   few-waits s joins p f = let a = f (s .run) (s .runs) (s .saved) in omega (arith, a .count, s .saved .1 .0)
 
-module _ {b : List ℕ} {p : Plan} {fs : List Float} {us : List ℕ} {reals : List Float} {cells joins path : List ℕ} {g : State} {net : Net} {runs : List Run} (d : DriveIn b p fs us reals cells joins path g net runs) (idle : g .front .moves ≡ false) (some : 0 < g .top) where
+module _ {b : List ℕ} {p : Plan} {fs : List Float} {us : List ℕ} {reals : List Float} {cells joins path : List ℕ} {g : State} {net : Net} {runs : List Run} (d : DriveIn b p (lists fs us reals cells joins) path g net runs) (idle : g .front .moves ≡ false) (some : 0 < g .top) where
   waits : WaitIn b (p .r) reals cells (g .top) (g .used) runs
   waits = idle-waits d idle
 
@@ -68,7 +68,7 @@ module _ {b : List ℕ} {p : Plan} {fs : List Float} {us : List ℕ} {reals : Li
           record { runs = ws; kept = saved-rest cells reals (p .r) (g .top) (g .used) w ws list q a h; same = s .1 },
         )
 
-    pub taken-up : DriveIn b p fs us reals cells list path (takenUp g q) net runs
+    pub taken-up : DriveIn b p (lists fs us reals cells list) path (takenUp g q) net runs
     taken-up = record {
       grown = d .grown;
       chained = d .chained;

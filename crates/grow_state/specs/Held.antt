@@ -36,6 +36,9 @@ pub record Lists : Type 0 where
   pub cells : List ℕ
   pub joins : List ℕ
 
+abbrev pub lists : List Float → List ℕ → List Float → List ℕ → List ℕ → Lists
+lists fs us rs cs js = record { floats = fs; numbers = us; reals = rs; cells = cs; joins = js }
+
 abbrev pub listsAtEntry : Lent (List Float) → Lent (List ℕ) → Lent (List Float) → Lent (List ℕ) → Lent (List ℕ) → Lists
 listsAtEntry floats numbers reals cells joins = record {
   floats = now (floats .entry);
@@ -148,24 +151,23 @@ RunsIn true b r reals cells joins g (run ∷ saved) =
 -- ---- the whole
 
 -- Between two legs: the network, the legs' chains, the path that is kept, and the runs, the one at the front first.
-pub record DriveIn (b : List ℕ) (p : Plan) (fs : List Float) (us : List ℕ) (reals : List Float)
-    (cells joins path : List ℕ) (g : State) (net : Net) (runs : List Run) : Type 0 where
-  pub grown : NetIn (p .w) cells fs us cells (g .counts) net
-  pub chained : Chained b cells
-  pub kept : PathIn b reals cells path
+pub record DriveIn (b : List ℕ) (p : Plan) (s : Lists) (path : List ℕ) (g : State) (net : Net)
+    (runs : List Run) : Type 0 where
+  pub grown : NetIn (p .w) (s .cells) (s .floats) (s .numbers) (s .cells) (g .counts) net
+  pub chained : Chained b (s .cells)
+  pub kept : PathIn b (s .reals) (s .cells) path
   pub short : length path ≤ legs b
-  pub waiting : RunsIn (g .front .moves) b (p .r) reals cells joins g runs
+  pub waiting : RunsIn (g .front .moves) b (p .r) (s .reals) (s .cells) (s .joins) g runs
   pub sound : AllSound b (g .counts .nodes) runs
   pub prefixes : Prefixes b path runs
   pub separate : AllSeparate b runs
 
 -- some network and runs are
-pub record Driving (b : List ℕ) (p : Plan) (fs : List Float) (us : List ℕ) (reals : List Float) (cells joins : List ℕ)
-    (g : State) : Type 0 where
+pub record Driving (b : List ℕ) (p : Plan) (s : Lists) (g : State) : Type 0 where
   pub path : List ℕ
   pub net : Net
   pub runs : List Run
-  pub holds : DriveIn b p fs us reals cells joins path g net runs
+  pub holds : DriveIn b p s path g net runs
 
 -- the same of some book and table: what the runs that wait need
 pub record SomeDrive (p : Plan) (reals : List Float) (cells joins : List ℕ) (g : State) : Type 0 where
@@ -173,23 +175,22 @@ pub record SomeDrive (p : Plan) (reals : List Float) (cells joins : List ℕ) (g
   pub fs : List Float
   pub us : List ℕ
   pub plan : PlanIn b p (length reals)
-  pub driving : Driving b p fs us reals cells joins g
+  pub driving : Driving b p (lists fs us reals cells joins) g
 
 -- what the code answers: the state then, or a refusal
-pub record GivesAs (answer : Answer Growth) (b : List ℕ) (p : Plan) (fs : List Float) (us : List ℕ) (reals : List Float)
-    (cells joins : List ℕ) (g : State) : Type 0 where
+pub record GivesAs (answer : Answer Growth) (b : List ℕ) (p : Plan) (s : Lists) (g : State) : Type 0 where
   pub growth : Growth
   pub is : answer ≡ given growth
   pub path : List ℕ
-  pub holds : DriveIn b p fs us reals cells joins path g (growth .net) (growth .saved)
+  pub holds : DriveIn b p s path g (growth .net) (growth .saved)
 
-abbrev pub TurnedAs : Answer Growth → List ℕ → Plan → List Float → List ℕ → List Float → List ℕ → List ℕ → GrowthAnswer
-    → Type 0
-TurnedAs answer b p fs us reals cells joins (On g) = GivesAs answer b p fs us reals cells joins g
-TurnedAs answer b p fs us reals cells joins (Refused k) = answer ≡ refused k
+abbrev pub TurnedAs : Answer Growth → List ℕ → Plan → Lists → GrowthAnswer → Type 0
+TurnedAs answer b p s (On g) = GivesAs answer b p s g
+TurnedAs answer b p s (Refused k) = answer ≡ refused k
 
 -- the network and the runs that a state had are those of another, whose front's entries lie in other joins
 abbrev pub SameDrive : Plan → List Float → List ℕ → List ℕ → List ℕ → State → State → Type 0
 SameDrive p reals cells joins joins′ g h =
     (b : List ℕ) (fs : List Float) (us path : List ℕ) (net : Net) (runs : List Run)
-    → DriveIn b p fs us reals cells joins path g net runs → DriveIn b p fs us reals cells joins′ path h net runs
+    → DriveIn b p (lists fs us reals cells joins) path g net runs
+    → DriveIn b p (lists fs us reals cells joins′) path h net runs

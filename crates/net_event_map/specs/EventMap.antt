@@ -15,7 +15,7 @@ use Rattle.net_node.specs.declared.EstTime.{EstTime}
 use Rattle.net_node.specs.Table.{sameEvent}
 use Rattle.net_event_map.specs.declared.Layout.{Layout}
 
--- "some node has the event", of the first n
+-- whether one of the first n nodes has the event
 unfoldable pub seenIn : (ℕ → EstTime) → ℕ → LinkEvent → Bool
 seenIn node n e = someBelow n (λ i. sameEvent (node i .«link_event») e)
 

@@ -65,6 +65,10 @@ splitFake p prev = withPrev (withArc blank (p .«time_to_next») (p .«dist_to_n
 
 -- ---- the table afterwards
 
+-- the table of two lists
+abbrev pub tableOf : List Float → List ℕ → Table
+tableOf fs us = record { floats = fs; numbers = us }
+
 -- the event added as node k behind node i
 unfoldable pub addBehind : Table → ℕ → ℕ → TimedEvent → Table
 unfolding put at

@@ -6,13 +6,10 @@ use lib.Ieee.{Float}
 use Rattle.net_node.specs.declared.EstTime.{EstTime}
 use Rattle.net_node.specs.declared.TimedEvent.{TimedEvent}
 use Rattle.net_node.specs.Table.{nodeAt, putFloats, putNumbers, Table, put, at, withPrevAlt}
-use Rattle.net_insertion.specs.Insertion.{linkedTo}
+use Rattle.net_insertion.specs.Insertion.{linkedTo, tableOf}
 use Rattle.net_joins.specs.Joins.{chainEnd, joinFake, joinAt, joinedTable}
 
-abbrev pub lists : List Float → List ℕ → Table
-lists fs us = record { floats = fs; numbers = us }
-
-stored : (s : Table) (i : ℕ) (x : EstTime) (fs : List Float) (us : List ℕ) → fs ≡ putFloats (s .floats) i x → us ≡ putNumbers (s .numbers) i x → lists fs us ≡ put s i x
+stored : (s : Table) (i : ℕ) (x : EstTime) (fs : List Float) (us : List ℕ) → fs ≡ putFloats (s .floats) i x → us ≡ putNumbers (s .numbers) i x → tableOf fs us ≡ put s i x
 unfolding put
 stored s i x fs us a b = λ t. record { floats = a t; numbers = b t }
 
@@ -37,21 +34,21 @@ module _ {t : Table} {n end : ℕ} {e : TimedEvent} {fs gs hs : List Float} {us 
   abbrev second : Table
   second = put first n (joinFake end (n - 1))
 
-  stored-first : lists fs us ≡ first
+  stored-first : tableOf fs us ≡ first
   unfolding at
   stored-first = stored t end u fs us (s .floats) (s .numbers) ∙ ap (put t end) (s .joined ∙ ap (λ (m : EstTime). withPrevAlt m n) (s .load))
 
-  stored-second : lists gs vs ≡ second
+  stored-second : tableOf gs vs ≡ second
   stored-second =
-      stored (lists fs us) n v gs vs (s .floats-then) (s .numbers-then)
+      stored (tableOf fs us) n v gs vs (s .floats-then) (s .numbers-then)
       ∙ ap (λ (r : Table). put r n v) stored-first
       ∙ ap (put first n) (s .fake)
 
-  stored-third : lists hs ws ≡ joinAt t n end e
+  stored-third : tableOf hs ws ≡ joinAt t n end e
   unfolding joinAt at
   stored-third =
-      stored (lists gs vs) (n - 1) z hs ws (s .floats-last) (s .numbers-last)
-      ∙ ap (put (lists gs vs) (n - 1)) (s .linked ∙ ap (λ (m : EstTime). linkedTo m n e) (s .load-then))
+      stored (tableOf gs vs) (n - 1) z hs ws (s .floats-last) (s .numbers-last)
+      ∙ ap (put (tableOf gs vs) (n - 1)) (s .linked ∙ ap (λ (m : EstTime). linkedTo m n e) (s .load-then))
       ∙ ap (λ (r : Table). put r (n - 1) (linkedTo (at r (n - 1)) n e)) stored-second
 
   pub join-stored : (hs ≡ joinAt t n end e .floats) × (ws ≡ joinAt t n end e .numbers)

@@ -2,12 +2,13 @@
 use borrow.Author.Needs.{needs}
 use Prim.Native.Nat.{_-_}
 use native.Mathlib.Omega.{arith}
+use Rattle.net_insertion.specs.Insertion.{tableOf}
 use Rattle.grow_ends.proofs.Fakes.{Faking, faking-start, faking-inside, faking-cell, faking-full, faking-on, faking-end}
 use Rattle.grow_ends.proofs.end_fakes.Statement.{statement}
 use Rattle.grow_ends.proofs.end_fakes.Tie as tie
 
 abbrev Inv-loop : tie.InvT-loop
-Inv-loop floats₀ numbers₀ n places cells ends-at last-end i₀ alt₀ k₀ floats numbers i alt k = Faking cells ends-at last-end n places (record { floats = floats₀; numbers = numbers₀ }) (record { floats = floats; numbers = numbers }) i alt k
+Inv-loop floats₀ numbers₀ n places cells ends-at last-end i₀ alt₀ k₀ floats numbers i alt k = Faking cells ends-at last-end n places (tableOf floats₀ numbers₀) (tableOf floats numbers) i alt k
 
 abbrev μ-loop : tie.MeasureT-loop
 μ-loop floats₀ numbers₀ n places cells ends-at last-end i₀ alt₀ k₀ floats numbers i alt k = places - k
