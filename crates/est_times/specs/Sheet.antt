@@ -1,4 +1,5 @@
--- The whole job, `make_est_times`: a book is read, its network grown, checked and timed. Put together from the definitions of the crates below, with no new algorithm.
+-- The whole job, `make_est_times`: a book is read, its network grown, checked and timed. Put together from the
+-- definitions of the crates below, with no new algorithm.
 use mathlib.Core.Path.{_≡_}
 use mathlib.Core.List.{List}
 use Prim.Native.Nat.{ℕ, zero, suc}
@@ -60,7 +61,8 @@ abbrev pub DemandOf : List ℕ → Table → Sheet → Type 0
 DemandOf b t (Made r) = Demand b t r
 DemandOf b t (Refused k) = Unit
 
--- For a book, what was lent at entry and what stands there at exit: the answer, both slices of the table, the work space, and demand 3, whatever table and work space held.
+-- For a book, what was lent at entry and what stands there at exit: the answer, both slices of the table, the work
+-- space, and demand 3, whatever table and work space held.
 pub record SheetMade (b : List ℕ) (lent left : Slices) (r : Sheet) : Type 0 where
   pub answer : r ≡ answered (job b (sizesOf lent))
   pub floats : left .table .floats ≡ floatsLeft (sheetOf (job b (sizesOf lent))) (length (lent .table .floats))

@@ -1,4 +1,5 @@
-// Estimated times: a book to its sheet. Contracts: specs/Sheet.antt, specs/Network.antt; of the inner functions specs/Stages.antt.
+// Estimated times: a book to its sheet. Contracts: specs/Sheet.antt, specs/Network.antt; of the inner functions
+// specs/Stages.antt.
 use book_reader::Reading;
 use grow_book::GrownBook;
 use report::Report;
@@ -118,8 +119,8 @@ fn nodes_of(sheet: Sheet) -> usize
     }
 }
 
-// Makes the sheet of a book in a lent table: every route with its splits and joins, timed. Whatever table and work space held,
-// the table has the sheet then, or is zero, and the work space is zero.
+// Makes the sheet of a book in a lent table: every route with its splits and joins, timed. Whatever table and work
+// space held, the table has the sheet then, or is zero, and the work space is zero.
 pub fn make_est_times(
     book: &[u8],
     floats: &mut [f64],

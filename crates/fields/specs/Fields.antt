@@ -1,5 +1,5 @@
--- Document 01, "Little-endian bytes; floats are 8 bytes, other fields u32": the number that stands at an offset of a list of bytes.
--- A byte past the end is read as 0, so each definition is total; row 1 is what says that none was.
+-- Document 01, "Little-endian bytes; floats are 8 bytes, other fields u32": the number that stands at an offset of a
+-- list of bytes. A byte past the end is read as 0, so each definition is total; row 1 is what says that none was.
 use mathlib.Core.List.{List}
 use Prim.Native.Nat.{ℕ, _+_, _*_}
 use lib.ListN.{getD}

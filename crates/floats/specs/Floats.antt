@@ -1,5 +1,6 @@
--- The float tests and choices of document 01, in the terms of `lib.Ieee`, for every value: `nan`, both infinities and both zeros too.
--- A value that stands in a book is still a bit pattern there; one that stands in a lent table is an f64 already.
+-- The float tests and choices of document 01, in the terms of `lib.Ieee`, for every value: `nan`, both infinities and
+-- both zeros too. A value that stands in a book is still a bit pattern there; one that stands in a lent table is an f64
+-- already.
 use mathlib.Core.Path.{_≡_}
 use mathlib.Core.Bool.{Bool, true, false, _&&_, cond}
 use Prim.Native.Nat.{ℕ}
@@ -12,7 +13,8 @@ unfoldable pub billion : Float
 unfolding ofInt
 billion = ofInt binary64 (pos 1000000000)
 
--- Row 4, "float not finite or above 1,000,000,000 in size .. (a table takes either sign)": when a table's float is none of these.
+-- Row 4, "float not finite or above 1,000,000,000 in size .. (a table takes either sign)": when a table's float is none
+-- of these.
 unfoldable pub tableFloat : Float → Bool
 unfolding billion
 tableFloat nan = false
@@ -34,11 +36,13 @@ unfoldable pub gap : Float → Float → Float
 unfolding abs
 gap a b = abs (sub binary64 a b)
 
--- The smaller of two offsets as the source takes it (`a.min(b)`): where one is not a number the other, and the first of two equal ones.
+-- The smaller of two offsets as the source takes it (`a.min(b)`): where one is not a number the other, and the first of
+-- two equal ones.
 unfoldable pub smaller : Float → Float → Float
 smaller a b = cond (isNan a) b (cond (lt b a) b a)
 
--- "book signs" of a value that is lent as an f64: its own pattern is one that a book may hold. A NaN's is not, nor that of -0.
+-- "book signs" of a value that is lent as an f64: its own pattern is one that a book may hold. A NaN's is not, nor that
+-- of -0.
 unfoldable pub bookValue : Float → Bool
 unfolding bookFloat
 bookValue x = bookFloat (toBits binary64 x)

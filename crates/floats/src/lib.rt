@@ -17,7 +17,8 @@ pub fn is_table_float(x: f64) -> bool
     }
 }
 
-// Whether a book may hold this bit pattern (row 4). Where the sign bit is clear the larger pattern has the larger value, and every NaN's, like every pattern whose sign bit is set, lies above the limit's.
+// Whether a book may hold this bit pattern (row 4). Where the sign bit is clear the larger pattern has the larger
+// value, and every NaN's, like every pattern whose sign bit is set, lies above the limit's.
 pub fn is_book_float(bits: u64) -> bool
     ensures { λ r. ⌜ r ≡ bookFloat bits ⌝ }
 {

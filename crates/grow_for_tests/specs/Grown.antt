@@ -1,4 +1,5 @@
--- The network of a book before its times are known, as an entry for tests: rows 1 to 13. The network is `network` of est_times' specs/Network.antt.
+-- The network of a book before its times are known, as an entry for tests: rows 1 to 13. The network is `network` of
+-- est_times' specs/Network.antt.
 use mathlib.Core.Path.{_≡_}
 use mathlib.Core.List.{List}
 use Prim.Native.Nat.{ℕ}

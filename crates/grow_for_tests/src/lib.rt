@@ -1,4 +1,5 @@
-// The network of a book before its times are known: an entry for tests, so that growth can be compared by itself. Contracts: specs/Grown.antt.
+// The network of a book before its times are known: an entry for tests, so that growth can be compared by itself.
+// Contracts: specs/Grown.antt.
 use grow_book::GrownBook;
 ghost use mathlib.Core.Path.{_≡_};
 ghost use Rattle.net_node.specs.Lent.{lentAtEntry, lentAtExit};
@@ -14,8 +15,8 @@ fn nodes_of(g: GrownBook) -> usize
     }
 }
 
-// The report's counts, or the number of a refusal. Whatever table and work space held, the table has the network then, or is zero,
-// and the work space is zero.
+// The report's counts, or the number of a refusal. Whatever table and work space held, the table has the network then,
+// or is zero, and the work space is zero.
 pub fn grow_network(
     book: &[u8],
     floats: &mut [f64],

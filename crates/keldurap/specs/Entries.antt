@@ -1,5 +1,5 @@
--- What the functions for other languages promise. Each is thin: there is an answer of the crate's own entry, which meets that entry's promise over all that is lent,
--- and the number, the counts and the report are those of this answer.
+-- What the functions for other languages promise. Each is thin: there is an answer of the crate's own entry, which
+-- meets that entry's promise over all that is lent, and the number, the counts and the report are those of this answer.
 use mathlib.Core.Path.{_≡_}
 use mathlib.Core.List.{List}
 use mathlib.Core.Option.{Option}

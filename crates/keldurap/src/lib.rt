@@ -1,4 +1,5 @@
-// The entries for other languages. Each is thin: it calls the proved function of its crate and hands on its answer. include/keldurap.h has the C side. Contracts: specs/Entries.antt.
+// The entries for other languages. Each is thin: it calls the proved function of its crate and hands on its answer.
+// include/keldurap.h has the C side. Contracts: specs/Entries.antt.
 use est_times::Sheet;
 use event_maker::Made;
 use grow_book::GrownBook;
@@ -160,8 +161,9 @@ pub extern "C" fn keldurap_make_events(
     made_number(made)
 }
 
-// Checks and times a lent node table of as many nodes as both slices fill: 0 and how many there are, or the number of a refusal.
-// What the slices hold past the nodes is zero afterwards, all of both on a refusal; the work space is zero either way.
+// Checks and times a lent node table of as many nodes as both slices fill: 0 and how many there are, or the number of a
+// refusal. What the slices hold past the nodes is zero afterwards, all of both on a refusal; the work space is zero
+// either way.
 #[no_mangle]
 pub extern "C" fn keldurap_update_times(
     floats: &mut [f64],
@@ -180,7 +182,8 @@ pub extern "C" fn keldurap_update_times(
     timed_number(timed)
 }
 
-// The network of a book before its times are known, for tests: 0 and the report's five numbers, or the number of a refusal.
+// The network of a book before its times are known, for tests: 0 and the report's five numbers, or the number of a
+// refusal.
 #[no_mangle]
 pub extern "C" fn keldurap_grow_network(
     book: &[u8],
@@ -199,8 +202,8 @@ pub extern "C" fn keldurap_grow_network(
     grown_number(grown)
 }
 
-// The sheet of a book in a lent table: 0 and the report's five numbers, or the number of a refusal. Whatever table and work space
-// held, the table has the sheet then, or is zero, and the work space is zero.
+// The sheet of a book in a lent table: 0 and the report's five numbers, or the number of a refusal. Whatever table and
+// work space held, the table has the sheet then, or is zero, and the work space is zero.
 #[no_mangle]
 pub extern "C" fn keldurap_make_est_times(
     book: &[u8],
@@ -219,8 +222,8 @@ pub extern "C" fn keldurap_make_est_times(
     sheet_number(sheet)
 }
 
-// The listing of a sheet in a lent slice, by the table and the report: 0 and its length, 1 where the slice is too short,
-// 2 where the table has fewer nodes than the report says; then the slice is zero.
+// The listing of a sheet in a lent slice, by the table and the report: 0 and its length, 1 where the slice is too
+// short, 2 where the table has fewer nodes than the report says; then the slice is zero.
 #[no_mangle]
 pub extern "C" fn keldurap_list_sheet(
     floats: &[f64],

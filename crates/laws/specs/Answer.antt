@@ -11,7 +11,8 @@ abbrev pub andThen : {A B : Type 0} → Answer A → (A → Answer B) → Answer
 andThen (refused n) f = refused n
 andThen (given a) f = f a
 
--- a number that was found before, or what comes later where there was none: "Of 1 to 8 the lowest wins; after that the first met."
+-- a number that was found before, or what comes later where there was none: "Of 1 to 8 the lowest wins; after that the
+-- first met."
 abbrev pub unless : {A : Type 0} → ℕ → Answer A → Answer A
 unless zero later = later
 unless (suc k) later = refused (suc k)

@@ -1,5 +1,5 @@
--- Refusals in their order. Document 01: "Of 1 to 8 the lowest wins"; document 02 puts 20 between 6 and 7, and 18 between 7 and 8.
--- The order is that of the list alone, and numbers in it need not rise.
+-- Refusals in their order. Document 01: "Of 1 to 8 the lowest wins"; document 02 puts 20 between 6 and 7, and 18
+-- between 7 and 8. The order is that of the list alone, and numbers in it need not rise.
 use mathlib.Core.Bool.{Bool, cond}
 use mathlib.Core.List.{List, [], _∷_}
 use Prim.Native.Nat.{ℕ}

@@ -1,5 +1,6 @@
--- The listing, document 01 under "A book and its listing": "Fields: node, kind (A, C, F), link, next, its alternative, previous, its alternative, in decimal; time, time to next, distance to next,
--- speed, each the 16 hexadecimal digits of its bits, closing zeros dropped, one digit kept. Refused: `refused N`." Text is a list of bytes (ASCII).
+-- The listing, document 01 under "A book and its listing": "Fields: node, kind (A, C, F), link, next, its alternative,
+-- previous, its alternative, in decimal; time, time to next, distance to next, speed, each the 16 hexadecimal digits of
+-- its bits, closing zeros dropped, one digit kept. Refused: `refused N`." Text is a list of bytes (ASCII).
 use mathlib.Core.Path.{_≡_}
 use mathlib.Core.Bool.{Bool, true, false, cond}
 use mathlib.Core.List.{List, [], _∷_, _++_}
@@ -141,7 +142,8 @@ abbrev pub bytesLeft : Option (List ℕ) → ℕ → List ℕ
 bytesLeft none size = zeros size
 bytesLeft (some text) size = bytesAs (leb (length text) size) text size
 
--- The promise of a function that lists into a lent slice: what it answers, and every byte of the slice, whatever that held.
+-- The promise of a function that lists into a lent slice: what it answers, and every byte of the slice, whatever that
+-- held.
 pub record TextListed (text : Option (List ℕ)) (lent left : List ℕ) (r : Listed) : Type 0 where
   pub answer : r ≡ listedAs text (length lent)
   pub bytes : left ≡ bytesLeft text (length lent)

@@ -15,14 +15,16 @@ ghost use Rattle.listing.specs.Listing.{glyph as Listing·glyph, letter 
 ghost use Rattle.listing.specs.Listing.{line, lines, head, refusedText, sheetIn, TextListed};
 ghost use Rattle.listing.specs.Written.{Puts, Finishes};
 
-// How many bytes a listing has, that the slice is too short for it, or that the table has fewer nodes than the report says.
+// How many bytes a listing has, that the slice is too short for it, or that the table has fewer nodes than the report
+// says.
 pub enum Listed {
     Bytes(usize),
     Short,
     Unfilled,
 }
 
-// Puts a byte behind a text that goes up to `at`, and answers where the next one goes: past the end if there was no room.
+// Puts a byte behind a text that goes up to `at`, and answers where the next one goes: past the end if there was no
+// room.
 fn put_byte(out: &mut [u8], at: usize, byte: u8) -> usize
     ensures { λ r. ⌜ Puts (now (out .entry)) at (byte ∷ []) (now (out .exit)) r ⌝ }
 {
@@ -181,7 +183,8 @@ fn finish(s: &mut [u8], at: usize) -> Listed
     Listed::Bytes(at)
 }
 
-// Lists a sheet: its report, then as many nodes as that says. A slice that is too short is left zero, and so is one for a table that has fewer nodes.
+// Lists a sheet: its report, then as many nodes as that says. A slice that is too short is left zero, and so is one for
+// a table that has fewer nodes.
 pub fn list_sheet(floats: &[f64], numbers: &[u32], report: Report, out: &mut [u8]) -> Listed
     ensures { λ r. ⌜ TextListed (sheetIn report (tableAtEntry floats numbers)) (now (out .entry)) (now (out .exit)) r ⌝ }
 {

@@ -1,5 +1,6 @@
--- How many nodes a lent table has places for, and what an entry leaves in it. Document 01: "Accepted: nodes in the lent table (4 f64 and 6 u32 each, as many places as both slices fill,
--- all else zero)"; "Refused: the number; every lent table and the report are zero."
+-- How many nodes a lent table has places for, and what an entry leaves in it. Document 01: "Accepted: nodes in the lent
+-- table (4 f64 and 6 u32 each, as many places as both slices fill, all else zero)"; "Refused: the number; every lent
+-- table and the report are zero."
 use mathlib.Core.List.{List, _++_}
 use Prim.Native.Nat.{ℕ, _+_, _-_, _*_, _/_, min}
 use lib.ListN.{length, take, getD}

@@ -1,4 +1,5 @@
--- A lent table, read at a function's two moments: its two slices as one record, alone and beside the work space. Contracts of entries are said over these records, by name.
+-- A lent table, read at a function's two moments: its two slices as one record, alone and beside the work space.
+-- Contracts of entries are said over these records, by name.
 use mathlib.Core.List.{List}
 use Prim.Native.Nat.{ℕ}
 use lib.ListN.{length}
@@ -32,7 +33,8 @@ lentAtExit floats numbers reals cells marks = record {
   work = workAtExit reals cells marks;
 }
 
--- What an answer may depend on of the slices is how long they are, never what they held: so many floats and numbers, so many bytes of work space.
+-- What an answer may depend on of the slices is how long they are, never what they held: so many floats and numbers, so
+-- many bytes of work space.
 pub record Sizes : Type 0 where
   pub floats : ℕ
   pub numbers : ℕ

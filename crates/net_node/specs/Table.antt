@@ -1,6 +1,8 @@
--- A node table in two lent slices, document 01: "Each node is read and written as one record of four floats (time, time to next, distance to next, speed), four indices, and its event,
--- which holds the link and the kind: Arrive 0, Clear 1, Fake 2." This crate alone knows the layout: which column of a node's floats or numbers a field stands in, and how many there are.
--- Everything above it goes by `at`, `put`, the `with..` and `set..` below and their laws (proofs/), and names the widths where it counts slices.
+-- A node table in two lent slices, document 01: "Each node is read and written as one record of four floats (time, time
+-- to next, distance to next, speed), four indices, and its event, which holds the link and the kind: Arrive 0, Clear 1,
+-- Fake 2." This crate alone knows the layout: which column of a node's floats or numbers a field stands in, and how
+-- many there are. Everything above it goes by `at`, `put`, the `with..` and `set..` below and their laws (proofs/), and
+-- names the widths where it counts slices.
 use mathlib.Core.Bool.{Bool, true, false, _&&_}
 use mathlib.Core.List.{List, [], _∷_, _++_}
 use Prim.Native.Nat.{ℕ, zero, suc, _+_, _*_, _≤_, _<_}
@@ -111,7 +113,8 @@ abbrev pub tableOf : List EstTime → Table
 tableOf [] = record { floats = []; numbers = [] }
 tableOf (n ∷ ns) = record { floats = floatsOf n ++ tableOf ns .floats; numbers = numbersOf n ++ tableOf ns .numbers }
 
--- "The blank node and the no-link event are named constants of their records": the source's defaults, with a time of 0, since untimed is a state of its own
+-- "The blank node and the no-link event are named constants of their records": the source's defaults, with a time of 0,
+-- since untimed is a state of its own
 unfoldable pub noLinkEvent : LinkEvent
 noLinkEvent = record { «link_idx» = 0; «est_type» = Fake }
 

@@ -13,7 +13,8 @@ pub const FLOAT_WIDTH: usize = 4;
 
 pub const NUMBER_WIDTH: usize = 6;
 
-// Type of an estimated time node: the train arrives at the entry point of a link, clears it, or the node only links alternatives.
+// Type of an estimated time node: the train arrives at the entry point of a link, clears it, or the node only links
+// alternatives.
 pub enum EstType {
     Arrive,
     Clear,

@@ -1,4 +1,5 @@
--- A report as a list of numbers, for callers of other languages. Document 01 under "Answers given": "a report of nodes, added (origins' nodes included), splits, joined, finished".
+-- A report as a list of numbers, for callers of other languages. Document 01 under "Answers given": "a report of nodes,
+-- added (origins' nodes included), splits, joined, finished".
 use mathlib.Core.List.{List, [], _∷_}
 use Prim.Native.Nat.{ℕ}
 use lib.ListN.{getD}

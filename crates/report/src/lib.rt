@@ -1,4 +1,5 @@
-// The report of a sheet: its five numbers, as a record and as callers of other languages have them. Contracts: specs/Numbers.antt.
+// The report of a sheet: its five numbers, as a record and as callers of other languages have them. Contracts:
+// specs/Numbers.antt.
 ghost use mathlib.Core.Path.{_≡_};
 ghost use Rattle.report.specs.Numbers.{noReport, numbersOf, reportIn};
 

@@ -1,4 +1,5 @@
--- What the steps of the program's root give. Only the contracts of private functions and the laws in proofs/ use these words.
+-- What the steps of the program's root give. Only the contracts of private functions and the laws in proofs/ use these
+-- words.
 use mathlib.Core.Path.{_≡_}
 use Prim.Native.Nat.{ℕ, zero, suc, _+_, _*_, _/_, _%_, _^_, _≤_, _<_, compare}
 use lib.Ieee.{Format, binary64, hid, low, nearest}
@@ -35,7 +36,8 @@ pub record Rooted (a q r : ℕ) : Type 0 where
   pub least : 4503599627370496 ≤ q
   pub most : q < 9007199254740992
 
--- n is the root of a * 2 ^ 52, rounded: the whole root q or one more, as what is left over, r, lies below or above the middle between the two.
+-- n is the root of a * 2 ^ 52, rounded: the whole root q or one more, as what is left over, r, lies below or above the
+-- middle between the two.
 pub record RoundedRoot (a n : ℕ) : Type 0 where
   pub q : ℕ
   pub r : ℕ

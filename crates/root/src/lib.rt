@@ -1,5 +1,5 @@
-// The square root of an f64: guessed in floats, tested in whole numbers, and worked out digit by digit where the guess is wrong.
-// Contract: specs/Root.antt.
+// The square root of an f64: guessed in floats, tested in whole numbers, and worked out digit by digit where the guess
+// is wrong. Contract: specs/Root.antt.
 ghost use mathlib.Core.Path.{_≡_};
 ghost use mathlib.Core.Bool.{true};
 ghost use Prim.Native.Nat.{_≤_, _<_, compare};
@@ -133,7 +133,8 @@ fn digit_root(a: u64) -> u64
 
 // The 53 leading digits of the root, rounded: nearly always so for a normal number's pattern, and nothing rests on it.
 // x is the number times a power of four, from 1 / 2 to 2, and z is 1 / √x but for 2 ^ -21 of it.
-// t is the root of x but for 2 ^ -21, and so short that t * t and r are exact. t + r / (t + root) is the root, and 2 * t + r * z / 2 is near t + root.
+// t is the root of x but for 2 ^ -21, and so short that t * t and r are exact. t + r / (t + root) is the root, and 2 *
+// t + r * z / 2 is near t + root.
 fn guess(bits: u64) -> u64
     ensures { λ r. ⌜ r < 9007199254740992 ⌝ }
 {

@@ -10,7 +10,8 @@ unfoldable pub littleEndian : List ℕ → ℕ
 littleEndian [] = 0
 littleEndian (b ∷ bs) = b + 256 * littleEndian bs
 
--- The pattern of the root of a pattern's value. Every NaN pattern is read as `nan`, and `nan` is written as 7ff8000000000000.
+-- The pattern of the root of a pattern's value. Every NaN pattern is read as `nan`, and `nan` is written as
+-- 7ff8000000000000.
 unfoldable pub rootBits : ℕ → ℕ
 unfolding sqrt ofBits toBits
 rootBits n = toBits binary64 (sqrt binary64 (ofBits binary64 n))

@@ -48,7 +48,8 @@ fn answer(bytes: [u8; 8]) -> [u8; 16]
     text
 }
 
-// Reads one pattern and prints its line. Answers whether there may be another: false where the input has ended or a call failed.
+// Reads one pattern and prints its line. Answers whether there may be another: false where the input has ended or a
+// call failed.
 fn print_one() -> bool {
     let mut bytes = [0u8; 8];
     let n = io::read_full(STDIN_FILENO, &mut bytes);
@@ -65,7 +66,8 @@ fn print_one() -> bool {
     io::write_all(STDOUT_FILENO, b"\n")
 }
 
-// A proved loop has to end, and nothing says that the input does: the turns are counted down from a number that no run uses up.
+// A proved loop has to end, and nothing says that the input does: the turns are counted down from a number that no run
+// uses up.
 fn main() {
     let mut turns = u64::MAX;
     while turns > 0 && print_one() {

@@ -1,4 +1,5 @@
-// Reads a book from standard input and prints the listing of its sheet, or `refused N`: books to 65,536 bytes (longer ones print `too long`), 192 nodes, 65,536 bytes of work space.
+// Reads a book from standard input and prints the listing of its sheet, or `refused N`: books to 65,536 bytes (longer
+// ones print `too long`), 192 nodes, 65,536 bytes of work space.
 use libc::STDIN_FILENO;
 use libc::STDOUT_FILENO;
 use listing::Listed;

@@ -10,7 +10,8 @@ const FLOATS: usize = 192 * net_node::FLOAT_WIDTH;
 
 const NUMBERS: usize = 192 * net_node::NUMBER_WIDTH;
 
-// Makes the sheet of a book and lists it, or its refusal, in a lent slice. Table and work space are left as `make_est_times` leaves them.
+// Makes the sheet of a book and lists it, or its refusal, in a lent slice. Table and work space are left as
+// `make_est_times` leaves them.
 pub fn list_book(
     book: &[u8],
     floats: &mut [f64],

@@ -1,4 +1,5 @@
--- What an entry is lent, read at its two moments: the work space's three slices as one record, at entry and at exit. Contracts of entries are said over these records, by name.
+-- What an entry is lent, read at its two moments: the work space's three slices as one record, at entry and at exit.
+-- Contracts of entries are said over these records, by name.
 use mathlib.Core.Path.{_≡_}
 use mathlib.Core.List.{List}
 use Prim.Native.Nat.{ℕ}

@@ -1,4 +1,5 @@
-// Answers a stream of books, each after its byte count (four bytes, little-endian, books to 65,536 bytes), as the program `sheet` does, each behind a line `== K`, K from 0.
+// Answers a stream of books, each after its byte count (four bytes, little-endian, books to 65,536 bytes), as the
+// program `sheet` does, each behind a line `== K`, K from 0.
 use libc::STDIN_FILENO;
 use libc::STDOUT_FILENO;
 use listing::Listed;
