@@ -126,7 +126,7 @@ module _ (t : Table) (n : ℕ) (departure : Float) (units : ℕ) where
 
 -- ---- what they leave for the passes
 
-nonzero : (k : ℕ) → suc k ≡ 0 → ⊥
+pub nonzero : (k : ℕ) → suc k ≡ 0 → ⊥
 nonzero k e = omega arith
 
 none-of-three : (a b c : Bool) → lowest 3 (a ∷ b ∷ c ∷ []) ≡ 0 → (a ≡ false) × (c ≡ false)
