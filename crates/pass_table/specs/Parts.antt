@@ -1,4 +1,5 @@
 -- Words of the table entry's parts. Only the contracts of private functions use them.
+use mathlib.Core.Bool.{Bool, true, false}
 use mathlib.Core.List.{[], _∷_}
 use Prim.Native.Nat.{ℕ, zero, suc}
 use lib.Ieee.{Float}
