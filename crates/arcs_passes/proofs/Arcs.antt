@@ -12,7 +12,7 @@ use Rattle.net_node.specs.declared.EstTime.{EstTime}
 use Rattle.grow_rules.specs.Run.{Arc}
 use Rattle.arcs_growth.specs.Arcs.{isBase, sourceOf, goalOf, arcOf, arcsBelow, arcsRead, sameArc, one, timesIn, SameArcs}
 use Rattle.arcs_growth.specs.Shape.{isReceiver, Shape}
-use Rattle.arcs_passes.proofs.Roles.{same-or-not}
+use Rattle.net_node.proofs.Tables.{either as same-or-not}
 use Rattle.arcs_passes.proofs.Frames.{SameFrames, base-same, source-same}
 use Rattle.arcs_passes.proofs.Swapped.{Swapped, goal-same}
 use Rattle.arcs_passes.proofs.Sums.{sum-exchanged}

@@ -11,7 +11,7 @@ use lib.Ieee.{Float}
 use Rattle.net_node.proofs.Tables.{RoomIn}
 use Rattle.net_node.specs.Table.{Table, at, isFake, setTime}
 use Rattle.net_node.specs.declared.EstTime.{EstTime}
-use Rattle.laws.specs.Answer.{Answer, refused, given}
+use Rattle.laws.specs.Answer.{refused}
 use Rattle.laws.proofs.Answers.{Holds, holds-so}
 use Rattle.pass_rules.specs.Net.{Pass}
 use Rattle.pass_rules.specs.Backward.{isPassable, walkedOn, relinkWalk, swapSplit, swappedIf}

@@ -20,7 +20,8 @@ use Rattle.pass_rules.specs.Backward.{backward}
 use Rattle.pass_rules.specs.Passes.{someLeft, allZero, checkedAs, afterBackward, afterForward, passes}
 use Rattle.arcs_growth.specs.Arcs.{isBase, isAlternative, arcsRead, SameArcs, timesIn}
 use Rattle.arcs_growth.specs.Shape.{isReceiver, Shape}
-use Rattle.arcs_passes.proofs.Roles.{either, and-left, and-right, or-is, same-or-not, base-start, base-alternative, is-receiver, end-receives-not}
+use Rattle.net_node.proofs.Tables.{either as same-or-not}
+use Rattle.arcs_passes.proofs.Roles.{either, and-left, and-right, or-is, base-start, base-alternative, is-receiver, end-receives-not}
 use Rattle.arcs_passes.proofs.Frames.{event-same, receiver-same}
 use Rattle.arcs_passes.proofs.ForwardRelinks.{Forth}
 use Rattle.arcs_passes.proofs.ForwardKeeps.{forward-keeps, forward-arcs}

@@ -11,6 +11,7 @@ use Rattle.net_node.specs.Table.{isFake}
 use Rattle.laws.specs.Below.{someBelow}
 use Rattle.laws.proofs.Below.{some-at, or-left, or-right}
 use Rattle.net_node.specs.declared.EstTime.{EstTime}
+use Rattle.net_node.proofs.Tables.{either as same-or-not}
 use Rattle.arcs_growth.specs.Arcs.{isAlternative, isBase, alternativeOf, sourceOf, goalOf}
 use Rattle.arcs_growth.specs.Shape.{isReceiver}
 
@@ -19,9 +20,6 @@ use Rattle.arcs_growth.specs.Shape.{isReceiver}
 pub either : (b : Bool) → (b ≡ true) ⊎ (b ≡ false)
 either true = inl refl
 either false = inr refl
-
-pub same-or-not : (a b : ℕ) → (a ≡ b) ⊎ (a ≢ b)
-same-or-not a b = ⊎-elim (λ (e : eqb a b ≡ true). inl (eqb-true a b e)) (λ (e : eqb a b ≡ false). inr (eqb-false a b e)) (either (eqb a b))
 
 pub never : {X : Type 0} {b : Bool} → b ≡ true → b ≡ false → X
 never e f = absurd (true≢false (sym e ∙ f))

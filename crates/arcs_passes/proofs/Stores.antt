@@ -13,7 +13,8 @@ use Rattle.net_node.specs.declared.EstTime.{EstTime}
 use Rattle.arcs_growth.specs.Arcs.{isBase}
 use Rattle.arcs_growth.specs.Shape.{Shape}
 use Rattle.arcs_passes.proofs.Sets.{sets, sets-at, sets-other}
-use Rattle.arcs_passes.proofs.Roles.{same-or-not, base-start}
+use Rattle.net_node.proofs.Tables.{either as same-or-not}
+use Rattle.arcs_passes.proofs.Roles.{base-start}
 use Rattle.arcs_passes.proofs.Frames.{frameOf, SameFrames}
 use Rattle.arcs_passes.proofs.Swapped.{Swapped}
 use Rattle.arcs_passes.proofs.Arcs.{Held, heldOf}

@@ -6,7 +6,7 @@ use native.Mathlib.Nat.{not-suc-le-zero}
 use native.Mathlib.Omega.{arith}
 use Rattle.laws.specs.Below.{sumBelow}
 use Rattle.arcs_passes.proofs.Sets.{sets, sets-at, sets-other}
-use Rattle.arcs_passes.proofs.Roles.{same-or-not}
+use Rattle.net_node.proofs.Tables.{either as same-or-not}
 
 pub sum-same : (n : ℕ) (f g : ℕ → ℕ) → ((i : ℕ) → i < n → f i ≡ g i) → sumBelow n f ≡ sumBelow n g
 unfolding sumBelow

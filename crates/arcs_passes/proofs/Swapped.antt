@@ -8,7 +8,8 @@ use Rattle.net_node.specs.Table.{isFake}
 use Rattle.net_node.specs.declared.EstTime.{EstTime}
 use Rattle.arcs_growth.specs.Arcs.{isAlternative, isBase, goalOf}
 use Rattle.arcs_growth.specs.Shape.{isReceiver, Shape}
-use Rattle.arcs_passes.proofs.Roles.{either, same-or-not, never, alternative-named, receiver-is, end-receives-not, fake-receiver, goal-end, goal-event, goal-fake}
+use Rattle.net_node.proofs.Tables.{either as same-or-not}
+use Rattle.arcs_passes.proofs.Roles.{either, never, alternative-named, receiver-is, end-receives-not, fake-receiver, goal-end, goal-event, goal-fake}
 use Rattle.arcs_passes.proofs.Frames.{SameFrames, fake-same, next-alt-same, prev-alt-same, base-same, receiver-same}
 
 -- Bases a and b have exchanged their nexts, and the two receivers their prevs accordingly.

@@ -11,7 +11,8 @@ use Rattle.laws.proofs.Below.{none-left, none-right}
 use Rattle.net_node.specs.declared.EstTime.{EstTime}
 use Rattle.arcs_growth.specs.Arcs.{isAlternative, isBase, alternativeOf, sourceOf, goalOf}
 use Rattle.arcs_growth.specs.Shape.{isReceiver, Shape}
-use Rattle.arcs_passes.proofs.Roles.{either, same-or-not, never, alternative-above, alternative-some, base-event, base-alternative, base-is, is-receiver, receiver-inside, end-receives-not, source-itself, source-step, goal-fake}
+use Rattle.net_node.proofs.Tables.{either as same-or-not}
+use Rattle.arcs_passes.proofs.Roles.{either, never, alternative-above, alternative-some, base-event, base-alternative, base-is, is-receiver, receiver-inside, end-receives-not, source-itself, source-step, goal-fake}
 
 module _ (node : ℕ → EstTime) (n : ℕ) (s : Shape node n) where
   -- ---- split Fakes

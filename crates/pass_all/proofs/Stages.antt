@@ -3,7 +3,7 @@ use mathlib.Core.Path.{_≡_, refl, sym, ap, _∙_, subst}
 use mathlib.Core.Logic.{_≢_}
 use mathlib.Core.Bool.{Bool, true, false, not}
 use mathlib.Core.List.{List}
-use Prim.Native.Nat.{ℕ, suc, _+_, _*_, _≤_, _<_}
+use Prim.Native.Nat.{ℕ, suc, _+_, _<_}
 use native.Mathlib.Omega.{arith}
 use borrow.Author.Tests.{not-true, not-false}
 use lib.Dec.{ltb}
@@ -17,7 +17,7 @@ use Rattle.laws.specs.Answer.{Answer, refused, given, andThen}
 use Rattle.pass_rules.specs.Net.{Pass}
 use Rattle.pass_rules.specs.Forward.{forward}
 use Rattle.pass_rules.specs.Backward.{backward}
-use Rattle.pass_rules.specs.Walks.{Inside, doneIn}
+use Rattle.pass_rules.specs.Walks.{doneIn}
 use Rattle.pass_rules.specs.Passes.{someLeft, allZero, checkedAs, afterForward, afterBackward, passes}
 use Rattle.pass_state.specs.Held.{Ends, EndsAs}
 use Rattle.pass_all.specs.Answers.{TimedAs, sixteenIf}

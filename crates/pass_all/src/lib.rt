@@ -5,7 +5,7 @@ ghost use Prim.Native.Nat.{ℕ, _+_, _*_, _≤_};
 ghost use lib.ListN.{length};
 ghost use Rattle.laws.specs.Answer.{andThen};
 ghost use Rattle.space.specs.Space.{zeros};
-ghost use Rattle.net_node.specs.Table.{nodeAt, Room, Table};
+ghost use Rattle.net_node.specs.Table.{nodeAt, Room};
 ghost use Rattle.net_node.specs.Lent.{tableAtEntry, tableAtExit};
 ghost use Rattle.pass_rules.specs.Walks.{Inside, doneIn};
 ghost use Rattle.pass_rules.specs.Backward.{backward};

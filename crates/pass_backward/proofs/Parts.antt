@@ -2,7 +2,7 @@
 use mathlib.Core.Path.{_≡_, refl, sym, ap, _∙_, subst}
 use mathlib.Core.Bool.{Bool, true, false, not, _||_}
 use mathlib.Core.List.{List, [], _∷_}
-use Prim.Native.Nat.{ℕ, zero, suc, _+_, _*_, _≤_, _<_}
+use Prim.Native.Nat.{ℕ, zero, suc, _+_, _≤_, _<_}
 use native.Mathlib.Omega.{arith}
 use lib.Dec.{eqb}
 use lib.ListN.{set}
@@ -20,7 +20,8 @@ use Rattle.pass_state.specs.Held.{PassSlices, slices, tableIn, left, PassIn, En
 use Rattle.pass_state.specs.Promises.{stopsBy}
 use Rattle.pass_state.proofs.Left.{left-kept}
 use Rattle.pass_state.proofs.Links.{linked-split}
-use Rattle.pass_state.proofs.Kept.{tableOf, tabled, doneAt, queueing, node-in, in-done}
+use Rattle.pass_rules.proofs.Sets.{tableOf}
+use Rattle.pass_state.proofs.Kept.{tabled, doneAt, queueing, node-in, in-done}
 use Rattle.pass_state.proofs.Relinks.{Relinker}
 use Rattle.pass_state.proofs.Steps.{Stepper}
 use Rattle.pass_state.proofs.Strands.{Walker, stops-in}

@@ -16,7 +16,8 @@ use Rattle.pass_state.specs.declared.Passed.{Passed}
 use Rattle.pass_state.specs.declared.Passed.the-variants.{Queued, Fails}
 use Rattle.pass_state.specs.Held.{slices, PassIn, EnqueuedAs}
 use Rattle.pass_state.proofs.Left.{done-other}
-use Rattle.pass_state.proofs.Kept.{tableOf, flaggedAt, in-start, queued-in, in-flag-new}
+use Rattle.pass_rules.proofs.Sets.{tableOf}
+use Rattle.pass_state.proofs.Kept.{flaggedAt, in-start, queued-in, in-flag-new}
 
 abbrev pub lastOf : ℕ → Entry
 lastOf n = record { time = ofBits binary64 0; sub = ofBits binary64 0; node = n - 2 }

@@ -16,7 +16,8 @@ use Rattle.pass_state.specs.declared.Passed.{Passed}
 use Rattle.pass_state.specs.declared.Passed.the-variants.{Queued, Fails}
 use Rattle.pass_state.specs.Held.{slices, PassIn, EnqueuedAs}
 use Rattle.pass_state.proofs.Left.{done-same, done-other}
-use Rattle.pass_state.proofs.Kept.{tableOf, doneAt, in-start, queued-in, in-done-new}
+use Rattle.pass_rules.proofs.Sets.{tableOf}
+use Rattle.pass_state.proofs.Kept.{doneAt, in-start, queued-in, in-done-new}
 use Rattle.pass_forward.proofs.Entries.{zero-number}
 
 abbrev pub firstOf : Float → Entry

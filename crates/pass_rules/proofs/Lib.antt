@@ -1,4 +1,4 @@
-mod Sets
+pub mod Sets
 mod Held
 mod Walking
 mod Examples

@@ -1,15 +1,13 @@
 // The checks before the time passes, and the relinks of both. Contracts: specs/.
 use net_node::EstTime;
 ghost use mathlib.Core.Path.{_≡_};
-ghost use mathlib.Core.Bool.{not, _&&_, _||_};
-ghost use Prim.Native.Nat.{ℕ, _+_, _-_, _*_, _≤_, _<_};
-ghost use lib.Dec.{eqb};
+ghost use mathlib.Core.Bool.{not, _&&_};
+ghost use Prim.Native.Nat.{_+_, _-_, _≤_, _<_};
 ghost use lib.ListN.{length};
 ghost use Rattle.net_node.specs.Table.{nodeAt, Room};
 ghost use Rattle.net_node.specs.Lent.{tableAtEntry};
 ghost use Rattle.pass_rules.specs.Checks.{differ, prevHolds, nextHolds, fakeHolds, nodeHolds, row14};
 ghost use Rattle.pass_rules.specs.Plain.{plain, neighboursHold};
-ghost use Rattle.pass_rules.specs.Net.{Pass};
 ghost use Rattle.pass_rules.specs.Forward.{swapJoin};
 ghost use Rattle.pass_rules.specs.Backward.{swapSplit};
 ghost use Rattle.pass_rules.specs.Walks.{Inside, doneIn, passOf, ahead, endOf, passable, RelinkWalk};

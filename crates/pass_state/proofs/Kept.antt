@@ -15,6 +15,7 @@ use Rattle.pass_queue.specs.Queue.{best, others, Each, Holds}
 use Rattle.pass_queue.proofs.Kept.{each-kept, holds-none}
 use Rattle.laws.specs.Answer.{Answer, given}
 use Rattle.pass_rules.specs.Net.{Pass, alsoDone}
+use Rattle.pass_rules.proofs.Sets.{tableOf}
 use Rattle.pass_rules.specs.Walks.{Inside, doneIn}
 use Rattle.pass_rules.specs.Backward.{queued}
 use Rattle.pass_state.specs.declared.Passed.{Passed}
@@ -22,9 +23,6 @@ use Rattle.pass_state.specs.declared.Passed.the-variants.{Queued, Fails}
 use Rattle.pass_state.specs.Held.{PassSlices, slices, tableIn, left, PassIn, Working, PassBy, PassAs, EnqueuedAs}
 use Rattle.pass_state.proofs.Left.{left-most, left-kept, left-falls, flags-set}
 use Rattle.pass_state.proofs.Links.{Linked, linked-time}
-
-abbrev pub tableOf : List Float → List ℕ → Table
-tableOf fs us = record { floats = fs; numbers = us }
 
 -- a pass with another table, with one more node done, with a node done at a time, and with another queue
 abbrev pub tabled : Pass → Table → Pass

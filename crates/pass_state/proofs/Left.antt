@@ -1,25 +1,20 @@
 -- How many nodes are left, and the flags of the nodes that are done.
 use mathlib.Core.Path.{_≡_, refl, sym, ap, _∙_}
-use mathlib.Core.Logic.{_⊎_, inl, inr, _≢_, ⊎-elim}
+use mathlib.Core.Logic.{_≢_, ⊎-elim}
 use mathlib.Core.Bool.{Bool, true, false, not, _||_}
 use mathlib.Core.List.{List}
-use Prim.Native.Nat.{ℕ, zero, suc, _+_, _*_, _≤_, _<_}
+use Prim.Native.Nat.{ℕ, zero, suc, _+_, _≤_, _<_}
 use native.Mathlib.Nat.{not-suc-le-zero}
 use native.Mathlib.Omega.{arith}
-use borrow.Author.Tests.{eqb-true, eqb-false, eq-eqb, ne-eqb}
+use borrow.Author.Tests.{eq-eqb, ne-eqb}
 use lib.Dec.{eqb, ltb}
 use lib.ListN.{length, set}
 use lib.Seq.{getD-set-same, getD-set-other}
+use Rattle.net_node.proofs.Tables.{either}
+use Rattle.pass_queue.specs.Queue.{one}
 use Rattle.pass_rules.specs.Net.{alsoDone}
 use Rattle.pass_rules.specs.Walks.{doneIn}
-use Rattle.pass_state.specs.Held.{oneIf, left}
-
-either : (b : Bool) → (b ≡ true) ⊎ (b ≡ false)
-either true = inl refl
-either false = inr refl
-
-pub same-or-not : (a b : ℕ) → (a ≡ b) ⊎ (a ≢ b)
-same-or-not a b = ⊎-elim (λ (e : eqb a b ≡ true). inl (eqb-true a b e)) (λ (e : eqb a b ≡ false). inr (eqb-false a b e)) (either (eqb a b))
+use Rattle.pass_state.specs.Held.{left}
 
 -- ---- one more node done
 
@@ -32,11 +27,11 @@ module _ (done : ℕ → Bool) (i : ℕ) where
   unfolding alsoDone
   done-other k h = rw (ne-eqb k i h)
 
-one-at-most : (b : Bool) → oneIf (not b) ≤ 1
+one-at-most : (b : Bool) → one (not b) ≤ 1
 one-at-most true = omega arith
 one-at-most false = omega arith
 
-one-or : (a b : Bool) → oneIf (not (a || b)) ≤ oneIf (not b)
+one-or : (a b : Bool) → one (not (a || b)) ≤ one (not b)
 one-or true b = omega arith
 one-or false b = omega arith
 
@@ -52,26 +47,26 @@ module _ (done : ℕ → Bool) (i : ℕ) where
   left-beyond zero h = refl
   left-beyond (suc n) h =
       let ih : left (alsoDone done i) n ≡ left done n = left-beyond n (omega arith) in
-      let e : oneIf (not (alsoDone done i n)) ≡ oneIf (not (done n)) = ap (λ (b : Bool). oneIf (not b)) (done-other done i n (λ (o : n ≡ i). omega arith)) in
+      let e : one (not (alsoDone done i n)) ≡ one (not (done n)) = ap (λ (b : Bool). one (not b)) (done-other done i n (λ (o : n ≡ i). omega arith)) in
       omega arith
 
   -- one fewer is left where an undone node gets done
   pub left-falls : (n : ℕ) → i < n → done i ≡ false → left (alsoDone done i) n + 1 ≡ left done n
   unfolding left
   left-falls zero h e = absurd (not-suc-le-zero h)
-  left-falls (suc n) h e = ⊎-elim here (λ (o : n ≢ i). there o (left-falls n (below o) e)) (same-or-not n i)
+  left-falls (suc n) h e = ⊎-elim here (λ (o : n ≢ i). there o (left-falls n (below o) e)) (either n i)
     where
       below : n ≢ i → i < n
       below o = omega arith
 
-      here : n ≡ i → oneIf (not (alsoDone done i n)) + left (alsoDone done i) n + 1 ≡ oneIf (not (done n)) + left done n
+      here : n ≡ i → one (not (alsoDone done i n)) + left (alsoDone done i) n + 1 ≡ one (not (done n)) + left done n
       here o =
-          let a : oneIf (not (alsoDone done i n)) ≡ 0 = ap (λ (b : Bool). oneIf (not b)) (ap (alsoDone done i) o ∙ done-same done i) in
-          let b : oneIf (not (done n)) ≡ 1 = ap (λ (b : Bool). oneIf (not b)) (ap done o ∙ e) in
+          let a : one (not (alsoDone done i n)) ≡ 0 = ap (λ (b : Bool). one (not b)) (ap (alsoDone done i) o ∙ done-same done i) in
+          let b : one (not (done n)) ≡ 1 = ap (λ (b : Bool). one (not b)) (ap done o ∙ e) in
           omega (arith, left-beyond n (omega arith))
 
-      there : n ≢ i → left (alsoDone done i) n + 1 ≡ left done n → oneIf (not (alsoDone done i n)) + left (alsoDone done i) n + 1 ≡ oneIf (not (done n)) + left done n
-      there o ih = let a : oneIf (not (alsoDone done i n)) ≡ oneIf (not (done n)) = ap (λ (b : Bool). oneIf (not b)) (done-other done i n o) in omega arith
+      there : n ≢ i → left (alsoDone done i) n + 1 ≡ left done n → one (not (alsoDone done i n)) + left (alsoDone done i) n + 1 ≡ one (not (done n)) + left done n
+      there o ih = let a : one (not (alsoDone done i n)) ≡ one (not (done n)) = ap (λ (b : Bool). one (not b)) (done-other done i n o) in omega arith
 
   -- and never more
   pub left-kept : (n : ℕ) → left (alsoDone done i) n ≤ left done n
@@ -84,7 +79,7 @@ module _ (done : ℕ → Bool) (i : ℕ) where
 module _ (cells : List ℕ) (at i : ℕ) (h : at + i < length cells) where
   flag-set : (k : ℕ) → doneIn (set cells (at + i) 1) at k ≡ alsoDone (doneIn cells at) i k
   unfolding doneIn
-  flag-set k = ⊎-elim here there (same-or-not k i)
+  flag-set k = ⊎-elim here there (either k i)
     where
       here : k ≡ i → doneIn (set cells (at + i) 1) at k ≡ alsoDone (doneIn cells at) i k
       here o =

@@ -4,6 +4,7 @@ use mathlib.Core.Logic.{_≢_, ⊎-elim}
 use mathlib.Core.List.{List}
 use Prim.Native.Nat.{ℕ, _<_}
 use lib.Ieee.{Float}
+use Rattle.net_node.proofs.Tables.{either}
 use Rattle.net_node.proofs.Sets.{Changed, time-set, next-set, prev-set, arc-set}
 use Rattle.net_node.proofs.Tables.{RoomIn}
 use Rattle.net_node.specs.declared.EstTime.{EstTime}
@@ -11,7 +12,6 @@ use Rattle.net_node.specs.Table.{nodeAt, Table, at, setTime, setNext, setPrev, 
 use Rattle.pass_rules.specs.Walks.{Inside}
 use Rattle.pass_rules.specs.Forward.{swapJoin}
 use Rattle.pass_rules.specs.Backward.{swapSplit}
-use Rattle.pass_state.proofs.Left.{same-or-not}
 
 -- a table with room for n nodes whose indices name nodes
 pub record Linked (t : Table) (n : ℕ) : Type 0 where
@@ -45,7 +45,7 @@ linked-change t s n i x v c w = record {
         ⊎-elim
         (λ (o : k ≡ i). subst (λ (y : EstTime). Names y n) (sym (ap (at s) o ∙ c .here)) w)
         (λ (o : k ≢ i). subst (λ (y : EstTime). Names y n) (sym (c .other k o)) (names-at t n v k l))
-        (same-or-not k i)
+        (either k i)
 
 module _ (t : Table) (n : ℕ) (v : Linked t n) (i : ℕ) (h : i < n) where
   pub linked-time : (time : Float) → Linked (setTime t i time) n

@@ -17,7 +17,7 @@ use Rattle.pass_rules.specs.Net.{asserting, Pass}
 use Rattle.pass_rules.specs.Walks.{doneIn, passOf, WalkAs}
 use Rattle.pass_state.specs.Held.{PassSlices, slices, tableIn, left, PassIn, FindsBy}
 use Rattle.pass_state.proofs.Links.{Linked, Names, names-in}
-use Rattle.pass_state.proofs.Kept.{tableOf, tabled, node-in, done-in, linked-in, in-table}
+use Rattle.pass_state.proofs.Kept.{tabled, node-in, done-in, linked-in, in-table}
 
 -- over n nodes: which neighbour is followed, the walk from it, which looks at no queue, and what is linked anew where it ends elsewhere
 pub record Relinker (n : ℕ) : Type 1 where

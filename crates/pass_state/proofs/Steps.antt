@@ -2,7 +2,7 @@
 use mathlib.Core.Path.{_≡_, sym, ap, _∙_, subst}
 use mathlib.Core.Bool.{Bool, true, false, not}
 use mathlib.Core.List.{List}
-use Prim.Native.Nat.{ℕ, _+_, _*_, _-_, _<_}
+use Prim.Native.Nat.{ℕ, _+_, _-_, _<_}
 use native.Mathlib.Omega.{arith}
 use lib.ListN.{length, set}
 use lib.Ieee.{Float, isNan}
@@ -20,7 +20,7 @@ use Rattle.pass_state.specs.declared.Stands.the-variants.{On, Nowhere}
 use Rattle.pass_state.specs.Held.{PassSlices, slices, tableIn, left, PassIn, Gives, PassAs, StandsAs, EnqueuedAs}
 use Rattle.pass_state.proofs.Left.{left-kept, left-falls}
 use Rattle.pass_state.proofs.Links.{Names, names-in}
-use Rattle.pass_state.proofs.Kept.{tableOf, doneAt, node-in, done-in, in-done, in-done-new, enqueued-in, stays, pass-after}
+use Rattle.pass_state.proofs.Kept.{doneAt, node-in, done-in, in-done, in-done-new, enqueued-in, stays, pass-after}
 
 -- over n nodes: which neighbour is followed, what becomes of a node's alternative, and the time of the node that is looked at
 pub record Stepper (n : ℕ) : Type 1 where

@@ -7,9 +7,8 @@ use native.Mathlib.Nat.{not-suc-le-zero, le-trans}
 use native.Mathlib.Omega.{arith}
 use lib.Dec.{eqb}
 use lib.ListN.{length}
-use lib.Ieee.{Float}
 use Rattle.net_node.specs.declared.EstTime.{EstTime}
-use Rattle.net_node.specs.Table.{nodeAt, at, fakeKind, isFake}
+use Rattle.net_node.specs.Table.{nodeAt, at, fakeKind}
 use Rattle.laws.specs.Answer.{Answer, refused, given, andThen}
 use Rattle.pass_rules.specs.Net.{Pass}
 use Rattle.pass_rules.specs.Walks.{doneIn}

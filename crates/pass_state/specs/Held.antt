@@ -10,7 +10,7 @@ use lib.Ieee.{Float, isNan}
 use Rattle.laws.specs.Answer.{Answer, refused, given}
 use Rattle.net_node.specs.Table.{Table, nodeAt, Room}
 use Rattle.pass_queue.specs.declared.Entry.{Entry}
-use Rattle.pass_queue.specs.Queue.{Holds, Each}
+use Rattle.pass_queue.specs.Queue.{one, Holds, Each}
 use Rattle.pass_rules.specs.Net.{Pass}
 use Rattle.pass_rules.specs.Walks.{Inside, doneIn}
 use Rattle.pass_rules.specs.declared.Walked.{Walked}
@@ -35,13 +35,9 @@ abbrev pub tableIn : PassSlices → Table
 tableIn held = record { floats = held .floats; numbers = held .numbers }
 
 -- how many of the first n nodes are not done
-abbrev pub oneIf : Bool → ℕ
-oneIf true = 1
-oneIf false = 0
-
 unfoldable pub left : (ℕ → Bool) → ℕ → ℕ
 left done zero = 0
-left done (suc n) = oneIf (not (done n)) + left done n
+left done (suc n) = one (not (done n)) + left done n
 
 -- A pass over n nodes is what the slices hold. The queue has `count` entries, and entries and nodes left are at most `most` together:
 -- below n, so the queue has room. Of the cells only the flags have changed since `start`.

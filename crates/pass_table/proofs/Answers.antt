@@ -18,7 +18,7 @@ use Rattle.pass_table.specs.declared.TimedTable.{TimedTable}
 use Rattle.pass_table.specs.declared.TimedTable.the-variants.{Whole, Refused}
 use Rattle.pass_table.specs.TableEntry.{tableTimes, wholly, timesOf, timedAnswer, tableNumber, tableNodes, TimesUpdated}
 use Rattle.pass_table.specs.Parts.{firstNumber, keptNodes, answerAs}
-use Rattle.pass_table.proofs.FirstRows.{most-nodes}
+use Rattle.pass_table.proofs.FirstRows.{nonzero, most-nodes}
 
 -- ---- the small functions
 
@@ -32,9 +32,6 @@ answer-whole number n e = sym (ap (λ (k : ℕ). answerAs k n) e)
 pub answer-refused : (number n : ℕ) → number ≢ 0 → Refused number ≡ answerAs number n
 answer-refused zero n h = absurd (h refl)
 answer-refused (suc k) n h = refl
-
-nonzero : (k : ℕ) → suc k ≢ 0
-nonzero k e = omega arith
 
 -- ---- rows 3 to 5, then the passes
 

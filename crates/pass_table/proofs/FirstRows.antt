@@ -128,6 +128,9 @@ module _ (t : Table) (n : ℕ) (departure : Float) (units : ℕ) where
 
 -- ---- what they leave for the passes
 
+pub nonzero : (k : ℕ) → suc k ≡ 0 → ⊥
+nonzero k e = omega arith
+
 none-of-three : (t : Table) (n : ℕ) (departure : Float) (bytes : ℕ) → firstNumber t n departure bytes ≡ 0 → (tableRow3 n bytes ≡ false) × (tableRow5 t n ≡ false)
 unfolding firstNumber
 none-of-three t n departure bytes e = let h = none-holds (tableRows t n departure bytes) refl e in (h .0, h .1 .1 .0)

@@ -22,7 +22,13 @@ all-zero-requires : tie.Need-all-zero-requires
 all-zero-requires c κs = let k = c .before .before .before .before .before .before .before .before .before .before .before .before .before .before .before .before .update-times-backward .kept in room-kept _ _ _ _ _ (c .before .before .before .before .before .before .before .before .before .before .before .before .before .before .before .before .before .before .before .before .before .before .before .before .before .before .before .pre .0) (k .0) (k .1 .0)
 
 returns-3 : tie.Need-returns-3
-returns-3 c = told-times _ _ _ (ended _ _ _ _ _ _ (c .before .before .before .before .before .before .before .before .before .before .before .before .before .before .before .before .before .before .update-times-backward .result) (c .before .before .before .before .before .before .before .before .before .before .before .before .before .before .before .before .before .before .update-times-backward .ensures) (c .before .before .before .before .before .before .before .if1 .left)) _ (c .before .before .before .before .before .some-left .ensures) (c .before .before .before .before .if2 .left) _ (c .before .all-zero .ensures) _ (c .sixteen-if .ensures)
+returns-3 c =
+    let at-all-zero = c .before in
+    let at-if2 = at-all-zero .before .before .before in
+    let at-some-left = at-if2 .before in
+    let at-if1 = at-some-left .before .before in
+    let at-update-times-backward = at-if1 .before .before .before .before .before .before .before .before .before .before .before in
+    told-times _ _ _ (ended _ _ _ _ _ _ (at-update-times-backward .update-times-backward .result) (at-update-times-backward .update-times-backward .ensures) (at-if1 .if1 .left)) _ (at-some-left .some-left .ensures) (at-if2 .if2 .left) _ (at-all-zero .all-zero .ensures) _ (c .sixteen-if .ensures)
 
 pub pass-backward-spec : {M : Type 1} → statement M
 pass-backward-spec =

@@ -16,7 +16,9 @@ abbrev μ-loop : tie.MeasureT-loop
 μ-loop floats₀ numbers₀ n cells₀ done-at times₀ nodes₀ count queued₀ floats numbers cells times nodes queued = left (doneIn cells done-at) n
 
 loop-holds : tie.Need-loop-holds Inv-loop μ-loop
-loop-holds c = turning-start (turner (c .before .before .before .before .before .args .n)) (c .before .before .before .before .before .pre .1) (c .before .before .before .before .before .pre .0)
+loop-holds c =
+    let at-entry = c .before .before .before .before .before in
+    turning-start (turner (at-entry .args .n)) (at-entry .pre .1) (at-entry .pre .0)
 
 pop-requires : tie.Need-pop-requires Inv-loop μ-loop
 pop-requires c κs =
@@ -27,34 +29,78 @@ sub-turn : tie.Need-sub-turn Inv-loop μ-loop
 sub-turn c = c .before .before .before .before .before .before .before .before .before .before .before .before .loop-test .taken
 
 turn-requires : tie.Need-turn-requires Inv-loop μ-loop
-turn-requires c κs = (turning-works (turner (c .before .before .before .before .before .before .before .before .before .before .before .before .before .before .before .before .before .before .before .args .n)) (c .before .before .before .before .before .before .before .before .before .before .before .before .before .loop .inv) (c .before .before .before .before .before .before .before .before .before .before .before .before .loop-test .taken) _ (c .before .before .before .before .before .before .before .before .before .pop .ensures) (omega (arith, c .before .before .before .before .before .before .before .before .before .pop .kept)) (omega (arith, c .before .before .before .before .before .before .before .before .before .pop .kept)), turning-within (turner (c .before .before .before .before .before .before .before .before .before .before .before .before .before .before .before .before .before .before .before .args .n)) (c .before .before .before .before .before .before .before .before .before .before .before .before .before .loop .inv) (c .before .before .before .before .before .before .before .before .before .before .before .before .loop-test .taken) _ (c .before .before .before .before .before .before .before .before .before .pop .ensures) (omega (arith, c .before .before .before .before .before .before .before .before .before .pop .kept)) (omega (arith, c .before .before .before .before .before .before .before .before .before .pop .kept)))
+turn-requires c κs =
+    let at-pop = c .before .before .before .before .before .before .before .before .before in
+    let at-loop-test = at-pop .before .before .before in
+    let at-loop = at-loop-test .before in
+    let at-entry = at-loop .before .before .before .before .before .before in
+    (turning-works (turner (at-entry .args .n)) (at-loop .loop .inv) (at-loop-test .loop-test .taken) _ (at-pop .pop .ensures) (omega (arith, at-pop .pop .kept)) (omega (arith, at-pop .pop .kept)), turning-within (turner (at-entry .args .n)) (at-loop .loop .inv) (at-loop-test .loop-test .taken) _ (at-pop .pop .ensures) (omega (arith, at-pop .pop .kept)) (omega (arith, at-pop .pop .kept)))
 
 same-length : tie.Need-same-length Inv-loop μ-loop
-same-length c = omega (arith, c .before .before .before .before .before .before .before .before .before .before .before .before .before .before .before .before .before .before .before .before .before .before .before .before .before .before .loop .inv .lengths .floats, c .before .before .before .before .before .before .before .before .before .before .before .before .before .before .before .before .before .before .before .before .before .before .pop .kept, c .before .before .before .before .before .before .before .before .before .before .before .before .turn .kept)
+same-length c =
+    let at-turn = c .before .before .before .before .before .before .before .before .before .before .before .before in
+    let at-pop = at-turn .before .before .before .before .before .before .before .before .before .before in
+    let at-loop = at-pop .before .before .before .before in
+    omega (arith, at-loop .loop .inv .lengths .floats, at-pop .pop .kept, at-turn .turn .kept)
 
 same-length-2 : tie.Need-same-length-2 Inv-loop μ-loop
-same-length-2 c = omega (arith, c .before .before .before .before .before .before .before .before .before .before .before .before .before .before .before .before .before .before .before .before .before .before .before .before .before .before .loop .inv .lengths .numbers, c .before .before .before .before .before .before .before .before .before .before .before .before .before .before .before .before .before .before .before .before .before .before .pop .kept, c .before .before .before .before .before .before .before .before .before .before .before .before .turn .kept)
+same-length-2 c =
+    let at-turn = c .before .before .before .before .before .before .before .before .before .before .before .before in
+    let at-pop = at-turn .before .before .before .before .before .before .before .before .before .before in
+    let at-loop = at-pop .before .before .before .before in
+    omega (arith, at-loop .loop .inv .lengths .numbers, at-pop .pop .kept, at-turn .turn .kept)
 
 same-length-3 : tie.Need-same-length-3 Inv-loop μ-loop
-same-length-3 c = omega (arith, c .before .before .before .before .before .before .before .before .before .before .before .before .before .before .before .before .before .before .before .before .before .before .before .before .before .before .loop .inv .lengths .cells, c .before .before .before .before .before .before .before .before .before .before .before .before .before .before .before .before .before .before .before .before .before .before .pop .kept, c .before .before .before .before .before .before .before .before .before .before .before .before .turn .kept)
+same-length-3 c =
+    let at-turn = c .before .before .before .before .before .before .before .before .before .before .before .before in
+    let at-pop = at-turn .before .before .before .before .before .before .before .before .before .before in
+    let at-loop = at-pop .before .before .before .before in
+    omega (arith, at-loop .loop .inv .lengths .cells, at-pop .pop .kept, at-turn .turn .kept)
 
 same-length-4 : tie.Need-same-length-4 Inv-loop μ-loop
-same-length-4 c = omega (arith, c .before .before .before .before .before .before .before .before .before .before .before .before .before .before .before .before .before .before .before .before .before .before .before .before .before .before .loop .inv .lengths .times, c .before .before .before .before .before .before .before .before .before .before .before .before .before .before .before .before .before .before .before .before .before .before .pop .kept, c .before .before .before .before .before .before .before .before .before .before .before .before .turn .kept)
+same-length-4 c =
+    let at-turn = c .before .before .before .before .before .before .before .before .before .before .before .before in
+    let at-pop = at-turn .before .before .before .before .before .before .before .before .before .before in
+    let at-loop = at-pop .before .before .before .before in
+    omega (arith, at-loop .loop .inv .lengths .times, at-pop .pop .kept, at-turn .turn .kept)
 
 same-length-5 : tie.Need-same-length-5 Inv-loop μ-loop
-same-length-5 c = omega (arith, c .before .before .before .before .before .before .before .before .before .before .before .before .before .before .before .before .before .before .before .before .before .before .before .before .before .before .loop .inv .lengths .nodes, c .before .before .before .before .before .before .before .before .before .before .before .before .before .before .before .before .before .before .before .before .before .before .pop .kept, c .before .before .before .before .before .before .before .before .before .before .before .before .turn .kept)
+same-length-5 c =
+    let at-turn = c .before .before .before .before .before .before .before .before .before .before .before .before in
+    let at-pop = at-turn .before .before .before .before .before .before .before .before .before .before in
+    let at-loop = at-pop .before .before .before .before in
+    omega (arith, at-loop .loop .inv .lengths .nodes, at-pop .pop .kept, at-turn .turn .kept)
 
 returns : tie.Need-returns Inv-loop μ-loop
-returns c = turning-falls (turner (c .before .before .before .before .before .before .before .before .before .before .before .before .before .before .before .before .before .before .before .before .before .before .before .before .before .before .before .before .before .before .before .before .args .n)) (c .before .before .before .before .before .before .before .before .before .before .before .before .before .before .before .before .before .before .before .before .before .before .before .before .before .before .loop .inv) (c .before .before .before .before .before .before .before .before .before .before .before .before .before .before .before .before .before .before .before .before .before .before .before .before .before .loop-test .taken) _ (c .before .before .before .before .before .before .before .before .before .before .before .before .before .before .before .before .before .before .before .before .before .before .pop .ensures) (omega (arith, c .before .before .before .before .before .before .before .before .before .before .before .before .before .before .before .before .before .before .before .before .before .before .pop .kept)) (omega (arith, c .before .before .before .before .before .before .before .before .before .before .before .before .before .before .before .before .before .before .before .before .before .before .pop .kept)) _ (c .before .before .before .before .before .before .before .before .before .before .before .before .turn .ensures) (c .enum-told .given .1)
+returns c =
+    let at-turn = c .before .before .before .before .before .before .before .before .before .before .before .before in
+    let at-pop = at-turn .before .before .before .before .before .before .before .before .before .before in
+    let at-loop-test = at-pop .before .before .before in
+    let at-loop = at-loop-test .before in
+    let at-entry = at-loop .before .before .before .before .before .before in
+    turning-falls (turner (at-entry .args .n)) (at-loop .loop .inv) (at-loop-test .loop-test .taken) _ (at-pop .pop .ensures) (omega (arith, at-pop .pop .kept)) (omega (arith, at-pop .pop .kept)) _ (at-turn .turn .ensures) (c .enum-told .given .1)
 
 loop-less : tie.Need-loop-less Inv-loop μ-loop
-loop-less c = turning-less (turner (c .before .before .before .before .before .before .before .before .before .before .before .before .before .before .before .before .before .before .before .before .before .before .before .before .before .before .before .before .before .before .before .before .before .args .n)) (c .before .before .before .before .before .before .before .before .before .before .before .before .before .before .before .before .before .before .before .before .before .before .before .before .before .before .before .loop .inv) (c .before .before .before .before .before .before .before .before .before .before .before .before .before .before .before .before .before .before .before .before .before .before .before .before .before .before .loop-test .taken) _ (c .before .before .before .before .before .before .before .before .before .before .before .before .before .before .before .before .before .before .before .before .before .before .before .pop .ensures) (omega (arith, c .before .before .before .before .before .before .before .before .before .before .before .before .before .before .before .before .before .before .before .before .before .before .before .pop .kept)) (omega (arith, c .before .before .before .before .before .before .before .before .before .before .before .before .before .before .before .before .before .before .before .before .before .before .before .pop .kept)) _ (c .before .before .before .before .before .before .before .before .before .before .before .before .before .turn .ensures) _ (c .before .more .given .1)
+loop-less c =
+    let at-more = c .before in
+    let at-turn = at-more .before .before .before .before .before .before .before .before .before .before .before .before in
+    let at-pop = at-turn .before .before .before .before .before .before .before .before .before .before in
+    let at-loop-test = at-pop .before .before .before in
+    let at-loop = at-loop-test .before in
+    let at-entry = at-loop .before .before .before .before .before .before in
+    turning-less (turner (at-entry .args .n)) (at-loop .loop .inv) (at-loop-test .loop-test .taken) _ (at-pop .pop .ensures) (omega (arith, at-pop .pop .kept)) (omega (arith, at-pop .pop .kept)) _ (at-turn .turn .ensures) _ (at-more .more .given .1)
 
 loop-again : tie.Need-loop-again Inv-loop μ-loop
 loop-again c =
-    let j = c .before .before .before .before .before .before .before .before .before .before .before .before .before .before .before .before .before .before .before .before .before .before .before .pop .kept in
-    let k = c .before .before .before .before .before .before .before .before .before .before .before .before .before .turn .kept in
-    turning-goes (turner (c .before .before .before .before .before .before .before .before .before .before .before .before .before .before .before .before .before .before .before .before .before .before .before .before .before .before .before .before .before .before .before .before .before .args .n)) (c .before .before .before .before .before .before .before .before .before .before .before .before .before .before .before .before .before .before .before .before .before .before .before .before .before .before .before .loop .inv) (c .before .before .before .before .before .before .before .before .before .before .before .before .before .before .before .before .before .before .before .before .before .before .before .before .before .before .loop-test .taken) _ (c .before .before .before .before .before .before .before .before .before .before .before .before .before .before .before .before .before .before .before .before .before .before .before .pop .ensures) (omega (arith, c .before .before .before .before .before .before .before .before .before .before .before .before .before .before .before .before .before .before .before .before .before .before .before .pop .kept)) (omega (arith, c .before .before .before .before .before .before .before .before .before .before .before .before .before .before .before .before .before .before .before .before .before .before .before .pop .kept)) _ (c .before .before .before .before .before .before .before .before .before .before .before .before .before .turn .ensures) _ (c .before .more .given .1)
+    let at-more = c .before in
+    let at-turn = at-more .before .before .before .before .before .before .before .before .before .before .before .before in
+    let at-pop = at-turn .before .before .before .before .before .before .before .before .before .before in
+    let at-loop-test = at-pop .before .before .before in
+    let at-loop = at-loop-test .before in
+    let at-entry = at-loop .before .before .before .before .before .before in
+    let j = at-pop .pop .kept in
+    let k = at-turn .turn .kept in
+    turning-goes (turner (at-entry .args .n)) (at-loop .loop .inv) (at-loop-test .loop-test .taken) _ (at-pop .pop .ensures) (omega (arith, at-pop .pop .kept)) (omega (arith, at-pop .pop .kept)) _ (at-turn .turn .ensures) _ (at-more .more .given .1)
     (record { floats = omega (arith, j, k); numbers = omega (arith, j, k); cells = omega (arith, j, k); times = omega (arith, j, k); nodes = omega (arith, j, k) })
 
 same-length-6 : tie.Need-same-length-6 Inv-loop μ-loop

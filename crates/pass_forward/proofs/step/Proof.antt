@@ -15,24 +15,31 @@ returns-2 c = λ p start v. step-over (stepper (c .before .before .before .befor
 
 load-requires : tie.Need-load-requires
 load-requires c κs =
-    let v = c .before .before .before .before .before .before .before .before .before .before .before .before .before .before .before .before .before .before .before .before .before .before .before .before .before .before .before .before .before .pre .0 .holds in
-    let h = c .before .before .before .before .before .before .before .before .before .before .before .before .before .before .before .before .before .before .before .before .before .before .before .before .before .before .before .before .before .pre .1 .0 in
-    let k = c .before .before .before .before .before .before .before .before .before .before .before .before .before .before .before .before .before .before .alternate .kept in
+    let at-alternate = c .before .before .before .before .before .before .before .before .before .before .before .before .before .before .before .before .before .before in
+    let at-entry = at-alternate .before .before .before .before .before .before .before .before .before .before .before in
+    let v = at-entry .pre .0 .holds in
+    let h = at-entry .pre .1 .0 in
+    let k = at-alternate .alternate .kept in
     (omega (arith, h, k, v .room .floats), omega (arith, h, k, v .room .numbers))
 
 set-done-requires : tie.Need-set-done-requires
 set-done-requires c κs =
-    let v = c .before .before .before .before .before .before .before .before .before .before .before .before .before .before .before .before .before .before .before .before .before .before .before .before .before .before .before .before .before .before .before .before .before .before .pre .0 .holds in
-    let h = c .before .before .before .before .before .before .before .before .before .before .before .before .before .before .before .before .before .before .before .before .before .before .before .before .before .before .before .before .before .before .before .before .before .before .pre .1 .1 in
-    let k = c .before .before .before .before .before .before .before .before .before .before .before .before .before .before .before .before .before .before .before .before .before .before .before .alternate .kept in
+    let at-alternate = c .before .before .before .before .before .before .before .before .before .before .before .before .before .before .before .before .before .before .before .before .before .before .before in
+    let at-entry = at-alternate .before .before .before .before .before .before .before .before .before .before .before in
+    let v = at-entry .pre .0 .holds in
+    let h = at-entry .pre .1 .1 in
+    let k = at-alternate .alternate .kept in
     (omega (arith, h, k, v .room .floats), (omega (arith, h, k, v .room .numbers), omega (arith, h, k, v .flags)))
 
 load-requires-2 : tie.Need-load-requires-2
 load-requires-2 c κs =
-    let v = c .before .before .before .before .before .before .before .before .before .before .before .before .before .before .before .before .before .before .before .before .before .before .before .before .before .before .before .before .before .before .before .before .before .before .before .before .before .before .before .before .before .before .before .pre .0 .holds in
-    let h = c .before .before .before .before .before .before .before .before .before .before .before .before .before .before .before .before .before .before .before .before .before .before .before .before .before .before .before .before .before .before .before .before .before .before .before .before .before .before .before .before .before .before .before .pre .1 .1 in
-    let k = c .before .before .before .before .before .before .before .before .before .before .before .before .before .before .before .before .before .before .before .before .before .before .before .before .before .before .before .before .before .before .before .before .alternate .kept in
-    let m = c .before .before .before .before .before .before .before .before .set-done .kept in
+    let at-set-done = c .before .before .before .before .before .before .before .before in
+    let at-alternate = at-set-done .before .before .before .before .before .before .before .before .before .before .before .before .before .before .before .before .before .before .before .before .before .before .before .before in
+    let at-entry = at-alternate .before .before .before .before .before .before .before .before .before .before .before in
+    let v = at-entry .pre .0 .holds in
+    let h = at-entry .pre .1 .1 in
+    let k = at-alternate .alternate .kept in
+    let m = at-set-done .set-done .kept in
     (omega (arith, h, k, m, v .room .floats), omega (arith, h, k, m, v .room .numbers))
 
 same-length-11 : tie.Need-same-length-11
@@ -51,7 +58,15 @@ same-length-15 : tie.Need-same-length-15
 same-length-15 c = omega (arith, c .before .before .before .before .before .before .before .before .before .before .before .before .before .before .before .before .before .before .before .before .before .before .before .before .before .before .before .before .before .before .before .before .before .alternate .kept, c .before .before .before .before .before .before .before .before .before .set-done .kept)
 
 returns-3 : tie.Need-returns-3
-returns-3 c = λ p start v. step-on (stepper (c .before .before .before .before .before .before .before .before .before .before .before .before .before .before .before .before .before .before .before .before .before .before .before .before .before .before .before .before .before .before .before .before .before .before .before .before .before .before .before .before .before .before .before .before .args .n)) p _ _ _ (c .before .before .before .before .before .before .before .before .before .before .before .before .before .before .before .before .before .before .before .before .before .before .before .before .before .before .before .before .before .before .before .before .before .alternate .ensures p start v) _ (c .before .before .before .before .before .before .before .before .before .before .before .before .before .before .before .before .before .before .before .before .before .queued .given .1) _ (c .before .before .before .before .before .before .before .before .before .before .before .before .before .before .before .before .before .before .is-done .ensures) (c .before .before .before .before .before .before .before .before .before .before .before .before .before .before .before .before .before .if1 .left) (c .before .before .before .before .before .before .before .before .before .before .before .before .before .before .before .before .before .before .before .before .before .before .before .before .before .before .before .before .before .before .before .before .before .before .before .before .before .before .before .before .before .before .before .before .pre .1 .1) _ (time-reached _ _ _ _ (c .before .before .before .before .before .before .before .before .before .before .before .before .before .before .load .ensures)) (c .before .before .before .before .before .before .before .before .before .set-done .ensures) _ (c .load2 .ensures)
+returns-3 c =
+    let at-set-done = c .before .before .before .before .before .before .before .before .before in
+    let at-load = at-set-done .before .before .before .before .before in
+    let at-if1 = at-load .before .before .before in
+    let at-is-done = at-if1 .before in
+    let at-queued = at-is-done .before .before .before in
+    let at-alternate = at-queued .before .before .before .before .before .before .before .before .before .before .before .before in
+    let at-entry = at-alternate .before .before .before .before .before .before .before .before .before .before .before in
+    λ p start v. step-on (stepper (at-entry .args .n)) p _ _ _ (at-alternate .alternate .ensures p start v) _ (at-queued .queued .given .1) _ (at-is-done .is-done .ensures) (at-if1 .if1 .left) (at-entry .pre .1 .1) _ (time-reached _ _ _ _ (at-load .load .ensures)) (at-set-done .set-done .ensures) _ (c .load2 .ensures)
 
 pub step-spec : {M : Type 1} → statement M
 step-spec = tie.close (tie.spec (λ c κs. search needs) (λ c. search needs) (λ c. search needs) (λ c. search needs) (λ c. search needs) (λ c. search needs) (λ c. search needs) (λ c. search needs) returns (λ c κs. search needs) (λ c. search needs) (λ c. search needs) (λ c. search needs) (λ c. search needs) (λ c. search needs) returns-2 load-requires set-done-requires load-requires-2 same-length-11 same-length-12 same-length-13 same-length-14 same-length-15 returns-3)

@@ -15,7 +15,12 @@ sink-requires c κs =
     (omega (arith, d), (omega (arith, r .0, r .1 .0), (omega (arith, r .0, r .1 .1), c .before .before .entry-at2 .ensures)))
 
 returns-2 : tie.Need-returns-2
-returns-2 c = popped _ _ _ _ _ (c .before .before .before .before .before .before .before .before .before .before .before .before .before .before .before .before .before .before .entry-at .ensures) (c .before .before .before .before .before .before .before .before .before .before .before .before .before .before .before .before .before .before .before .before .before .before .before .pre .0) _ _ _ _ _ _ (c .before .before .before .before .before .before .before .before .before .before .before .sink .ensures .1) (c .before .before .before .before .put-entry .ensures .0) (c .before .before .before .before .put-entry .ensures .1)
+returns-2 c =
+    let at-put-entry = c .before .before .before .before in
+    let at-sink = at-put-entry .before .before .before .before .before .before .before in
+    let at-entry-at = at-sink .before .before .before .before .before .before .before in
+    let at-entry = at-entry-at .before .before .before .before .before in
+    popped _ _ _ _ _ (at-entry-at .entry-at .ensures) (at-entry .pre .0) _ _ _ _ _ _ (at-sink .sink .ensures .1) (at-put-entry .put-entry .ensures .0) (at-put-entry .put-entry .ensures .1)
 
 pub pop-spec : {M : Type 1} → statement M
 pop-spec =

@@ -42,9 +42,16 @@ put-entry-requires c κs =
 
 loop-again : tie.Need-loop-again Inv-loop μ-loop
 loop-again c =
-    let r = c .before .before .before .before .before .before .before .before .before .before .before .before .before .before .before .before .pre in
-    rising-on _ _ _ _ _ (c .before .before .before .before .before .before .before .before .before .before .before .before .before .loop .inv) (r .0) (r .1 .0) (omega (arith, c .before .before .before .before .before .before .before .before .before .before .before .before .loop-test .taken)) _ refl _ (c .before .before .before .before .before .before .before .before .before .entry-at .ensures) (sym (c .before .before .before .before .before .before .before .before .is-before .ensures) ∙ not-false _ (c .before .before .before .before .before .before .before .if1 .left)) _ _
-    (c .before .before .before .before .put-entry .ensures .0) (c .before .before .before .before .put-entry .ensures .1)
+    let at-put-entry = c .before .before .before .before in
+    let at-if1 = at-put-entry .before .before .before in
+    let at-is-before = at-if1 .before in
+    let at-entry-at = at-is-before .before in
+    let at-loop-test = at-entry-at .before .before .before in
+    let at-loop = at-loop-test .before in
+    let at-entry = at-loop .before .before .before in
+    let r = at-entry .pre in
+    rising-on _ _ _ _ _ (at-loop .loop .inv) (r .0) (r .1 .0) (omega (arith, at-loop-test .loop-test .taken)) _ refl _ (at-entry-at .entry-at .ensures) (sym (at-is-before .is-before .ensures) ∙ not-false _ (at-if1 .if1 .left)) _ _
+    (at-put-entry .put-entry .ensures .0) (at-put-entry .put-entry .ensures .1)
 
 same-length-3 : tie.Need-same-length-3 Inv-loop μ-loop
 same-length-3 c = c .before .loop .inv .times

@@ -8,13 +8,17 @@ use Rattle.pass_rules.proofs.node_holds.Tie as tie
 
 load-requires-2 : tie.Need-load-requires-2
 load-requires-2 c κs =
-    let h = prev-inside _ _ (c .before .before .before .before .pre .1 .0) _ (c .before .before .before .before .pre .1 .1) _ (c .before .load .ensures) in
-    (omega (arith, h, c .before .before .before .before .pre .0 .floats), omega (arith, h, c .before .before .before .before .pre .0 .numbers))
+    let at-load = c .before in
+    let at-entry = at-load .before .before .before in
+    let h = prev-inside _ _ (at-entry .pre .1 .0) _ (at-entry .pre .1 .1) _ (at-load .load .ensures) in
+    (omega (arith, h, at-entry .pre .0 .floats), omega (arith, h, at-entry .pre .0 .numbers))
 
 load-requires-3 : tie.Need-load-requires-3
 load-requires-3 c κs =
-    let h = next-inside _ _ (c .before .before .before .before .before .before .pre .1 .0) _ (c .before .before .before .before .before .before .pre .1 .1) _ (c .before .before .before .load .ensures) in
-    (omega (arith, h, c .before .before .before .before .before .before .pre .0 .floats), omega (arith, h, c .before .before .before .before .before .before .pre .0 .numbers))
+    let at-load = c .before .before .before in
+    let at-entry = at-load .before .before .before in
+    let h = next-inside _ _ (at-entry .pre .1 .0) _ (at-entry .pre .1 .1) _ (at-load .load .ensures) in
+    (omega (arith, h, at-entry .pre .0 .floats), omega (arith, h, at-entry .pre .0 .numbers))
 
 returns : tie.Need-returns
 returns c = plain-holds _ _ _ _ _ _ (c .before .before .before .before .before .before .load .ensures) (c .before .before .before .before .load2 .ensures) (c .before .before .load3 .ensures) _ (c .before .is-plain .ensures) (c .if1 .taken)

@@ -7,18 +7,30 @@ use Rattle.pass_rules.proofs.swap_join.Tie as tie
 
 set-next-requires-2 : tie.Need-set-next-requires-2
 set-next-requires-2 c κs =
-    let h = prev-inside _ _ (c .before .before .before .before .before .before .before .before .before .before .before .before .before .before .pre .1 .0) _ (c .before .before .before .before .before .before .before .before .before .before .before .before .before .before .pre .1 .1 .1 .1) _ (c .before .before .before .before .before .before .before .before .before .load .ensures) in
-    (omega (arith, h, c .before .before .before .before .before .before .before .before .before .before .before .before .before .before .pre .0 .floats, c .before .before .before .before .before .before .set-next .kept), omega (arith, h, c .before .before .before .before .before .before .before .before .before .before .before .before .before .before .pre .0 .numbers, c .before .before .before .before .before .before .set-next .kept))
+    let at-set-next = c .before .before .before .before .before .before in
+    let at-load = at-set-next .before .before .before in
+    let at-entry = at-load .before .before .before .before .before in
+    let h = prev-inside _ _ (at-entry .pre .1 .0) _ (at-entry .pre .1 .1 .1 .1) _ (at-load .load .ensures) in
+    (omega (arith, h, at-entry .pre .0 .floats, at-set-next .set-next .kept), omega (arith, h, at-entry .pre .0 .numbers, at-set-next .set-next .kept))
 
 set-prev-requires-2 : tie.Need-set-prev-requires-2
 set-prev-requires-2 c κs =
-    (omega (arith, c .before .before .before .before .before .before .before .before .before .before .before .before .before .before .before .before .before .before .before .before .before .before .before .before .before .before .before .before .pre .1 .1 .1 .1, c .before .before .before .before .before .before .before .before .before .before .before .before .before .before .before .before .before .before .before .before .before .before .before .before .before .before .before .before .pre .0 .floats, c .before .before .before .before .before .before .before .before .before .before .before .before .before .before .before .before .before .before .before .before .set-next .kept, c .before .before .before .before .before .before .before .before .before .before .before .before .before .set-next2 .kept, c .before .before .before .before .before .before .set-prev .kept), omega (arith, c .before .before .before .before .before .before .before .before .before .before .before .before .before .before .before .before .before .before .before .before .before .before .before .before .before .before .before .before .pre .1 .1 .1 .1, c .before .before .before .before .before .before .before .before .before .before .before .before .before .before .before .before .before .before .before .before .before .before .before .before .before .before .before .before .pre .0 .numbers, c .before .before .before .before .before .before .before .before .before .before .before .before .before .before .before .before .before .before .before .before .set-next .kept, c .before .before .before .before .before .before .before .before .before .before .before .before .before .set-next2 .kept, c .before .before .before .before .before .before .set-prev .kept))
+    let at-set-prev = c .before .before .before .before .before .before in
+    let at-set-next2 = at-set-prev .before .before .before .before .before .before .before in
+    let at-set-next = at-set-next2 .before .before .before .before .before .before .before in
+    let at-entry = at-set-next .before .before .before .before .before .before .before .before in
+    (omega (arith, at-entry .pre .1 .1 .1 .1, at-entry .pre .0 .floats, at-set-next .set-next .kept, at-set-next2 .set-next2 .kept, at-set-prev .set-prev .kept), omega (arith, at-entry .pre .1 .1 .1 .1, at-entry .pre .0 .numbers, at-set-next .set-next .kept, at-set-next2 .set-next2 .kept, at-set-prev .set-prev .kept))
 
 returns : tie.Need-returns
 returns c =
-    join-stored _ _ _ _ _ _ _ _ _ _ _ _ _ _ (c .before .before .before .before .before .before .before .before .before .before .before .before .before .before .before .before .before .before .before .before .before .before .before .before .before .before .before .before .load .ensures)
-    (c .before .before .before .before .before .before .before .before .before .before .before .before .before .before .before .before .before .before .before .before .before .before .before .before .before .set-next .ensures) (c .before .before .before .before .before .before .before .before .before .before .before .before .before .before .before .before .before .before .set-next2 .ensures)
-    (c .before .before .before .before .before .before .before .before .before .before .before .set-prev .ensures) (c .before .before .before .before .set-prev2 .ensures)
+    let at-set-prev2 = c .before .before .before .before in
+    let at-set-prev = at-set-prev2 .before .before .before .before .before .before .before in
+    let at-set-next2 = at-set-prev .before .before .before .before .before .before .before in
+    let at-set-next = at-set-next2 .before .before .before .before .before .before .before in
+    let at-load = at-set-next .before .before .before in
+    join-stored _ _ _ _ _ _ _ _ _ _ _ _ _ _ (at-load .load .ensures)
+    (at-set-next .set-next .ensures) (at-set-next2 .set-next2 .ensures)
+    (at-set-prev .set-prev .ensures) (at-set-prev2 .set-prev2 .ensures)
 
 pub swap-join-spec : {M : Type 1} → statement M
 swap-join-spec =

@@ -7,42 +7,93 @@ use Rattle.pass_rules.proofs.swap_split.Tie as tie
 
 set-prev-requires-2 : tie.Need-set-prev-requires-2
 set-prev-requires-2 c κs =
-    let h = next-inside _ _ (c .before .before .before .before .before .before .before .before .before .before .before .before .before .before .pre .1 .0) _ (c .before .before .before .before .before .before .before .before .before .before .before .before .before .before .pre .1 .1 .1 .1) _ (c .before .before .before .before .before .before .before .before .before .load .ensures) in
-    (omega (arith, h, c .before .before .before .before .before .before .before .before .before .before .before .before .before .before .pre .0 .floats, c .before .before .before .before .before .before .set-prev .kept), omega (arith, h, c .before .before .before .before .before .before .before .before .before .before .before .before .before .before .pre .0 .numbers, c .before .before .before .before .before .before .set-prev .kept))
+    let at-set-prev = c .before .before .before .before .before .before in
+    let at-load = at-set-prev .before .before .before in
+    let at-entry = at-load .before .before .before .before .before in
+    let h = next-inside _ _ (at-entry .pre .1 .0) _ (at-entry .pre .1 .1 .1 .1) _ (at-load .load .ensures) in
+    (omega (arith, h, at-entry .pre .0 .floats, at-set-prev .set-prev .kept), omega (arith, h, at-entry .pre .0 .numbers, at-set-prev .set-prev .kept))
 
 set-next-requires-2 : tie.Need-set-next-requires-2
 set-next-requires-2 c κs =
-    (omega (arith, c .before .before .before .before .before .before .before .before .before .before .before .before .before .before .before .before .before .before .before .before .before .before .before .before .before .before .before .before .pre .1 .1 .1 .1, c .before .before .before .before .before .before .before .before .before .before .before .before .before .before .before .before .before .before .before .before .before .before .before .before .before .before .before .before .pre .0 .floats, c .before .before .before .before .before .before .before .before .before .before .before .before .before .before .before .before .before .before .before .before .set-prev .kept, c .before .before .before .before .before .before .before .before .before .before .before .before .before .set-prev2 .kept, c .before .before .before .before .before .before .set-next .kept), omega (arith, c .before .before .before .before .before .before .before .before .before .before .before .before .before .before .before .before .before .before .before .before .before .before .before .before .before .before .before .before .pre .1 .1 .1 .1, c .before .before .before .before .before .before .before .before .before .before .before .before .before .before .before .before .before .before .before .before .before .before .before .before .before .before .before .before .pre .0 .numbers, c .before .before .before .before .before .before .before .before .before .before .before .before .before .before .before .before .before .before .before .before .set-prev .kept, c .before .before .before .before .before .before .before .before .before .before .before .before .before .set-prev2 .kept, c .before .before .before .before .before .before .set-next .kept))
+    let at-set-next = c .before .before .before .before .before .before in
+    let at-set-prev2 = at-set-next .before .before .before .before .before .before .before in
+    let at-set-prev = at-set-prev2 .before .before .before .before .before .before .before in
+    let at-entry = at-set-prev .before .before .before .before .before .before .before .before in
+    (omega (arith, at-entry .pre .1 .1 .1 .1, at-entry .pre .0 .floats, at-set-prev .set-prev .kept, at-set-prev2 .set-prev2 .kept, at-set-next .set-next .kept), omega (arith, at-entry .pre .1 .1 .1 .1, at-entry .pre .0 .numbers, at-set-prev .set-prev .kept, at-set-prev2 .set-prev2 .kept, at-set-next .set-next .kept))
 
 load-requires-2 : tie.Need-load-requires-2
 load-requires-2 c κs =
-    (omega (arith, c .before .before .before .before .before .before .before .before .before .before .before .before .before .before .before .before .before .before .before .before .before .before .before .before .before .before .before .before .before .before .before .before .before .before .before .pre .1 .1 .1 .0, c .before .before .before .before .before .before .before .before .before .before .before .before .before .before .before .before .before .before .before .before .before .before .before .before .before .before .before .before .before .before .before .before .before .before .before .pre .0 .floats, c .before .before .before .before .before .before .before .before .before .before .before .before .before .before .before .before .before .before .before .before .before .before .before .before .before .before .before .set-prev .kept, c .before .before .before .before .before .before .before .before .before .before .before .before .before .before .before .before .before .before .before .before .set-prev2 .kept, c .before .before .before .before .before .before .before .before .before .before .before .before .before .set-next .kept, c .before .before .before .before .before .before .set-next2 .kept), omega (arith, c .before .before .before .before .before .before .before .before .before .before .before .before .before .before .before .before .before .before .before .before .before .before .before .before .before .before .before .before .before .before .before .before .before .before .before .pre .1 .1 .1 .0, c .before .before .before .before .before .before .before .before .before .before .before .before .before .before .before .before .before .before .before .before .before .before .before .before .before .before .before .before .before .before .before .before .before .before .before .pre .0 .numbers, c .before .before .before .before .before .before .before .before .before .before .before .before .before .before .before .before .before .before .before .before .before .before .before .before .before .before .before .set-prev .kept, c .before .before .before .before .before .before .before .before .before .before .before .before .before .before .before .before .before .before .before .before .set-prev2 .kept, c .before .before .before .before .before .before .before .before .before .before .before .before .before .set-next .kept, c .before .before .before .before .before .before .set-next2 .kept))
+    let at-set-next2 = c .before .before .before .before .before .before in
+    let at-set-next = at-set-next2 .before .before .before .before .before .before .before in
+    let at-set-prev2 = at-set-next .before .before .before .before .before .before .before in
+    let at-set-prev = at-set-prev2 .before .before .before .before .before .before .before in
+    let at-entry = at-set-prev .before .before .before .before .before .before .before .before in
+    (omega (arith, at-entry .pre .1 .1 .1 .0, at-entry .pre .0 .floats, at-set-prev .set-prev .kept, at-set-prev2 .set-prev2 .kept, at-set-next .set-next .kept, at-set-next2 .set-next2 .kept), omega (arith, at-entry .pre .1 .1 .1 .0, at-entry .pre .0 .numbers, at-set-prev .set-prev .kept, at-set-prev2 .set-prev2 .kept, at-set-next .set-next .kept, at-set-next2 .set-next2 .kept))
 
 load-requires-3 : tie.Need-load-requires-3
 load-requires-3 c κs =
-    (omega (arith, c .before .before .before .before .before .before .before .before .before .before .before .before .before .before .before .before .before .before .before .before .before .before .before .before .before .before .before .before .before .before .before .before .before .before .before .before .before .before .pre .1 .1 .1 .1, c .before .before .before .before .before .before .before .before .before .before .before .before .before .before .before .before .before .before .before .before .before .before .before .before .before .before .before .before .before .before .before .before .before .before .before .before .before .before .pre .0 .floats, c .before .before .before .before .before .before .before .before .before .before .before .before .before .before .before .before .before .before .before .before .before .before .before .before .before .before .before .before .before .before .set-prev .kept, c .before .before .before .before .before .before .before .before .before .before .before .before .before .before .before .before .before .before .before .before .before .before .before .set-prev2 .kept, c .before .before .before .before .before .before .before .before .before .before .before .before .before .before .before .before .set-next .kept, c .before .before .before .before .before .before .before .before .before .set-next2 .kept), omega (arith, c .before .before .before .before .before .before .before .before .before .before .before .before .before .before .before .before .before .before .before .before .before .before .before .before .before .before .before .before .before .before .before .before .before .before .before .before .before .before .pre .1 .1 .1 .1, c .before .before .before .before .before .before .before .before .before .before .before .before .before .before .before .before .before .before .before .before .before .before .before .before .before .before .before .before .before .before .before .before .before .before .before .before .before .before .pre .0 .numbers, c .before .before .before .before .before .before .before .before .before .before .before .before .before .before .before .before .before .before .before .before .before .before .before .before .before .before .before .before .before .before .set-prev .kept, c .before .before .before .before .before .before .before .before .before .before .before .before .before .before .before .before .before .before .before .before .before .before .before .set-prev2 .kept, c .before .before .before .before .before .before .before .before .before .before .before .before .before .before .before .before .set-next .kept, c .before .before .before .before .before .before .before .before .before .set-next2 .kept))
+    let at-set-next2 = c .before .before .before .before .before .before .before .before .before in
+    let at-set-next = at-set-next2 .before .before .before .before .before .before .before in
+    let at-set-prev2 = at-set-next .before .before .before .before .before .before .before in
+    let at-set-prev = at-set-prev2 .before .before .before .before .before .before .before in
+    let at-entry = at-set-prev .before .before .before .before .before .before .before .before in
+    (omega (arith, at-entry .pre .1 .1 .1 .1, at-entry .pre .0 .floats, at-set-prev .set-prev .kept, at-set-prev2 .set-prev2 .kept, at-set-next .set-next .kept, at-set-next2 .set-next2 .kept), omega (arith, at-entry .pre .1 .1 .1 .1, at-entry .pre .0 .numbers, at-set-prev .set-prev .kept, at-set-prev2 .set-prev2 .kept, at-set-next .set-next .kept, at-set-next2 .set-next2 .kept))
 
 set-arc-requires : tie.Need-set-arc-requires
 set-arc-requires c κs =
-    (omega (arith, c .before .before .before .before .before .before .before .before .before .before .before .before .before .before .before .before .before .before .before .before .before .before .before .before .before .before .before .before .before .before .before .before .before .before .before .before .before .before .before .before .before .pre .1 .1 .1 .0, c .before .before .before .before .before .before .before .before .before .before .before .before .before .before .before .before .before .before .before .before .before .before .before .before .before .before .before .before .before .before .before .before .before .before .before .before .before .before .before .before .before .pre .0 .floats, c .before .before .before .before .before .before .before .before .before .before .before .before .before .before .before .before .before .before .before .before .before .before .before .before .before .before .before .before .before .before .before .before .before .set-prev .kept, c .before .before .before .before .before .before .before .before .before .before .before .before .before .before .before .before .before .before .before .before .before .before .before .before .before .before .set-prev2 .kept, c .before .before .before .before .before .before .before .before .before .before .before .before .before .before .before .before .before .before .before .set-next .kept, c .before .before .before .before .before .before .before .before .before .before .before .before .set-next2 .kept), omega (arith, c .before .before .before .before .before .before .before .before .before .before .before .before .before .before .before .before .before .before .before .before .before .before .before .before .before .before .before .before .before .before .before .before .before .before .before .before .before .before .before .before .before .pre .1 .1 .1 .0, c .before .before .before .before .before .before .before .before .before .before .before .before .before .before .before .before .before .before .before .before .before .before .before .before .before .before .before .before .before .before .before .before .before .before .before .before .before .before .before .before .before .pre .0 .numbers, c .before .before .before .before .before .before .before .before .before .before .before .before .before .before .before .before .before .before .before .before .before .before .before .before .before .before .before .before .before .before .before .before .before .set-prev .kept, c .before .before .before .before .before .before .before .before .before .before .before .before .before .before .before .before .before .before .before .before .before .before .before .before .before .before .set-prev2 .kept, c .before .before .before .before .before .before .before .before .before .before .before .before .before .before .before .before .before .before .before .set-next .kept, c .before .before .before .before .before .before .before .before .before .before .before .before .set-next2 .kept))
+    let at-set-next2 = c .before .before .before .before .before .before .before .before .before .before .before .before in
+    let at-set-next = at-set-next2 .before .before .before .before .before .before .before in
+    let at-set-prev2 = at-set-next .before .before .before .before .before .before .before in
+    let at-set-prev = at-set-prev2 .before .before .before .before .before .before .before in
+    let at-entry = at-set-prev .before .before .before .before .before .before .before .before in
+    (omega (arith, at-entry .pre .1 .1 .1 .0, at-entry .pre .0 .floats, at-set-prev .set-prev .kept, at-set-prev2 .set-prev2 .kept, at-set-next .set-next .kept, at-set-next2 .set-next2 .kept), omega (arith, at-entry .pre .1 .1 .1 .0, at-entry .pre .0 .numbers, at-set-prev .set-prev .kept, at-set-prev2 .set-prev2 .kept, at-set-next .set-next .kept, at-set-next2 .set-next2 .kept))
 
 set-arc-requires-2 : tie.Need-set-arc-requires-2
 set-arc-requires-2 c κs =
-    (omega (arith, c .before .before .before .before .before .before .before .before .before .before .before .before .before .before .before .before .before .before .before .before .before .before .before .before .before .before .before .before .before .before .before .before .before .before .before .before .before .before .before .before .before .before .before .before .before .before .before .before .pre .1 .1 .1 .1, c .before .before .before .before .before .before .before .before .before .before .before .before .before .before .before .before .before .before .before .before .before .before .before .before .before .before .before .before .before .before .before .before .before .before .before .before .before .before .before .before .before .before .before .before .before .before .before .before .pre .0 .floats, c .before .before .before .before .before .before .before .before .before .before .before .before .before .before .before .before .before .before .before .before .before .before .before .before .before .before .before .before .before .before .before .before .before .before .before .before .before .before .before .before .set-prev .kept, c .before .before .before .before .before .before .before .before .before .before .before .before .before .before .before .before .before .before .before .before .before .before .before .before .before .before .before .before .before .before .before .before .before .set-prev2 .kept, c .before .before .before .before .before .before .before .before .before .before .before .before .before .before .before .before .before .before .before .before .before .before .before .before .before .before .set-next .kept, c .before .before .before .before .before .before .before .before .before .before .before .before .before .before .before .before .before .before .before .set-next2 .kept, c .before .before .before .before .before .before .set-arc .kept), omega (arith, c .before .before .before .before .before .before .before .before .before .before .before .before .before .before .before .before .before .before .before .before .before .before .before .before .before .before .before .before .before .before .before .before .before .before .before .before .before .before .before .before .before .before .before .before .before .before .before .before .pre .1 .1 .1 .1, c .before .before .before .before .before .before .before .before .before .before .before .before .before .before .before .before .before .before .before .before .before .before .before .before .before .before .before .before .before .before .before .before .before .before .before .before .before .before .before .before .before .before .before .before .before .before .before .before .pre .0 .numbers, c .before .before .before .before .before .before .before .before .before .before .before .before .before .before .before .before .before .before .before .before .before .before .before .before .before .before .before .before .before .before .before .before .before .before .before .before .before .before .before .before .set-prev .kept, c .before .before .before .before .before .before .before .before .before .before .before .before .before .before .before .before .before .before .before .before .before .before .before .before .before .before .before .before .before .before .before .before .before .set-prev2 .kept, c .before .before .before .before .before .before .before .before .before .before .before .before .before .before .before .before .before .before .before .before .before .before .before .before .before .before .set-next .kept, c .before .before .before .before .before .before .before .before .before .before .before .before .before .before .before .before .before .before .before .set-next2 .kept, c .before .before .before .before .before .before .set-arc .kept))
+    let at-set-arc = c .before .before .before .before .before .before in
+    let at-set-next2 = at-set-arc .before .before .before .before .before .before .before .before .before .before .before .before .before in
+    let at-set-next = at-set-next2 .before .before .before .before .before .before .before in
+    let at-set-prev2 = at-set-next .before .before .before .before .before .before .before in
+    let at-set-prev = at-set-prev2 .before .before .before .before .before .before .before in
+    let at-entry = at-set-prev .before .before .before .before .before .before .before .before in
+    (omega (arith, at-entry .pre .1 .1 .1 .1, at-entry .pre .0 .floats, at-set-prev .set-prev .kept, at-set-prev2 .set-prev2 .kept, at-set-next .set-next .kept, at-set-next2 .set-next2 .kept, at-set-arc .set-arc .kept), omega (arith, at-entry .pre .1 .1 .1 .1, at-entry .pre .0 .numbers, at-set-prev .set-prev .kept, at-set-prev2 .set-prev2 .kept, at-set-next .set-next .kept, at-set-next2 .set-next2 .kept, at-set-arc .set-arc .kept))
 
 same-length : tie.Need-same-length
-same-length c = omega (arith, c .before .before .before .before .before .before .before .before .before .before .before .before .before .before .before .before .before .before .before .before .before .before .before .before .before .before .before .before .before .before .before .before .before .before .before .before .before .before .before .before .before .before .before .before .before .set-prev .kept, c .before .before .before .before .before .before .before .before .before .before .before .before .before .before .before .before .before .before .before .before .before .before .before .before .before .before .before .before .before .before .before .before .before .before .before .before .before .before .set-prev2 .kept, c .before .before .before .before .before .before .before .before .before .before .before .before .before .before .before .before .before .before .before .before .before .before .before .before .before .before .before .before .before .before .before .set-next .kept, c .before .before .before .before .before .before .before .before .before .before .before .before .before .before .before .before .before .before .before .before .before .before .before .before .set-next2 .kept, c .before .before .before .before .before .before .before .before .before .before .before .set-arc .kept, c .before .before .before .before .set-arc2 .kept)
+same-length c =
+    let at-set-arc2 = c .before .before .before .before in
+    let at-set-arc = at-set-arc2 .before .before .before .before .before .before .before in
+    let at-set-next2 = at-set-arc .before .before .before .before .before .before .before .before .before .before .before .before .before in
+    let at-set-next = at-set-next2 .before .before .before .before .before .before .before in
+    let at-set-prev2 = at-set-next .before .before .before .before .before .before .before in
+    let at-set-prev = at-set-prev2 .before .before .before .before .before .before .before in
+    omega (arith, at-set-prev .set-prev .kept, at-set-prev2 .set-prev2 .kept, at-set-next .set-next .kept, at-set-next2 .set-next2 .kept, at-set-arc .set-arc .kept, at-set-arc2 .set-arc2 .kept)
 
 same-length-2 : tie.Need-same-length-2
-same-length-2 c = omega (arith, c .before .before .before .before .before .before .before .before .before .before .before .before .before .before .before .before .before .before .before .before .before .before .before .before .before .before .before .before .before .before .before .before .before .before .before .before .before .before .before .before .before .before .before .before .before .set-prev .kept, c .before .before .before .before .before .before .before .before .before .before .before .before .before .before .before .before .before .before .before .before .before .before .before .before .before .before .before .before .before .before .before .before .before .before .before .before .before .before .set-prev2 .kept, c .before .before .before .before .before .before .before .before .before .before .before .before .before .before .before .before .before .before .before .before .before .before .before .before .before .before .before .before .before .before .before .set-next .kept, c .before .before .before .before .before .before .before .before .before .before .before .before .before .before .before .before .before .before .before .before .before .before .before .before .set-next2 .kept, c .before .before .before .before .before .before .before .before .before .before .before .set-arc .kept, c .before .before .before .before .set-arc2 .kept)
+same-length-2 c =
+    let at-set-arc2 = c .before .before .before .before in
+    let at-set-arc = at-set-arc2 .before .before .before .before .before .before .before in
+    let at-set-next2 = at-set-arc .before .before .before .before .before .before .before .before .before .before .before .before .before in
+    let at-set-next = at-set-next2 .before .before .before .before .before .before .before in
+    let at-set-prev2 = at-set-next .before .before .before .before .before .before .before in
+    let at-set-prev = at-set-prev2 .before .before .before .before .before .before .before in
+    omega (arith, at-set-prev .set-prev .kept, at-set-prev2 .set-prev2 .kept, at-set-next .set-next .kept, at-set-next2 .set-next2 .kept, at-set-arc .set-arc .kept, at-set-arc2 .set-arc2 .kept)
 
 returns : tie.Need-returns
 returns c =
-    split-stored _ _ _ _ _ _ _ _ _ _ _ _ _ _ _ _ _ _ _ _ (c .before .before .before .before .before .before .before .before .before .before .before .before .before .before .before .before .before .before .before .before .before .before .before .before .before .before .before .before .before .before .before .before .before .before .before .before .before .before .before .before .before .before .before .before .before .before .before .before .load .ensures)
-    (c .before .before .before .before .before .before .before .before .before .before .before .before .before .before .before .before .before .before .before .before .before .before .before .before .before .before .before .before .before .before .before .before .before .before .before .before .before .before .before .before .before .before .before .before .before .set-prev .ensures) (c .before .before .before .before .before .before .before .before .before .before .before .before .before .before .before .before .before .before .before .before .before .before .before .before .before .before .before .before .before .before .before .before .before .before .before .before .before .before .set-prev2 .ensures)
-    (c .before .before .before .before .before .before .before .before .before .before .before .before .before .before .before .before .before .before .before .before .before .before .before .before .before .before .before .before .before .before .before .set-next .ensures) (c .before .before .before .before .before .before .before .before .before .before .before .before .before .before .before .before .before .before .before .before .before .before .before .before .set-next2 .ensures)
-    (c .before .before .before .before .before .before .before .before .before .before .before .before .before .before .before .before .before .load2 .ensures) (c .before .before .before .before .before .before .before .before .before .before .before .before .before .before .load3 .ensures)
-    (c .before .before .before .before .before .before .before .before .before .before .before .set-arc .ensures) (c .before .before .before .before .set-arc2 .ensures)
+    let at-set-arc2 = c .before .before .before .before in
+    let at-set-arc = at-set-arc2 .before .before .before .before .before .before .before in
+    let at-load3 = at-set-arc .before .before .before in
+    let at-load2 = at-load3 .before .before .before in
+    let at-set-next2 = at-load2 .before .before .before .before .before .before .before in
+    let at-set-next = at-set-next2 .before .before .before .before .before .before .before in
+    let at-set-prev2 = at-set-next .before .before .before .before .before .before .before in
+    let at-set-prev = at-set-prev2 .before .before .before .before .before .before .before in
+    let at-load = at-set-prev .before .before .before in
+    split-stored _ _ _ _ _ _ _ _ _ _ _ _ _ _ _ _ _ _ _ _ (at-load .load .ensures)
+    (at-set-prev .set-prev .ensures) (at-set-prev2 .set-prev2 .ensures)
+    (at-set-next .set-next .ensures) (at-set-next2 .set-next2 .ensures)
+    (at-load2 .load2 .ensures) (at-load3 .load3 .ensures)
+    (at-set-arc .set-arc .ensures) (at-set-arc2 .set-arc2 .ensures)
 
 pub swap-split-spec : {M : Type 1} → statement M
 swap-split-spec =

@@ -32,11 +32,22 @@ slice-aggregate-flags c =
 
 run-passes-requires : tie.Need-run-passes-requires
 run-passes-requires c κs =
-    let r = ready _ _ _ _ _ _ _ _ _ (c .before .before .before .before .before .before .before .before .before .before .before .before .before .before .before .before .before .before .before .pre) (c .before .before .before .before .before .before .before .before .before .before .before .before .before .units .ensures) (c .before .before .before .before .before .before .before .before .before .before .first-number .ensures) (c .before .before .before .before .before .before .before .before .before .if1 .left) in
-    (r .room, (r .inside, (r .three, (r .reals, (flags-fit _ _ _ (r .cells) (c .before .before .before .before .before .before .clear-numbers .kept .0), (r .marks, zeros-again _ _ (c .before .before .before .before .before .before .clear-numbers .ensures)))))))
+    let at-clear-numbers = c .before .before .before .before .before .before in
+    let at-if1 = at-clear-numbers .before .before .before in
+    let at-first-number = at-if1 .before in
+    let at-units = at-first-number .before .before .before in
+    let at-entry = at-units .before .before .before .before .before .before in
+    let r = ready _ _ _ _ _ _ _ _ _ (at-entry .pre) (at-units .units .ensures) (at-first-number .first-number .ensures) (at-if1 .if1 .left) in
+    (r .room, (r .inside, (r .three, (r .reals, (flags-fit _ _ _ (r .cells) (at-clear-numbers .clear-numbers .kept .0), (r .marks, zeros-again _ _ (at-clear-numbers .clear-numbers .ensures)))))))
 
 returns-2 : tie.Need-returns-2
-returns-2 c = told-passes _ _ _ _ _ _ _ _ (c .before .before .before .before .before .before .before .before .before .before .before .before .before .before .before .before .before .before .before .before .before .before .before .before .before .before .before .before .before .before .pre) (c .before .before .before .before .before .before .before .before .before .before .before .before .before .before .before .before .before .before .before .before .before .before .before .before .units .ensures) (c .before .before .before .before .before .before .before .before .before .before .before .before .before .before .before .before .before .before .before .before .before .first-number .ensures) _ _ (c .before .before .before .before .before .before .before .before .before .before .before .before .before .before .before .before .before .before .before .before .if1 .left) (c .before .before .before .before .before .before .before .before .before .before .run-passes .ensures)
+returns-2 c =
+    let at-run-passes = c .before .before .before .before .before .before .before .before .before .before in
+    let at-if1 = at-run-passes .before .before .before .before .before .before .before .before .before .before in
+    let at-first-number = at-if1 .before in
+    let at-units = at-first-number .before .before .before in
+    let at-entry = at-units .before .before .before .before .before .before in
+    told-passes _ _ _ _ _ _ _ _ (at-entry .pre) (at-units .units .ensures) (at-first-number .first-number .ensures) _ _ (at-if1 .if1 .left) (at-run-passes .run-passes .ensures)
 
 pub time-nodes-spec : {M : Type 1} → statement M
 time-nodes-spec =

@@ -22,13 +22,20 @@ cells-length c = omega (arith, c .before .before .before .before .before .before
 returns : tie.Need-returns
 unfolding nodesIn
 returns c =
-    let k = c .before .before .before .before .before .before .before .before .before .before .before .before .before .before .before .before .before .before .before .before .before .before .before .before .before .before .before .before .before .before .before .time-nodes .kept in
-    let both = c .before .before .before .before .before .before .before .before .before .before .before .before .before .before .before .before .before .clear-behind .ensures in
-    updated _ _ _ _ _ (c .before .before .before .before .before .before .before .before .before .before .before .before .before .before .before .before .before .before .before .before .before .before .before .before .before .before .before .before .before .before .before .before .before .before .before .before .before .nodes-filled .ensures) _ (c .before .before .before .before .before .before .before .before .before .before .before .before .before .before .before .before .before .before .before .before .before .before .before .before .before .before .before .before .before .before .before .time-nodes .ensures) (k .0) (k .1 .0) (c .before .before .before .before .before .before .before .before .before .before .before .before .before .before .before .before .before .before .before .before .nodes-kept .ensures) _ (both .0) (both .1)
+    let at-clear-numbers2 = c .before .before .before in
+    let at-clear-numbers = at-clear-numbers2 .before .before .before .before in
+    let at-clear-floats = at-clear-numbers .before .before .before .before in
+    let at-clear-behind = at-clear-floats .before .before .before .before .before .before in
+    let at-nodes-kept = at-clear-behind .before .before .before in
+    let at-time-nodes = at-nodes-kept .before .before .before .before .before .before .before .before .before .before .before in
+    let at-nodes-filled = at-time-nodes .before .before .before .before .before .before in
+    let k = at-time-nodes .time-nodes .kept in
+    let both = at-clear-behind .clear-behind .ensures in
+    updated _ _ _ _ _ (at-nodes-filled .nodes-filled .ensures) _ (at-time-nodes .time-nodes .ensures) (k .0) (k .1 .0) (at-nodes-kept .nodes-kept .ensures) _ (both .0) (both .1)
     (record {
-      reals = c .before .before .before .before .before .before .before .before .before .before .before .clear-floats .ensures ∙ ap zeroFloats (k .1 .1 .1 .1 .0);
-      cells = c .before .before .before .before .before .before .before .clear-numbers .ensures ∙ ap zeros (k .1 .1 .1 .1 .1 .0);
-      marks = c .before .before .before .clear-numbers2 .ensures ∙ ap zeros (k .1 .1 .1 .1 .1 .1 .0);
+      reals = at-clear-floats .clear-floats .ensures ∙ ap zeroFloats (k .1 .1 .1 .1 .0);
+      cells = at-clear-numbers .clear-numbers .ensures ∙ ap zeros (k .1 .1 .1 .1 .1 .0);
+      marks = at-clear-numbers2 .clear-numbers2 .ensures ∙ ap zeros (k .1 .1 .1 .1 .1 .1 .0);
     })
     _ (c .answer-of .ensures)
 
