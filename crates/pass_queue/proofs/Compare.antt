@@ -6,20 +6,12 @@ use Prim.Native.Nat.{ℕ, _+_, _*_, _≤_, _<_}
 use native.Mathlib.Omega.{arith}
 use mathlib.Core.Logic.{_⊎_, inl, inr, _≢_}
 use borrow.Author.Tests.{ltb-false, lt-ltb, le-ltb, eqb-true, eqb-false}
-use lib.Dec.{T, ltb, eqb}
-use lib.Ieee.{Float, nan, binary64, ne, toBits}
-use lib.Ieee.Compare.{differs-from-itself}
+use lib.Dec.{ltb, eqb}
+use lib.Ieee.{Float, binary64, toBits}
 use Rattle.pass_queue.specs.declared.Entry.{Entry}
 use Rattle.pass_queue.specs.Queue.{thenBy, byBits, before, slot}
 use Rattle.pass_queue.specs.Slots.{BestChild}
 use Rattle.pass_queue.proofs.Order.{not-self, before-laws}
-
-nan-pattern : 0x7ff8_0000_0000_0000 ≡ toBits binary64 nan
-unfolding toBits
-nan-pattern = refl
-
-pub nan-bits : (x : Float) → ne x x ≡ true → 0x7ff8_0000_0000_0000 ≡ toBits binary64 x
-nan-bits x h = nan-pattern ∙ ap (toBits binary64) (sym (differs-from-itself x (subst T (sym h) tt)))
 
 -- ---- by bits
 

@@ -2,12 +2,8 @@
 ghost use mathlib.Core.Path.{_≡_};
 ghost use Prim.Native.Nat.{_+_, _*_, _-_, _≤_, _<_};
 ghost use lib.ListN.{length};
-ghost use lib.Ieee.{binary64, toBits};
 ghost use Rattle.pass_queue.specs.Queue.{byBits, beforeForward, beforeBackward, before, Ordered, slot, Added, Dropped, TakenOut};
 ghost use Rattle.pass_queue.specs.Slots.{putTimes, putNodes, BestChild};
-
-// The bits that stand for a NaN.
-const NAN: u64 = 0x7ff8_0000_0000_0000;
 
 // An entry: a time, what is subtracted behind it (backward only), and a node.
 pub struct Entry {
@@ -16,30 +12,20 @@ pub struct Entry {
     pub node: u32,
 }
 
-// The bits of x.
-fn bits_of(x: f64) -> u64
-    ensures { λ r. ⌜ r ≡ toBits binary64 x ⌝ }
-{
-    if x != x {
-        return NAN;
-    }
-    f64::to_bits(x)
-}
-
 // Entries that differ in nothing but the sign of a zero: by their bits.
 fn bits_before(a: Entry, b: Entry) -> bool
     ensures { λ r. ⌜ r ≡ byBits a b ⌝ }
 {
-    let time_a = bits_of(a.time);
-    let time_b = bits_of(b.time);
+    let time_a = floats::bits_of(a.time);
+    let time_b = floats::bits_of(b.time);
     if time_a < time_b {
         return true;
     }
     if time_b < time_a {
         return false;
     }
-    let sub_a = bits_of(a.sub);
-    let sub_b = bits_of(b.sub);
+    let sub_a = floats::bits_of(a.sub);
+    let sub_b = floats::bits_of(b.sub);
     sub_a < sub_b
 }
 
