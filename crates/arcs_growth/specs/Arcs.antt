@@ -35,6 +35,7 @@ module _ (node : ℕ → EstTime) (n : ℕ) where
   sourceAs true i before = i
   sourceAs false i before = before
 
+  -- where the arc of node i begins
   unfoldable pub sourceOf : ℕ → ℕ → ℕ
   unfolding alternativeOf
   sourceOf zero i = i
@@ -48,6 +49,7 @@ module _ (node : ℕ → EstTime) (n : ℕ) where
   goalAs false false i later = i
   goalAs false true i later = later
 
+  -- where an arc that leads to node i ends
   unfoldable pub goalOf : ℕ → ℕ → ℕ
   goalOf zero i = 0
   goalOf (suc k) i =
@@ -77,6 +79,7 @@ module _ (node : ℕ → EstTime) (n : ℕ) where
 
 -- ---- arcs that are the same: both ends, and every bit of time and distance
 
+-- both ends, and the bits of time and distance
 unfoldable pub sameArc : Arc → Arc → Bool
 sameArc a b =
     eqb (a .from) (b .from)
@@ -84,6 +87,7 @@ sameArc a b =
     && eqb (toBits binary64 (a .time)) (toBits binary64 (b .time))
     && eqb (toBits binary64 (a .distance)) (toBits binary64 (b .distance))
 
+-- 1 for true
 abbrev pub one : Bool → ℕ
 one true = 1
 one false = 0

@@ -5,6 +5,7 @@ use Prim.Native.Nat.{ℕ, _<_}
 use Rattle.net_node.specs.Table.{at}
 use Rattle.grow_rules.specs.Growth.{Grown}
 
+-- the same nodes, counts and noted arcs
 pub record SameGrowth (g other : Grown) : Type 0 where
   pub nodes : other .nodes ≡ g .nodes
   pub added : other .added ≡ g .added

@@ -15,6 +15,7 @@ use Rattle.grow_rules.specs.Run.{Arc, memberOf}
 use Rattle.grow_rules.specs.Growth.{departure}
 use Rattle.arcs_growth.specs.Runs.{Follows}
 
+-- "(place, end) with zeros"
 pub record LeadsOut (arc : Arc) : Type 0 where
   pub to : arc .to ≡ 0
   pub time : arc .time ≡ ofBits binary64 0
@@ -29,9 +30,11 @@ pub record Starts (b : List ℕ) (node : ℕ → EstTime) (arc : Arc) : Type 0 w
   pub time : arc .time ≡ sub binary64 (departure b) (departure b)
   pub distance : arc .distance ≡ sub binary64 (ofBits binary64 0) (ofBits binary64 0)
 
+-- one of the three
 abbrev pub OfRun : List ℕ → (ℕ → EstTime) → Arc → Type 0
 OfRun b node arc = LeadsOut arc ⊎ (Starts b node arc ⊎ Follows b node arc)
 
+-- each arc of a list is
 abbrev pub AllOfRuns : List ℕ → (ℕ → EstTime) → List Arc → Type 0
 AllOfRuns b node [] = Unit
 AllOfRuns b node (arc ∷ arcs) = OfRun b node arc × AllOfRuns b node arcs

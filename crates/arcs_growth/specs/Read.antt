@@ -10,6 +10,7 @@ abbrev pub SomeKept : List ℕ → Type 0
 SomeKept [] = ⊥
 SomeKept (idx ∷ idxs) = Unit
 
+-- what growth asks of a book
 pub record Read (b : List ℕ) : Type 0 where
   -- row 8: "no origin kept"
   pub kept : SomeKept (keptOrigins b)

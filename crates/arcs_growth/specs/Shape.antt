@@ -14,6 +14,7 @@ use Rattle.arcs_growth.specs.Arcs.{isAlternative, isBase, goalOf}
 unfoldable pub isReceiver : (ℕ → EstTime) → ℕ → ℕ → Bool
 isReceiver node n i = ltb 1 i && ltb i (n - 1) && not (isAlternative node n i)
 
+-- the shape of n nodes
 pub record Shape (node : ℕ → EstTime) (n : ℕ) : Type 0 where
   -- node 0, the start and the end are Fakes, and none of them is an alternative
   pub some : 3 ≤ n

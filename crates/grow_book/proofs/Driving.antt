@@ -20,9 +20,10 @@ use Rattle.grow_state.specs.declared.Plan.{Plan}
 use Rattle.grow_state.specs.declared.State.{State}
 use Rattle.grow_state.specs.declared.GrowthAnswer.{GrowthAnswer}
 use Rattle.grow_state.specs.declared.GrowthAnswer.the-variants.{On, Refused}
-use Rattle.grow_state.specs.Held.{PlanIn, SameRuns, RunsIn, DriveIn, Driving, GivesAs, TurnedAs, lists}
+use Rattle.grow_state.specs.Held.{PlanIn, SameRuns, RunsIn, DriveIn, Driving, GivesAs, TurnedAs, lists, SameDrive}
 use Rattle.grow_state.proofs.Keeping.{idle-waits}
-use Rattle.grow_book.specs.Answers.{nextTurn, DriveAs}
+use Rattle.grow_leg.specs.OneLeg.{TakesLeg}
+use Rattle.grow_book.specs.Answers.{nextTurn, DriveAs, TakesNext, Drives}
 
 -- ---- the definition, a turn at a time
 
@@ -71,21 +72,21 @@ some-top false top e h = let d = eqb-false top 0 h in positive top d
     positive (suc n) d = omega arith
 
 module _ (b : List ℕ) (p : Plan) (fs : List Float) (us : List ℕ) (reals : List Float) (cells joins : List ℕ) (g : State) (moves : g .front .moves ≡ true) (fs′ : List Float) (us′ : List ℕ) (reals′ : List Float) (cells′ joins′ : List ℕ) (t : GrowthAnswer)
-    (told : (path : List ℕ) (net : Net) (run : Run) (saved : List Run) → DriveIn b p (lists fs us reals cells joins) path g net (run ∷ saved) → TurnedAs (takeLeg b (p .w .places) net run saved) b p (lists fs′ us′ reals′ cells′ joins′) t) where
+    (told : TakesLeg b p g (lists fs us reals cells joins) (lists fs′ us′ reals′ cells′ joins′) t) where
   -- where one moves, there is one
-  pub turn-as : (path : List ℕ) (net : Net) (runs : List Run) → DriveIn b p (lists fs us reals cells joins) path g net runs → TurnedAs (nextTurn b (p .w .places) net runs) b p (lists fs′ us′ reals′ cells′ joins′) t
+  pub turn-as : TakesNext b p g (lists fs us reals cells joins) (lists fs′ us′ reals′ cells′ joins′) t
   turn-as path net [] d = absurd (subst (λ (x : Bool). RunsIn x b (p .r) reals cells joins g []) moves (d .waiting))
   turn-as path net (run ∷ saved) d = told path net run saved d
 
 -- the run that was saved last is taken up first
 module _ (b : List ℕ) (p : Plan) (fs : List Float) (us : List ℕ) (reals : List Float) (cells joins joins′ : List ℕ) (g h : State)
-    (held : (b : List ℕ) (fs : List Float) (us path : List ℕ) (net : Net) (runs : List Run) → DriveIn b p (lists fs us reals cells joins) path g net runs → DriveIn b p (lists fs us reals cells joins′) path h net runs) where
+    (held : SameDrive p reals cells joins joins′ g h) where
   pub up-driving : Driving b p (lists fs us reals cells joins) g → Driving b p (lists fs us reals cells joins′) h
   up-driving s = record { path = s .path; net = s .net; runs = s .runs; holds = held b fs us (s .path) (s .net) (s .runs) (s .holds) }
 
   pub up-turn-as : (fs′ : List Float) (us′ : List ℕ) (reals′ : List Float) (cells′ joins″ : List ℕ) (t : GrowthAnswer) → h .front .moves ≡ true
-      → ((path : List ℕ) (net : Net) (run : Run) (saved : List Run) → DriveIn b p (lists fs us reals cells joins′) path h net (run ∷ saved) → TurnedAs (takeLeg b (p .w .places) net run saved) b p (lists fs′ us′ reals′ cells′ joins″) t)
-      → (path : List ℕ) (net : Net) (runs : List Run) → DriveIn b p (lists fs us reals cells joins) path g net runs → TurnedAs (nextTurn b (p .w .places) net runs) b p (lists fs′ us′ reals′ cells′ joins″) t
+      → (TakesLeg b p h (lists fs us reals cells joins′) (lists fs′ us′ reals′ cells′ joins″) t)
+      → TakesNext b p g (lists fs us reals cells joins) (lists fs′ us′ reals′ cells′ joins″) t
   up-turn-as fs′ us′ reals′ cells′ joins″ t moves told path net runs d = turn-as b p fs us reals cells joins′ h moves fs′ us′ reals′ cells′ joins″ t told path net runs (held b fs us path net runs d)
 
 -- ---- the loop
@@ -137,27 +138,26 @@ module _ (b : List ℕ) (p : Plan) (fs₀ : List Float) (us₀ : List ℕ) (real
   turning-some s = let x = v .goes (s .path) (s .net) (s .runs) (s .holds) in record { path = x .path; net = x .net; runs = x .runs; holds = x .holds }
 
   -- no run is left
-  pub turning-done : (not (g .front .moves) && eqb (g .top) 0) ≡ true → (path : List ℕ) (net : Net) (runs : List Run) → DriveIn b p (lists fs₀ us₀ reals₀ cells₀ joins₀) path g₀ net runs
-      → DriveAs (drive (legs b) b (p .w .places) net runs) p fs us cells (On g)
+  pub turning-done : (not (g .front .moves) && eqb (g .top) 0) ≡ true → Drives b p g₀ (lists fs₀ us₀ reals₀ cells₀ joins₀) (lists fs us reals cells joins) (On g)
   turning-done e path net runs d =
       let x = v .goes path net runs d in
       record { net = x .net; is = x .same ∙ ap (drive (legs b - k) b (p .w .places) (x .net)) (none-left (x .holds) e) ∙ drive-none (legs b - k) b (p .w .places) (x .net); holds = x .holds .grown }
 
   -- each leg had its turn
-  pub turning-over : legs b ≤ k → (path : List ℕ) (net : Net) (runs : List Run) → DriveIn b p (lists fs₀ us₀ reals₀ cells₀ joins₀) path g₀ net runs → DriveAs (drive (legs b) b (p .w .places) net runs) p fs us cells (On g)
+  pub turning-over : legs b ≤ k → Drives b p g₀ (lists fs₀ us₀ reals₀ cells₀ joins₀) (lists fs us reals cells joins) (On g)
   turning-over h path net runs d =
       let x = v .goes path net runs d in
       let e : legs b - k ≡ 0 = omega arith in
       record { net = x .net; is = x .same ∙ ap (λ (n : ℕ). drive n b (p .w .places) (x .net) (x .runs)) e ∙ drive-over b (p .w .places) (x .net) (x .runs); holds = x .holds .grown }
 
   module _ (h : k < legs b) (fs′ : List Float) (us′ : List ℕ) (reals′ : List Float) (cells′ joins′ : List ℕ) (t : GrowthAnswer)
-      (told : (path : List ℕ) (net : Net) (runs : List Run) → DriveIn b p (lists fs us reals cells joins) path g net runs → TurnedAs (nextTurn b (p .w .places) net runs) b p (lists fs′ us′ reals′ cells′ joins′) t) where
+      (told : TakesNext b p g (lists fs us reals cells joins) (lists fs′ us′ reals′ cells′ joins′) t) where
     unfolds : {answer : Answer Net} → (x : Goes b p fs us reals cells joins g (legs b - k) answer) → answer ≡ andThen (nextTurn b (p .w .places) (x .net) (x .runs)) (λ (y : Growth). drive (legs b - (k + 1)) b (p .w .places) (y .net) (y .saved))
     unfolds x =
         let e : legs b - k ≡ suc (legs b - (k + 1)) = omega arith in
         x .same ∙ ap (λ (n : ℕ). drive n b (p .w .places) (x .net) (x .runs)) e ∙ drive-turn (legs b - (k + 1)) b (p .w .places) (x .net) (x .runs)
 
-    pub turning-stop : (n : ℕ) → t ≡ Refused n → (path : List ℕ) (net : Net) (runs : List Run) → DriveIn b p (lists fs₀ us₀ reals₀ cells₀ joins₀) path g₀ net runs → DriveAs (drive (legs b) b (p .w .places) net runs) p fs′ us′ cells′ t
+    pub turning-stop : (n : ℕ) → t ≡ Refused n → Drives b p g₀ (lists fs₀ us₀ reals₀ cells₀ joins₀) (lists fs′ us′ reals′ cells′ joins′) t
     turning-stop n e path net runs d =
         let x = v .goes path net runs d in
         let q : nextTurn b (p .w .places) (x .net) (x .runs) ≡ refused n = subst (TurnedAs (nextTurn b (p .w .places) (x .net) (x .runs)) b p (lists fs′ us′ reals′ cells′ joins′)) e (told (x .path) (x .net) (x .runs) (x .holds)) in

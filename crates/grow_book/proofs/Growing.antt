@@ -31,7 +31,7 @@ use Rattle.grow_state.specs.declared.State.{State}
 use Rattle.grow_state.specs.declared.GrowthAnswer.{GrowthAnswer}
 use Rattle.grow_state.specs.declared.GrowthAnswer.the-variants.{On, Refused}
 use Rattle.grow_state.specs.Held.{PlanIn, DriveIn, Driving, lists}
-use Rattle.grow_origins.specs.Origins.{startState, OriginsIn, SomeOrigins, OnlyStart, OriginsGiven, OriginsAs}
+use Rattle.grow_origins.specs.Origins.{startState, OriginsIn, SomeOrigins, OnlyStart, OriginsGiven, OriginsAs, GrowsOrigins}
 use Rattle.net_insertion.specs.Insertion.{tableOf}
 use Rattle.grow_book.specs.declared.GrownBook.{GrownBook}
 use Rattle.grow_book.specs.Answers.{DrivenAs, DriveAs, closing, grownFrom, Closing, SomeClosing, GrownAs}
@@ -62,8 +62,8 @@ module _ (b : List ℕ) (p : Plan) (fs : List Float) (us : List ℕ) (reals : Li
   all-some s = subst (SomeOrigins b p (lists fs us reals cells joins) (keptOrigins b)) (sym first) s
 
   module _ (fs′ : List Float) (us′ : List ℕ) (reals′ : List Float) (cells′ : List ℕ) (t : GrowthAnswer)
-      (told : (net : Net) (runs : List Run) → OriginsIn b p (lists fs us reals cells joins) (keptOrigins b) g net runs → OriginsAs (growOrigins b (p .w .places) (keptOrigins b) (record { net = net; saved = runs })) b p (lists fs′ us′ reals′ cells′ joins) [] t) where
-    with_origins : (net : Net) (runs : List Run) → OriginsIn b p (lists fs us reals cells joins) (keptOrigins b) startState net runs → OriginsAs (growOrigins b (p .w .places) (keptOrigins b) (record { net = net; saved = runs })) b p (lists fs′ us′ reals′ cells′ joins) [] t
+      (told : GrowsOrigins b p g (lists fs us reals cells joins) (lists fs′ us′ reals′ cells′ joins) t) where
+    with_origins : GrowsOrigins b p startState (lists fs us reals cells joins) (lists fs′ us′ reals′ cells′ joins) t
     with_origins net runs o = told net runs (subst (λ (x : State). OriginsIn b p (lists fs us reals cells joins) (keptOrigins b) x net runs) (sym first) o)
 
     pub all-stopped : (k : ℕ) → t ≡ Refused k → (net : Net) → OriginsIn b p (lists fs us reals cells joins) (keptOrigins b) startState net [] → grownFrom b (p .w .places) net ≡ refused k

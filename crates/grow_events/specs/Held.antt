@@ -34,7 +34,7 @@ use Rattle.grow_events.specs.declared.RunAnswer.the-variants.{On, Ended,
 abbrev pub endsAt : Layout → ℕ
 endsAt w = w .«nodes_at» + 2
 
--- the counts with one event node more, and a split's Fake; and with a join's Fake more
+-- the counts with one event node more, and a split's Fake
 abbrev pub countsAdded : Counts → ℕ → Bool → Counts
 countsAdded c node split = record {
   nodes = node + 1;
@@ -44,6 +44,7 @@ countsAdded c node split = record {
   «last_end» = c .«last_end»;
 }
 
+-- the counts with a join's Fake more
 abbrev pub countsJoined : Counts → Counts
 countsJoined c = record {
   nodes = c .nodes + 1;
@@ -55,24 +56,24 @@ countsJoined c = record {
 
 -- The network: table, counts, the map of events and the ends. Of the cells before the links' units only the first three
 -- of each node's have changed since `start`.
-pub record NetIn (w : Layout) (start : List ℕ) (fs : List Float) (us cells : List ℕ) (c : Counts) (net : Net) : Type 0
-  where
-    pub table : net .table ≡ record { floats = fs; numbers = us }
-    pub nodes : net .nodes ≡ c .nodes
-    pub added : net .added ≡ c .added
-    pub splits : net .splits ≡ c .splits
-    pub joined : net .joined ≡ c .joined
-    pub sum : c .nodes ≡ 2 + c .added + c .splits + c .joined
-    pub room : Room fs us (w .places)
-    pub within : c .nodes ≤ w .places
-    pub indexed : Indexed (nodeAt fs us) (c .nodes)
-    pub apart : CellsApart cells w
-    pub mapped : Mapped cells w (nodeAt fs us) (c .nodes)
-    pub ends : EndsIn cells (endsAt w) (c .«last_end») (net .ends)
-    pub ends-below : Below (c .nodes) (net .ends)
-    pub ended : (i : ℕ) → i < w .places → flagged cells (endsAt w) i ≡ memberOf (net .ends) i
-    pub elsewhere : (q : ℕ) → q < w .«links_at» → ((i k : ℕ) → i < w .places → k < 3 → q ≢ w .«nodes_at» + i * 8 + k)
-        → getD cells q 0 ≡ getD start q 0
+pub record NetIn (w : Layout) (start : List ℕ) (fs : List Float) (us cells : List ℕ) (c : Counts)
+    (net : Net) : Type 0 where
+  pub table : net .table ≡ record { floats = fs; numbers = us }
+  pub nodes : net .nodes ≡ c .nodes
+  pub added : net .added ≡ c .added
+  pub splits : net .splits ≡ c .splits
+  pub joined : net .joined ≡ c .joined
+  pub sum : c .nodes ≡ 2 + c .added + c .splits + c .joined
+  pub room : Room fs us (w .places)
+  pub within : c .nodes ≤ w .places
+  pub indexed : Indexed (nodeAt fs us) (c .nodes)
+  pub apart : CellsApart cells w
+  pub mapped : Mapped cells w (nodeAt fs us) (c .nodes)
+  pub ends : EndsIn cells (endsAt w) (c .«last_end») (net .ends)
+  pub ends-below : Below (c .nodes) (net .ends)
+  pub ended : (i : ℕ) → i < w .places → flagged cells (endsAt w) i ≡ memberOf (net .ends) i
+  pub elsewhere : (q : ℕ) → q < w .«links_at» → ((i k : ℕ) → i < w .places → k < 3 → q ≢ w .«nodes_at» + i * 8 + k)
+      → getD cells q 0 ≡ getD start q 0
 
 -- the run that moves, on its way through a leg of a network of n nodes
 pub record RunIn (n j : ℕ) (list : List ℕ) (m : Mover) (run : Run) : Type 0 where
@@ -101,13 +102,14 @@ pub record Moving (w : Layout) (fs : List Float) (us cells joins : List ℕ) (c 
 
 -- The path of some leg is there too: as many points as the walk looks at, whose links are the book's, in cells before
 -- the nodes' units.
-pub record Along (b : List ℕ) (reals : List Float) (cells : List ℕ) (w : Layout) (many : ℕ) (path : List ℕ) : Type 0
-  where
-    pub kept : PathIn b reals cells path
-    pub points : many ≡ length path + 1
-    pub named : (k : ℕ) → k < length path → pointLink b path k < w .links
-    pub before : length path * 8 ≤ w .«nodes_at»
+pub record Along (b : List ℕ) (reals : List Float) (cells : List ℕ) (w : Layout) (many : ℕ)
+    (path : List ℕ) : Type 0 where
+  pub kept : PathIn b reals cells path
+  pub points : many ≡ length path + 1
+  pub named : (k : ℕ) → k < length path → pointLink b path k < w .links
+  pub before : length path * 8 ≤ w .«nodes_at»
 
+-- some path is
 pub record SomePath (b : List ℕ) (reals : List Float) (cells : List ℕ) (w : Layout) (points : ℕ) : Type 0 where
   pub path : List ℕ
   pub along : Along b reals cells w points path
@@ -120,12 +122,14 @@ pub record GoesAs (answer : Answer Outcome) (w : Layout) (start : List ℕ) (leg
   pub net : NetIn w start fs us cells c (after .net)
   pub run : RunIn (c .nodes) leg joins m (after .run)
 
+-- the run ended by a join, in this network
 pub record LeftAs (answer : Answer Outcome) (w : Layout) (start : List ℕ) (fs : List Float) (us cells : List ℕ)
     (c : Counts) : Type 0 where
   pub after : Net
   pub is : answer ≡ given (Left after)
   pub net : NetIn w start fs us cells c after
 
+-- the run goes on, has ended, or a refusal
 abbrev pub OutcomeAs : Answer Outcome → Layout → List ℕ → ℕ → List Float → List ℕ → List ℕ → List ℕ → RunAnswer → Type 0
 OutcomeAs answer w start leg fs us cells joins (On c m) = GoesAs answer w start leg fs us cells joins c m
 OutcomeAs answer w start leg fs us cells joins (Ended c) = LeftAs answer w start fs us cells c
@@ -152,6 +156,7 @@ pub record NetLists : Type 0 where
   pub cells : List ℕ
   pub joins : List ℕ
 
+-- what they hold at a function's entry
 abbrev pub netAtEntry : Lent (List Float) → Lent (List ℕ) → Lent (List ℕ) → Lent (List ℕ) → NetLists
 netAtEntry floats numbers cells joins = record {
   floats = now (floats .entry);
@@ -160,6 +165,7 @@ netAtEntry floats numbers cells joins = record {
   joins = now (joins .entry);
 }
 
+-- and at its exit
 abbrev pub netAtExit : Lent (List Float) → Lent (List ℕ) → Lent (List ℕ) → Lent (List ℕ) → NetLists
 netAtExit floats numbers cells joins = record {
   floats = now (floats .exit);

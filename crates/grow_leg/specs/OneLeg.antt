@@ -35,6 +35,7 @@ use Rattle.grow_leg.specs.declared.Ways.the-variants.{None, One, Both}
 
 -- ---- a leg's events
 
+-- by whether row 11 holds
 abbrev pub outcomeAs : Bool → List ℕ → ℕ → Net → Run → Answer Outcome
 outcomeAs true b places net run = refused 11
 outcomeAs false b places net run =
@@ -56,19 +57,20 @@ pub record WalkedAs (b : List ℕ) (p : Plan) (j depth : ℕ) (answer : Answer O
 -- ---- the way on
 
 -- The run at the front has done its leg, whose path is kept; the rest wait.
-pub record AtEnd (b : List ℕ) (p : Plan) (s : Lists) (g : State) (net : Net) (run : Run) (rest : List Run) : Type 0
-  where
-    pub moves : g .front .moves ≡ true
-    pub grown : NetIn (p .w) (s .cells) (s .floats) (s .numbers) (s .cells) (g .counts) net
-    pub chained : Chained b (s .cells)
-    pub kept : PathIn b (s .reals) (s .cells) (pathOf b (run .leg))
-    pub short : length (pathOf b (run .leg)) ≤ legs b
-    pub front : FrontIn b (s .joins) (g .counts .nodes) (g .front) run
-    pub waiting : WaitIn b (p .r) (s .reals) (s .cells) (g .top) (g .used) rest
-    pub sound : AllSound b (g .counts .nodes) (run ∷ rest)
-    pub prefixes : Prefixes b (pathOf b (run .leg)) rest
-    pub separate : AllSeparate b rest
+pub record AtEnd (b : List ℕ) (p : Plan) (s : Lists) (g : State) (net : Net) (run : Run)
+    (rest : List Run) : Type 0 where
+  pub moves : g .front .moves ≡ true
+  pub grown : NetIn (p .w) (s .cells) (s .floats) (s .numbers) (s .cells) (g .counts) net
+  pub chained : Chained b (s .cells)
+  pub kept : PathIn b (s .reals) (s .cells) (pathOf b (run .leg))
+  pub short : length (pathOf b (run .leg)) ≤ legs b
+  pub front : FrontIn b (s .joins) (g .counts .nodes) (g .front) run
+  pub waiting : WaitIn b (p .r) (s .reals) (s .cells) (g .top) (g .used) rest
+  pub sound : AllSound b (g .counts .nodes) (run ∷ rest)
+  pub prefixes : Prefixes b (pathOf b (run .leg)) rest
+  pub separate : AllSeparate b rest
 
+-- some run at the front has, in some network
 pub record SomeEnd (b : List ℕ) (p : Plan) (s : Lists) (g : State) : Type 0 where
   pub net : Net
   pub run : Run
@@ -81,12 +83,14 @@ pub record SomeEnding (b : List ℕ) (p : Plan) (reals : List Float) (cells join
   pub us : List ℕ
   pub ends : SomeEnd b p (lists fs us reals cells joins) g
 
+-- whatever the table, the reals and the join entries are
 pub record SomeLeg (b cells : List ℕ) (p : Plan) (g : State) : Type 0 where
   pub reals : List Float
   pub joins : List ℕ
   pub plan : PlanIn b p (length reals)
   pub ends : SomeEnding b p reals cells joins g
 
+-- whatever the book, the reals and the join entries are
 pub record SomeFinish (p : Plan) (fs : List Float) (us cells : List ℕ) (g : State) : Type 0 where
   pub b : List ℕ
   pub reals : List Float
@@ -106,6 +110,7 @@ pub record SomeWay (b : List ℕ) (p : Plan) (s : Lists) (g : State) : Type 0 wh
   pub ends : AtEnd b p s g net run rest
   pub free : (l : ℕ) → Free b run rest l
 
+-- whatever the table is
 pub record SomeGoing (b : List ℕ) (p : Plan) (reals : List Float) (cells joins : List ℕ) (g : State) : Type 0 where
   pub fs : List Float
   pub us : List ℕ
@@ -113,13 +118,13 @@ pub record SomeGoing (b : List ℕ) (p : Plan) (reals : List Float) (cells joins
 
 -- a copy of the run is saved, or a refusal
 pub record SavedOver (answer : Answer (List Run)) (b : List ℕ) (p : Plan) (s : Lists) (g : State) (net : Net)
-    (run : Run)
-    (rest : List Run) (link : ℕ) : Type 0 where
+    (run : Run) (rest : List Run) (link : ℕ) : Type 0 where
   pub more : List Run
   pub is : answer ≡ given more
   pub ends : AtEnd b p s g net run more
   pub free : (l : ℕ) → l ≢ link → Free b run rest l → Free b run more l
 
+-- what the code answers: the state then, or a refusal
 abbrev pub SavedAs : Answer (List Run) → List ℕ → Plan → Lists → Net → Run → List Run → ℕ → GrowthAnswer → Type 0
 SavedAs answer b p s net run rest link (On g) = SavedOver answer b p s g net run rest link
 SavedAs answer b p s net run rest link (Refused k) = answer ≡ refused k

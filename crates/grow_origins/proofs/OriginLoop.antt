@@ -30,7 +30,7 @@ use Rattle.grow_state.specs.declared.GrowthAnswer.the-variants.{On, Refused}
 use Rattle.grow_state.specs.Held.{PlanIn, lists}
 use Rattle.net_node.specs.Table.{Indexed, nodeAt, Table, at}
 use Rattle.net_insertion.specs.Insertion.{tableOf}
-use Rattle.grow_origins.specs.Origins.{originAnswer, LeadsFrom, OnlyStart, OtherLinks, AllFirst, NotOver, OriginsIn, SomeOrigin, SomeOrigins, OriginsGiven, OriginsAs, savedOrigin, OriginInserted, SomeOriginInserted}
+use Rattle.grow_origins.specs.Origins.{originAnswer, LeadsFrom, OnlyStart, OtherLinks, AllFirst, NotOver, OriginsIn, SomeOrigin, SomeOrigins, OriginsGiven, OriginsAs, savedOrigin, OriginInserted, SomeOriginInserted, GrowsOrigin, GrowsOrigins}
 use Rattle.grow_origins.proofs.OriginEvents.{fewer-as, origin-joins, origin-not-left, origin-given, origin-refused}
 use Rattle.grow_origins.proofs.Starting.{AtLast, at-start, comes-first, leads-from}
 use Rattle.grow_origins.proofs.Following.{last-origin}
@@ -227,7 +227,7 @@ module _ (b : List ℕ) (p : Plan) (joins : List ℕ) (fs₀ : List Float) (us�
 
     -- what the code is told of the next origin
     module _ (fs′ : List Float) (us′ : List ℕ) (reals′ : List Float) (cells′ : List ℕ) (t : GrowthAnswer)
-        (told : (idxs : List ℕ) (net : Net) (runs : List Run) → OriginsIn b p (lists fs us reals cells joins) (idx ∷ idxs) g net runs → OtherLinks b (originLink b idx) idxs → OriginsAs (growOrigin b (p .w .places) (originLink b idx) (record { net = net; saved = runs })) b p (lists fs′ us′ reals′ cells′ joins) idxs t) where
+        (told : GrowsOrigin b p g idx (lists fs us reals cells joins) (lists fs′ us′ reals′ cells′ joins) t) where
       next : {answer : Answer Growth} → (x : SoFar b p fs us reals cells joins g last k answer) → OriginsAs (growOrigin b (p .w .places) (originLink b idx) (record { net = x .net; saved = x .runs })) b p (lists fs′ us′ reals′ cells′ joins) (drop (k + 1) (keptOrigins b)) t
       next x = told (drop (k + 1) (keptOrigins b)) (x .net) (x .runs) (subst (λ (idxs : List ℕ). OriginsIn b p (lists fs us reals cells joins) idxs g (x .net) (x .runs)) idxs-are (x .origins)) apart
 
@@ -235,8 +235,7 @@ module _ (b : List ℕ) (p : Plan) (joins : List ℕ) (fs₀ : List Float) (us�
       unfolds x =
           x .same ∙ ap (λ (idxs : List ℕ). growOrigins b (p .w .places) idxs (record { net = x .net; saved = x .runs })) idxs-are ∙ origin-first b (p .w .places) idx (drop (k + 1) (keptOrigins b)) (record { net = x .net; saved = x .runs })
 
-      pub loop-stop : (n : ℕ) → t ≡ Refused n → (net : Net) (runs : List Run) → OriginsIn b p (lists fs₀ us₀ reals₀ cells₀ joins) (keptOrigins b) g₀ net runs
-          → OriginsAs (growOrigins b (p .w .places) (keptOrigins b) (record { net = net; saved = runs })) b p (lists fs′ us′ reals′ cells′ joins) [] t
+      pub loop-stop : (n : ℕ) → t ≡ Refused n → GrowsOrigins b p g₀ (lists fs₀ us₀ reals₀ cells₀ joins) (lists fs′ us′ reals′ cells′ joins) t
       loop-stop n e net runs o =
           let x = v .so-far net runs o in
           let q = subst (OriginsAs (growOrigin b (p .w .places) (originLink b idx) (record { net = x .net; saved = x .runs })) b p (lists fs′ us′ reals′ cells′ joins) (drop (k + 1) (keptOrigins b))) e (next x) in
@@ -265,8 +264,7 @@ module _ (b : List ℕ) (p : Plan) (joins : List ℕ) (fs₀ : List Float) (us�
       }
 
   -- none is left
-  pub loop-end : length (keptOrigins b) ≤ k → (net : Net) (runs : List Run) → OriginsIn b p (lists fs₀ us₀ reals₀ cells₀ joins) (keptOrigins b) g₀ net runs
-      → OriginsAs (growOrigins b (p .w .places) (keptOrigins b) (record { net = net; saved = runs })) b p (lists fs us reals cells joins) [] (On g)
+  pub loop-end : length (keptOrigins b) ≤ k → GrowsOrigins b p g₀ (lists fs₀ us₀ reals₀ cells₀ joins) (lists fs us reals cells joins) (On g)
   loop-end h net runs o =
       let x = v .so-far net runs o in
       let n : k ≡ length (keptOrigins b) = omega (arith, v .within) in

@@ -18,6 +18,7 @@ use Rattle.event_walk.specs.declared.PassedPoint.{PassedPoint}
 use Rattle.net_node.specs.declared.TimedEvent.{TimedEvent}
 use Rattle.grow_path.specs.Path.{pointLink, pointOffset}
 
+-- the path's points and links are there
 pub record PathIn (b : List ℕ) (reals : List Float) (cells : List ℕ) (path : List ℕ) : Type 0 where
   pub offsets : (k : ℕ) → k ≤ length path → getD reals k nan ≡ pointOffset b path k
   pub links : (k : ℕ) → k < length path → getD cells (k * 8 + 3) 0 ≡ pointLink b path k
@@ -33,11 +34,12 @@ pub record Sound (c : Course) : Type 0 where
 
 -- ---- what the code writes and reads of a path
 
--- a link put behind the first `depth` links of a path: the point behind it, at the next running sum, and its name
+-- a link put behind the first `depth` links of a path: the point behind it, at the next running sum
 abbrev pub pointAdded : List ℕ → List Float → ℕ → ℕ → List Float
 pointAdded b reals depth link =
     set reals (depth + 1) (add binary64 (getD reals depth nan) (floatOf (linkLength b link)))
 
+-- its name
 abbrev pub linkAdded : List ℕ → ℕ → ℕ → List ℕ
 linkAdded cells depth link = set cells (depth * 8 + 3) link
 

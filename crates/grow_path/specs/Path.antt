@@ -18,6 +18,7 @@ legsTo zero b j = []
 legsTo (suc k) b zero = []
 legsTo (suc k) b (suc i) = legsTo k b (legParent b i) ++ (suc i ∷ [])
 
+-- the legs of the path that ends with leg j
 unfoldable pub pathOf : List ℕ → ℕ → List ℕ
 unfolding legsTo
 pathOf b j = legsTo j b j
@@ -60,6 +61,7 @@ eventAt b path p = record {
   «link_event» = record { «link_idx» = pointLink b path (p .point); «est_type» = p .«est_type» };
 }
 
+-- all points that are passed, as events
 unfoldable pub eventsAt : List ℕ → List ℕ → List PassedPoint → List TimedEvent
 unfolding eventAt
 eventsAt b path [] = []

@@ -27,10 +27,11 @@ use Rattle.net_node.specs.Left.{Network}
 use Rattle.grow_rules.specs.Run.{Arc, Net, Run, After, Outcome, Ended, On, arcToEnd, memberOf, insertEvent}
 use Rattle.grow_rules.specs.Run.{runEvents}
 
--- the book's J, departure and train length
+-- the book's J
 abbrev pub joinGap : List ℕ → Float
 joinGap b = floatOf (joinBits b)
 
+-- the departure
 abbrev pub departure : List ℕ → Float
 departure b = floatOf (departureBits b)
 
@@ -71,10 +72,11 @@ originEvent b link kind offset = record {
   «link_event» = record { «link_idx» = link; «est_type» = kind };
 }
 
--- "its origin's Arrive and Clear": the Arrive at offset 0, the Clear at the train's length
+-- "its origin's Arrive and Clear": the Arrive, at offset 0
 abbrev pub originArrive : List ℕ → ℕ → TimedEvent
 originArrive b link = originEvent b link Arrive (ofBits binary64 0)
 
+-- the Clear, at the train's length
 abbrev pub originClear : List ℕ → ℕ → TimedEvent
 originClear b link = originEvent b link Clear (add binary64 (ofBits binary64 0) (floatOf (lengthBits b)))
 

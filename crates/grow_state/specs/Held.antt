@@ -36,9 +36,11 @@ pub record Lists : Type 0 where
   pub cells : List ℕ
   pub joins : List ℕ
 
+-- five lists as one record
 abbrev pub lists : List Float → List ℕ → List Float → List ℕ → List ℕ → Lists
 lists fs us rs cs js = record { floats = fs; numbers = us; reals = rs; cells = cs; joins = js }
 
+-- what the slices hold at a function's entry
 abbrev pub listsAtEntry : Lent (List Float) → Lent (List ℕ) → Lent (List Float) → Lent (List ℕ) → Lent (List ℕ) → Lists
 listsAtEntry floats numbers reals cells joins = record {
   floats = now (floats .entry);
@@ -48,6 +50,7 @@ listsAtEntry floats numbers reals cells joins = record {
   joins = now (joins .entry);
 }
 
+-- and at its exit
 abbrev pub listsAtExit : Lent (List Float) → Lent (List ℕ) → Lent (List Float) → Lent (List ℕ) → Lent (List ℕ) → Lists
 listsAtExit floats numbers reals cells joins = record {
   floats = now (floats .exit);
@@ -96,10 +99,12 @@ pub record Separate (b : List ℕ) (i j : ℕ) : Type 0 where
   pub no-there : memberOf (pathOf b j) i ≡ false
   pub no-back : memberOf (pathOf b i) j ≡ false
 
+-- of a leg, and of the legs that these runs take next
 abbrev pub SeparateFrom : List ℕ → ℕ → List Run → Type 0
 SeparateFrom b i [] = Unit
 SeparateFrom b i (r ∷ rs) = Separate b i (r .leg) × SeparateFrom b i rs
 
+-- of all runs
 abbrev pub AllSeparate : List ℕ → List Run → Type 0
 AllSeparate b [] = Unit
 AllSeparate b (r ∷ rs) = SeparateFrom b (r .leg) rs × AllSeparate b rs
@@ -112,6 +117,7 @@ pub record RunSound (b : List ℕ) (n : ℕ) (r : Run) : Type 0 where
   pub few : length (r .joins) ≤ 1024
   pub valid : Valid (r .joins) n
 
+-- of all runs
 abbrev pub AllSound : List ℕ → ℕ → List Run → Type 0
 AllSound b n [] = Unit
 AllSound b n (r ∷ rs) = RunSound b n r × AllSound b n rs
@@ -124,12 +130,14 @@ pub record SameRun (b : List ℕ) (w : Waiting) (r : Run) : Type 0 where
   pub joins : w .joins ≡ r .joins
   pub has-split : r .«has_split» ≡ false
 
+-- of all runs, in their order
 abbrev pub SameRuns : List ℕ → List Waiting → List Run → Type 0
 SameRuns b [] [] = Unit
 SameRuns b [] (r ∷ rs) = ⊥
 SameRuns b (w ∷ ws) [] = ⊥
 SameRuns b (w ∷ ws) (r ∷ rs) = SameRun b w r × SameRuns b ws rs
 
+-- runs of the definition wait in the cells and reals
 pub record WaitIn (b : List ℕ) (r : Rooms) (reals : List Float) (cells : List ℕ) (top used : ℕ)
     (saved : List Run) : Type 0 where
   pub runs : List Waiting
@@ -184,6 +192,7 @@ pub record GivesAs (answer : Answer Growth) (b : List ℕ) (p : Plan) (s : Lists
   pub path : List ℕ
   pub holds : DriveIn b p s path g (growth .net) (growth .saved)
 
+-- the state then, or a refusal
 abbrev pub TurnedAs : Answer Growth → List ℕ → Plan → Lists → GrowthAnswer → Type 0
 TurnedAs answer b p s (On g) = GivesAs answer b p s g
 TurnedAs answer b p s (Refused k) = answer ≡ refused k

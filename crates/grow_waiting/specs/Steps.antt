@@ -29,9 +29,11 @@ pub record Stacks : Type 0 where
   pub cells : List ℕ
   pub reals : List Float
 
+-- both at a function's entry
 abbrev pub stacksAtEntry : Lent (List ℕ) → Lent (List Float) → Stacks
 stacksAtEntry cells reals = record { cells = now (cells .entry); reals = now (reals .entry) }
 
+-- and at its exit
 abbrev pub stacksAtExit : Lent (List ℕ) → Lent (List Float) → Stacks
 stacksAtExit cells reals = record { cells = now (cells .exit); reals = now (reals .exit) }
 

@@ -31,22 +31,26 @@ unfoldable pub eventNodes : (ℕ → EstTime) → LinkEvent → ℕ → List ℕ
 unfolding nodesFrom
 eventNodes node e n = nodesFrom node e 0 n
 
--- the first of a list of nodes, and the last; 0 is none, since node 0 is no event
+-- the first of a list of nodes: 0 is none, since node 0 is no event
 abbrev pub headOf : List ℕ → ℕ
 headOf [] = 0
 headOf (i ∷ is) = i
 
+-- the last of them
 unfoldable pub lastOf : List ℕ → ℕ
 lastOf [] = 0
 lastOf (i ∷ []) = i
 lastOf (i ∷ j ∷ is) = lastOf (j ∷ is)
 
+-- the Arrive of a link
 unfoldable pub arriveAt : ℕ → LinkEvent
 arriveAt l = record { «link_idx» = l; «est_type» = Arrive }
 
+-- the Clear of a link
 unfoldable pub clearAt : ℕ → LinkEvent
 clearAt l = record { «link_idx» = l; «est_type» = Clear }
 
+-- a mark: 1 for true
 abbrev pub bit : Bool → ℕ
 bit true = 1
 bit false = 0
@@ -70,10 +74,11 @@ pub record Mapped (cells : List ℕ) (w : Layout) (node : ℕ → EstTime) (n : 
   pub unmarked : (i : ℕ) → i < w .places → getD cells (w .«nodes_at» + i * 8 + 1) 0 ≡ 0
   pub zeroth : (e : LinkEvent) → sameEvent (node 0 .«link_event») e ≡ true → e .«est_type» ≡ Fake
 
--- where the first node of a link's Arrive is named, and the next one behind node i
+-- where the first node of a link's Arrive is named
 abbrev pub firstAt : Layout → ℕ → ℕ
 firstAt w l = w .«links_at» + l * 8
 
+-- where the next one behind node i is named
 abbrev pub nextAt : Layout → ℕ → ℕ
 nextAt w i = w .«nodes_at» + i * 8
 
@@ -99,5 +104,6 @@ RealKind Arrive = Unit
 RealKind Clear = Unit
 RealKind Fake = ⊥
 
+-- the event of a link that is one of so many
 abbrev pub Real : LinkEvent → ℕ → Type 0
 Real e links = RealKind (e .«est_type») × (e .«link_idx» < links)

@@ -110,11 +110,12 @@ unfoldable pub soughtIn : Table → ℕ → Float → Place → TimedEvent → S
 unfolding at seek
 soughtIn t n join p e = seek n (at t) join e (p .«idx_prev»)
 
--- `insert_est_time`: the answer, and the table where it is not a refusal
+-- `insert_est_time`: the answer
 unfoldable pub inserted : Table → ℕ → ℕ → (ℕ → Bool) → Float → Place → TimedEvent → Inserted
 unfolding soughtIn
 inserted t n places ended join p e = insertedAs (soughtIn t n join p e) n places ended e
 
+-- the table where it is not a refusal
 unfoldable pub insertedTable : Table → ℕ → Float → Place → TimedEvent → Table
 unfolding soughtIn
 insertedTable t n join p e = tableAs (soughtIn t n join p e) t n p e

@@ -23,6 +23,7 @@ use Rattle.net_joins.specs.declared.Step.the-variants.{Joined, Waits, Re
 
 -- ---- "Of entries with m = 0 the first with the smallest gap, strictly below J, is joined"
 
+-- by whether an entry matches and has a smaller gap
 abbrev pub closerAs : Bool → SpeedJoin → Float → ℕ → SpeedJoin
 closerAs true best g e = record { «speed_diff_join» = g; «est_idx_join» = e }
 closerAs false best g e = best
@@ -33,6 +34,7 @@ closer node speed best x =
     let g = gap (node (x .«est_idx_next») .speed) speed in
     closerAs (eqb (x .«link_idx_match») 0 && lt g (best .«speed_diff_join»)) best g (x .«est_idx_next»)
 
+-- the best of a list, from the best so far on
 unfoldable pub closestOf : (ℕ → EstTime) → Float → SpeedJoin → List EstJoinPath → SpeedJoin
 unfolding closer
 closestOf node speed best [] = best
@@ -45,6 +47,7 @@ closest node join speed es = closestOf node speed (record { «speed_diff_join» 
 
 -- ---- "the last node links through a new Fake at the end of the target's previous-alternative chain"
 
+-- the node itself where it has no previous alternative
 abbrev pub chainEndAs : ℕ → ℕ → (ℕ → ℕ) → ℕ
 chainEndAs zero i f = i
 chainEndAs (suc j) i f = f (suc j)
@@ -68,16 +71,19 @@ joinAt t n end e =
     let t2 = put t1 n (joinFake end (n - 1)) in
     put t2 (n - 1) (linkedTo (at t2 (n - 1)) n e)
 
+-- the join, at "the end of the target's previous-alternative chain"
 unfoldable pub joinedTable : Table → ℕ → ℕ → TimedEvent → Table
 unfolding joinAt chainEnd
 joinedTable t n target e = joinAt t n (chainEnd n (at t) target) e
 
 -- ---- "After a failed join an Arrive appends, rising, all nodes of that event that no entry names."
 
+-- whether an entry of a list names a node
 unfoldable pub names : List EstJoinPath → ℕ → Bool
 names [] i = false
 names (x ∷ xs) i = eqb (x .«est_idx_next») i || names xs i
 
+-- a node put behind a list, unless it is named
 abbrev pub appendedIf : Bool → ℕ → ℕ → List EstJoinPath → Option (List EstJoinPath)
 appendedIf true m i es = some es
 appendedIf false m i es = push es (entry m i)
@@ -88,6 +94,7 @@ unfolding names
 appendedAll old m [] es = some es
 appendedAll old m (i ∷ is) es = andThen (appendedIf (names old i) m i es) (appendedAll old m is)
 
+-- the nodes of an event, if it is an Arrive
 unfoldable pub appended : (ℕ → EstTime) → ℕ → LinkEvent → List EstJoinPath → Option (List EstJoinPath)
 unfolding appendedAll eventNodes
 appended node n e es =
@@ -105,6 +112,7 @@ pub data JoinStep : Type 0 where
   GoesOn : List EstJoinPath → JoinStep
   Beyond : JoinStep
 
+-- the run goes on with a list, or there was no room for it
 abbrev pub stepWith : Option (List EstJoinPath) → JoinStep
 stepWith none = Beyond
 stepWith (some es) = GoesOn es
@@ -119,6 +127,7 @@ abbrev pub chosenAs : Bool → Bool → ℕ → Option (List EstJoinPath) → Jo
 chosenAs true room target list = joinsIf room target
 chosenAs false room target list = stepWith list
 
+-- what becomes of the run with its list rebuilt
 abbrev pub chosen : (ℕ → EstTime) → ℕ → ℕ → Float → TimedEvent → Option (List EstJoinPath) → JoinStep
 chosen node n places join e none = Beyond
 chosen node n places join e (some es) =
@@ -126,6 +135,7 @@ chosen node n places join e (some es) =
     chosenAs (lt (best .«speed_diff_join») join) (ltb n places) (best .«est_idx_join»)
     (appended node n (e .«link_event») es)
 
+-- what becomes of the run at an event
 unfoldable pub joinStep : (ℕ → EstTime) → ℕ → ℕ → Float → TimedEvent → List EstJoinPath → JoinStep
 unfolding closest appended rebuilt
 joinStep node n places join e old = chosen node n places join e (rebuilt node n (e .«link_event») old)

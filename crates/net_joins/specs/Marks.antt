@@ -29,6 +29,7 @@ pub record ChainLink (places i next : ℕ) : Type 0 where
   pub placed : i < places
   pub rises : 0 < next → i < next
 
+-- from i along these nodes to 0
 abbrev pub Chain : List ℕ → Layout → ℕ → List ℕ → Type 0
 Chain cells w i [] = i ≡ 0
 Chain cells w i (j ∷ is) =

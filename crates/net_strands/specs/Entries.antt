@@ -17,11 +17,12 @@ use Rattle.net_strands.specs.declared.Count.the-variants.{Entries, Over}
 unfoldable pub entry : ℕ → ℕ → EstJoinPath
 entry m e = record { «link_idx_match» = m; «est_idx_next» = e }
 
--- the entry at k of a slice, and the first n
+-- the entry at k of a slice
 unfoldable pub entryAt : List ℕ → ℕ → EstJoinPath
 unfolding entry
 entryAt s k = entry (getD s (k * 2) 0) (getD s (k * 2 + 1) 0)
 
+-- the first n entries of a slice
 unfoldable pub entriesIn : List ℕ → ℕ → List EstJoinPath
 unfolding entryAt
 entriesIn s zero = []
@@ -38,6 +39,7 @@ abbrev pub pushedAs : Bool → List EstJoinPath → EstJoinPath → Option (List
 pushedAs true es x = some (es ++ (x ∷ []))
 pushedAs false es x = none
 
+-- an entry behind a list, if it has room
 unfoldable pub push : List EstJoinPath → EstJoinPath → Option (List EstJoinPath)
 push es x = pushedAs (ltb (length es) 1024) es x
 

@@ -14,6 +14,7 @@ use Rattle.net_node.specs.Table.{sameEvent}
 use Rattle.net_strands.specs.declared.EstJoinPath.{EstJoinPath}
 use Rattle.net_strands.specs.Entries.{entry, push, andThen}
 
+-- whether a kind is Arrive
 abbrev pub isArrive : EstType → Bool
 isArrive Arrive = true
 isArrive Clear = false
@@ -21,6 +22,7 @@ isArrive Fake = false
 
 -- ---- "With old m = 0, e and each of its alternatives gives its next if that has the event."
 
+-- an entry behind a list, if it is to be put there
 abbrev pub pushedIf : Bool → List EstJoinPath → EstJoinPath → Option (List EstJoinPath)
 pushedIf true es x = push es x
 pushedIf false es x = some es
@@ -60,6 +62,7 @@ abbrev pub popped : List ℕ → List EstJoinPath → Turn
 popped [] es = Whole es
 popped (i ∷ stack) es = More (record { here = i; stack = stack; entries = es })
 
+-- the same, once an entry was put behind the list
 abbrev pub poppedAfter : List ℕ → Option (List EstJoinPath) → Turn
 poppedAfter stack none = Over
 poppedAfter stack (some es) = popped stack es
@@ -84,6 +87,7 @@ turn node e m s =
     (isArrive (node next .«link_event» .«est_type») || eqb (node next .«idx_next») 0) m next
     (alternativeStacked (node (s .here) .«idx_next_alt») (s .stack)) (s .entries)
 
+-- what follows a turn
 abbrev pub strandsOn : Turn → (Strand → Option (List EstJoinPath)) → Option (List EstJoinPath)
 strandsOn (Whole es) f = some es
 strandsOn Over f = none
@@ -122,6 +126,7 @@ extended node n e seen x es =
 
 -- ---- the whole list: `seen` says whether some node has the event ("If no node has the event, nothing more")
 
+-- the entries of the old list, one after the other
 unfoldable pub extendedAll : (ℕ → EstTime) → ℕ → LinkEvent → Bool → List EstJoinPath → List EstJoinPath
     → Option (List EstJoinPath)
 unfolding extended
