@@ -7,6 +7,8 @@ use Prim.Native.Nat.{ℕ, suc, _+_, _<_, _≤_}
 use native.Mathlib.Numerals.{add-one}
 use native.Mathlib.Omega.{arith}
 use lib.Ieee.{binary64, sub}
+use Rattle.laws.proofs.Below.{below}
+use Rattle.laws.proofs.Truth.{not-both}
 use Rattle.net_node.proofs.Tables.{RoomIn, either}
 use Rattle.net_node.specs.declared.EstTime.{EstTime}
 use Rattle.net_node.specs.declared.TimedEvent.{TimedEvent}
@@ -15,7 +17,6 @@ use Rattle.net_insertion.specs.declared.Place.{Place}
 use Rattle.net_insertion.specs.Insertion.{linkedTo, eventNode, splitFake, addBehind, splitAt}
 use Rattle.net_insertion.proofs.Puts.{add-found, add-new, add-indexed, add-other, add-room, split-found, split-new, split-indexed, split-other, split-room}
 use Rattle.grow_rules.specs.Run.{Arc, memberOf}
-use Rattle.laws.proofs.Cases.{not-both, below}
 use Rattle.arcs_growth.proofs.Labels.{Role, nought, start, event, split, join, stop, baseRole, lands, itself, Labels, Extends, labelled, labelled-old, new-role, new-goal}
 use Rattle.arcs_growth.proofs.NewNodes.{Attached, Alternated, NoStops, apart}
 use Rattle.arcs_growth.proofs.Weights.{arcThere}

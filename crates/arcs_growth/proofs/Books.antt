@@ -4,9 +4,9 @@ use mathlib.Core.Bool.{Bool, true, false}
 use mathlib.Core.List.{List, [], _∷_}
 use Prim.Native.Nat.{ℕ}
 use lib.Dec.{eqb}
+use Rattle.laws.proofs.Truth.{not-both}
 use Rattle.laws.specs.Below.{someBelow}
 use Rattle.laws.proofs.Below.{none-right}
-use Rattle.laws.proofs.Cases.{not-both}
 use Rattle.book_format.specs.Format.{destinations, legs, destinationLink, legLink}
 use Rattle.book_format.specs.Rows.{row5, badLeg}
 use Rattle.book_format.proofs.Given.{leg-named, leg-above}

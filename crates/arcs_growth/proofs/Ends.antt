@@ -8,16 +8,16 @@ use native.Mathlib.Omega.{arith}
 use borrow.Author.Tests.{eq-eqb, ne-eqb, ltb-true}
 use lib.Dec.{eqb, ltb}
 use lib.Ieee.{binary64, ofBits}
+use Rattle.laws.proofs.Truth.{not-both}
 use Rattle.net_node.proofs.Tables.{RoomIn, put-room, either, put-same, put-other}
 use Rattle.laws.proofs.Answers.{Holds, holds-then}
-use Rattle.laws.proofs.Below.{or-right}
+use Rattle.laws.proofs.Below.{or-right, below}
 use Rattle.net_node.specs.declared.EstTime.{EstTime}
 use Rattle.net_node.specs.Table.{blank, noLinkEvent, Table, put, at, isFake}
 use Rattle.grow_rules.specs.Run.{Arc, memberOf}
 use Rattle.grow_rules.specs.Growth.{fakeNode, leadsToEnd, roomFor, endFakes}
 use Rattle.net_node.specs.Left.{Network}
 use Rattle.laws.proofs.Members.{All}
-use Rattle.laws.proofs.Cases.{not-both, below}
 use Rattle.arcs_growth.proofs.Labels.{stop, baseRole, receives, itself, Labels, Extends, labelled, labelled-old, new-role, new-goal}
 use Rattle.arcs_growth.proofs.NewNodes.{Attached}
 use Rattle.arcs_growth.proofs.Weights.{arcThere, arcOut}

@@ -10,6 +10,7 @@ use borrow.Author.Tests.{eqb-true, eq-eqb, ltb-true}
 use lib.ListN.{length}
 use lib.Dec.{eqb, ltb}
 use lib.Ieee.{Float, lt}
+use Rattle.laws.proofs.Truth.{not-both}
 use Rattle.floats.specs.Floats.{gap}
 use Rattle.floats.proofs.Order.{lt-asym}
 use Rattle.laws.proofs.Below.{none-left}
@@ -24,7 +25,6 @@ use Rattle.net_strands.specs.Space.{isArrive, pushedIf, onward, alternatives, S
 use Rattle.net_joins.specs.declared.SpeedJoin.{SpeedJoin}
 use Rattle.net_joins.specs.Joins.{closerAs, closer, closestOf, closest, names, appendedIf, appendedAll, appended, rebuilt, JoinStep, JoinsTo, GoesOn, Beyond, stepWith, chosenAs, chosen, joinStep}
 use Rattle.laws.proofs.Members.{All, all-so}
-use Rattle.laws.proofs.Cases.{not-both}
 use Rattle.arcs_growth.proofs.Invariant.{Listed}
 
 abbrev pub Given : (List EstJoinPath → Type 0) → Option (List EstJoinPath) → Type 0

@@ -8,6 +8,7 @@ use native.Mathlib.Omega.{arith}
 use borrow.Author.Tests.{eqb-true, eq-eqb, ne-eqb, not-false}
 use lib.Dec.{eqb}
 use lib.Ieee.{binary64, ofBits}
+use Rattle.laws.proofs.Truth.{not-both}
 use Rattle.net_node.specs.Table.{at}
 use Rattle.laws.specs.Below.{sumBelow}
 use Rattle.laws.proofs.Below.{none-left, none-right}
@@ -15,7 +16,6 @@ use Rattle.net_node.specs.declared.EstTime.{EstTime}
 use Rattle.grow_rules.specs.Run.{Arc, Net, Run, arcToEnd, memberOf}
 use Rattle.grow_rules.specs.Growth.{badFinish, finishedAt}
 use Rattle.laws.proofs.Members.{all-so}
-use Rattle.laws.proofs.Cases.{not-both}
 use Rattle.net_node.proofs.Tables.{either}
 use Rattle.arcs_growth.proofs.Sums.{sum-point, total, total-more}
 use Rattle.arcs_growth.proofs.Labels.{baseRole, Labels, Extends}

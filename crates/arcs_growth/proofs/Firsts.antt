@@ -6,13 +6,13 @@ use mathlib.Core.List.{List, [], _∷_}
 use Prim.Native.Nat.{ℕ, zero, suc, _<_}
 use native.Mathlib.Omega.{arith}
 use lib.Ieee.{binary64, ofBits}
+use Rattle.laws.proofs.Truth.{not-both}
 use Rattle.net_node.proofs.Tables.{RoomIn, put-room, put-same, put-other}
 use Rattle.net_node.specs.declared.EstTime.{EstTime}
 use Rattle.net_node.specs.Table.{Indexed, blank, noLinkEvent, Table, put, at, isFake}
 use Rattle.laws.specs.Below.{sumBelow}
 use Rattle.grow_rules.specs.Run.{Arc}
 use Rattle.grow_rules.specs.Growth.{departure, fakeNode, firstNodes, originRun}
-use Rattle.laws.proofs.Cases.{not-both}
 use Rattle.arcs_growth.proofs.Sums.{total}
 use Rattle.arcs_growth.proofs.Labels.{Role, nought, start, event, split, join, stop, baseRole, lands, Labels}
 use Rattle.arcs_growth.proofs.Laid.{Each, Laid}

@@ -9,6 +9,8 @@ use native.Mathlib.Omega.{arith}
 use lib.Dec.{eqb}
 use borrow.Author.Tests.{eqb-true}
 use lib.Ieee.{Float, binary64, sub, lt}
+use Rattle.laws.proofs.Below.{below}
+use Rattle.laws.proofs.Truth.{not-both, and-left, and-right}
 use Rattle.laws.proofs.Answers.{Holds}
 use Rattle.floats.specs.Floats.{gap}
 use Rattle.net_node.specs.declared.LinkEvent.{LinkEvent}
@@ -22,7 +24,6 @@ use Rattle.net_insertion.specs.declared.Inserted.the-variants.{Added, Moved, Re
 use Rattle.net_insertion.specs.Insertion.{matches, placeAt, addBehind, splitAt, inserted, insertedTable}
 use Rattle.grow_rules.specs.Run.{Net, Run, After, arcTo, addedTo, movedTo, memberOf, insertedRun, insertEvent}
 use Rattle.laws.proofs.Members.{some-all}
-use Rattle.laws.proofs.Cases.{not-both, below, and-left, and-right}
 use Rattle.net_node.proofs.Tables.{either}
 use Rattle.arcs_growth.proofs.Labels.{Role, nought, start, event, split, join, stop, fakeRole, baseRole, itself, Labels, Extends, labelled, labelled-old, new-role, new-owner, new-depth}
 use Rattle.arcs_growth.proofs.Laid.{EventOf, NextOf, Laid}

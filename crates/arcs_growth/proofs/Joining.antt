@@ -6,6 +6,8 @@ use mathlib.Core.List.{List, [], _∷_}
 use Prim.Native.Nat.{ℕ, zero, suc, _+_, _-_, _<_, _≤_}
 use native.Mathlib.Omega.{arith}
 use lib.Ieee.{binary64, sub}
+use Rattle.laws.proofs.Below.{below}
+use Rattle.laws.proofs.Truth.{not-both}
 use Rattle.net_node.proofs.Tables.{RoomIn, put-room, either, put-same, put-other}
 use Rattle.net_node.specs.declared.LinkEvent.{LinkEvent}
 use Rattle.net_node.specs.declared.EstTime.{EstTime}
@@ -15,7 +17,6 @@ use Rattle.net_insertion.specs.Insertion.{linkedTo}
 use Rattle.net_joins.specs.Joins.{chainEndAs, chainEnd, joinFake, joinAt, joinedTable}
 use Rattle.grow_rules.specs.Run.{Net, Run, arcTo, memberOf, joinedTo}
 use Rattle.laws.proofs.Members.{All, all-so}
-use Rattle.laws.proofs.Cases.{not-both, below}
 use Rattle.arcs_growth.proofs.Labels.{event, join, stop, baseRole, lands, itself, Labels, Extends, labelled, labelled-old, new-role, new-goal}
 use Rattle.arcs_growth.proofs.Laid.{Laid}
 use Rattle.arcs_growth.proofs.NewNodes.{Attached, apart}

@@ -5,10 +5,11 @@ use mathlib.Core.Logic.{_⊎_, inl, inr}
 use mathlib.Core.Bool.{Bool, true, false}
 use Prim.Native.Nat.{ℕ, zero, suc, _<_, _≤_}
 use native.Mathlib.Omega.{arith}
+use Rattle.laws.proofs.Below.{below}
+use Rattle.laws.proofs.Truth.{not-both}
 use Rattle.net_node.specs.Table.{isFake, fakeKind}
 use Rattle.net_node.specs.declared.EstTime.{EstTime}
 use Rattle.net_node.specs.declared.LinkEvent.{LinkEvent}
-use Rattle.laws.proofs.Cases.{not-both, below}
 use Rattle.arcs_growth.proofs.Labels.{Role, nought, start, event, split, join, stop, fakeRole, baseRole, receives, lands, itself, Labels, Extends}
 
 -- a is the next alternative of i: a later node, a split's Fake, whose prev is i

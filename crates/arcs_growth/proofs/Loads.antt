@@ -6,12 +6,12 @@ use Prim.Native.Nat.{ℕ, zero, suc, _+_, _-_, _<_, _≤_}
 use native.Mathlib.Omega.{arith}
 use borrow.Author.Tests.{eq-eqb}
 use lib.Dec.{eqb}
+use Rattle.laws.proofs.Below.{below}
 use Rattle.laws.specs.Below.{sumBelow}
 use Rattle.book_format.specs.Format.{legs, legParent}
 use Rattle.grow_rules.specs.Run.{Run}
 use Rattle.arcs_growth.specs.Arcs.{one}
 use Rattle.arcs_growth.specs.Read.{Read}
-use Rattle.laws.proofs.Cases.{below}
 use Rattle.net_node.proofs.Tables.{either}
 use Rattle.arcs_growth.proofs.Sums.{sum-same}
 

@@ -4,9 +4,9 @@ use mathlib.Core.Logic.{_⊎_, inl, inr}
 use mathlib.Core.Bool.{Bool, true, false}
 use Prim.Native.Nat.{ℕ, suc, _<_, _≤_}
 use native.Mathlib.Omega.{arith}
+use Rattle.laws.proofs.Truth.{not-both}
 use Rattle.net_node.specs.Table.{isFake}
 use Rattle.net_node.specs.declared.EstTime.{EstTime}
-use Rattle.laws.proofs.Cases.{not-both}
 use Rattle.net_node.proofs.Tables.{either}
 use Rattle.arcs_growth.proofs.Labels.{Role, nought, start, event, split, join, stop, fakeRole, baseRole, receives, lands, itself, Labels, Extends, labelled, labelled-old, new-role, new-owner, new-goal, new-depth}
 use Rattle.arcs_growth.proofs.Laid.{SplitOf, PrevOf, JoinOf, Laid, Step, laterRole, step-laid}

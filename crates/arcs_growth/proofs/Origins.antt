@@ -8,6 +8,7 @@ use native.Mathlib.Omega.{arith}
 use borrow.Author.Tests.{eqb-true, eq-eqb}
 use lib.Dec.{eqb}
 use lib.Ieee.{Float, binary64, add, sub, ofBits}
+use Rattle.laws.proofs.Truth.{not-both}
 use Rattle.net_node.proofs.Tables.{RoomIn, either}
 use Rattle.net_node.specs.Table.{Table, at}
 use Rattle.laws.proofs.Answers.{Holds, holds-then, holds-so}
@@ -25,7 +26,6 @@ use Rattle.arcs_growth.specs.Runs.{runEventsTo, NextTo, Follows}
 use Rattle.arcs_growth.specs.Read.{SomeKept, Read}
 use Rattle.laws.proofs.Below.{or-right}
 use Rattle.laws.proofs.Members.{All, Some, all-so}
-use Rattle.laws.proofs.Cases.{not-both}
 use Rattle.book_legs.proofs.Found.{LegOf, leg-found}
 use Rattle.book_options.proofs.Apart.{Other, Apart, kept-apart}
 use Rattle.arcs_growth.proofs.Labels.{event, fakeRole, baseRole, Labels}

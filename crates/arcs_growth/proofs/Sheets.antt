@@ -7,15 +7,15 @@ use Prim.Native.Nat.{ℕ, zero, suc, _+_, _-_, _<_, _≤_}
 use native.Mathlib.Omega.{arith}
 use borrow.Author.Tests.{eqb-true, eqb-false, eq-eqb, ne-eqb, ltb-true, lt-ltb}
 use lib.Dec.{eqb, ltb}
+use Rattle.laws.proofs.Truth.{not-both}
 use Rattle.net_node.specs.Table.{isFake}
 use Rattle.laws.specs.Below.{someBelow}
-use Rattle.laws.proofs.Below.{some-at, or-right}
+use Rattle.laws.proofs.Below.{some-at, or-right, below}
 use Rattle.net_node.specs.declared.EstTime.{EstTime}
 use Rattle.grow_rules.specs.Run.{Arc}
 use Rattle.arcs_growth.specs.Arcs.{isAlternative, isBase, alternativeOf, sourceOf, goalOf, arcOf}
 use Rattle.arcs_growth.specs.Shape.{isReceiver, Shape}
 use Rattle.net_node.proofs.Tables.{either}
-use Rattle.laws.proofs.Cases.{not-both, below}
 use Rattle.arcs_growth.proofs.Labels.{Role, nought, start, event, split, join, stop, fakeRole, baseRole, receives, lands, itself, Labels}
 use Rattle.arcs_growth.proofs.Laid.{AltOf, SplitOf, StopOf, laterRole, past-first}
 use Rattle.arcs_growth.proofs.NewNodes.{apart}

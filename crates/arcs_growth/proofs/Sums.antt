@@ -4,9 +4,9 @@ use mathlib.Core.Logic.{_⊎_, inl, inr}
 use mathlib.Core.List.{List, [], _∷_}
 use Prim.Native.Nat.{ℕ, zero, suc, _+_, _<_}
 use native.Mathlib.Omega.{arith}
+use Rattle.laws.proofs.Below.{below}
 use Rattle.laws.specs.Below.{sumBelow}
 use Rattle.grow_rules.specs.Run.{Arc}
-use Rattle.laws.proofs.Cases.{below}
 
 pub sum-same : (n : ℕ) (f g : ℕ → ℕ) → ((i : ℕ) → i < n → g i ≡ f i) → sumBelow n g ≡ sumBelow n f
 unfolding sumBelow

@@ -8,6 +8,8 @@ use native.Mathlib.Omega.{arith}
 use borrow.Author.Tests.{ltb-true}
 use lib.Dec.{ltb}
 use lib.Ieee.{binary64, ofBits}
+use Rattle.laws.proofs.Below.{below}
+use Rattle.laws.proofs.Truth.{not-both}
 use Rattle.net_node.proofs.Tables.{RoomIn, put-room, either, put-same, put-other}
 use Rattle.laws.proofs.Answers.{Holds}
 use Rattle.laws.specs.Below.{sumBelow}
@@ -17,7 +19,6 @@ use Rattle.grow_rules.specs.Run.{Arc}
 use Rattle.grow_rules.specs.Growth.{fakeNode, roomFor, lastNode}
 use Rattle.net_node.specs.Left.{Network}
 use Rattle.laws.proofs.Members.{All}
-use Rattle.laws.proofs.Cases.{not-both, below}
 use Rattle.arcs_growth.proofs.Sums.{sum-same, total}
 use Rattle.arcs_growth.proofs.Labels.{baseRole, Labels, Extends}
 use Rattle.arcs_growth.proofs.Laid.{Each, Laid}

@@ -3,10 +3,10 @@ use mathlib.Core.Path.{_≡_, sym, ap, _∙_}
 use mathlib.Core.Logic.{_⊎_, inl, inr}
 use Prim.Native.Nat.{ℕ, suc, _<_}
 use native.Mathlib.Omega.{arith}
+use Rattle.laws.proofs.Below.{below}
 use Rattle.net_node.proofs.Tables.{RoomIn, either, put-same, put-other}
 use Rattle.net_node.specs.Table.{Table, put, at}
 use Rattle.net_node.specs.declared.EstTime.{EstTime}
-use Rattle.laws.proofs.Cases.{below}
 
 -- a column that the new node has as the old one did
 pub put-column : {A : Type 0} (f : EstTime → A) (t : Table) (i : ℕ) (x : EstTime) (places : ℕ) → RoomIn t places → i < places → f x ≡ f (at t i) → (j : ℕ) → f (at (put t i x) j) ≡ f (at t j)

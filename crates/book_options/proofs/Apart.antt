@@ -6,8 +6,8 @@ use Prim.Native.Nat.{ℕ, zero, suc, _+_, _*_}
 use native.Mathlib.Omega.{arith}
 use borrow.Author.Tests.{eqb-true, eq-eqb}
 use lib.Dec.{eqb}
+use Rattle.laws.proofs.Truth.{not-both}
 use Rattle.laws.proofs.Below.{or-right}
-use Rattle.laws.proofs.Cases.{not-both}
 use Rattle.laws.proofs.Members.{All, all-so}
 use Rattle.book_format.specs.Format.{links, origins, destinations, originLink}
 use Rattle.book_options.specs.Options.{member, originBelow, stacked, enter, search, optionsOf, keptOrigins}

@@ -10,6 +10,7 @@ use lib.Dec.{eqb, ltb}
 use lib.ListN.{length, getD, set}
 use lib.Seq.{getD-set-same, getD-set-other}
 use lib.Ieee.{Float, binary64, ofBits}
+use Rattle.laws.proofs.Truth.{true-or-false, not-both}
 use Rattle.net_node.proofs.Tables.{RoomIn, put-room, put-same, put-other, Fits, fits-indexed}
 use Rattle.laws.specs.Answer.{Answer, refused, given, andThen}
 use Rattle.net_node.specs.declared.EstTime.{EstTime}
@@ -19,7 +20,6 @@ use Rattle.net_insertion.specs.Insertion.{flagged}
 use Rattle.net_insertion.proofs.Answers.{flagged-set, flagged-clear}
 use Rattle.net_event_map.specs.EventMap.{headOf}
 use Rattle.laws.proofs.Below.{or-right}
-use Rattle.laws.proofs.Cases.{known, not-both}
 use Rattle.grow_rules.specs.Run.{Net, Run, memberOf}
 use Rattle.grow_rules.specs.Growth.{fakeNode, badFinish, leadsToEnd, roomFor, endFakes, lastNode}
 use Rattle.net_node.specs.Left.{Network}
@@ -46,7 +46,7 @@ below-all n (i ∷ is) h = (h i (member-first i is), below-all n is (λ j t. h j
 
 pub below-member : (n : ℕ) (is : List ℕ) → Below n is → (i : ℕ) → memberOf is i ≡ true → i < n
 below-member n [] b i t = not-both t refl
-below-member n (j ∷ js) b i t = go (below-member n js (b .1) i) (known (eqb j i))
+below-member n (j ∷ js) b i t = go (below-member n js (b .1) i) (true-or-false (eqb j i))
   where
     go : (memberOf js i ≡ true → i < n) → (eqb j i ≡ true) ⊎ (eqb j i ≡ false) → i < n
     go r (inl e) = let d : j ≡ i = eqb-true j i e in omega (arith, d, b .0)
@@ -79,7 +79,7 @@ module _ (cells : List ℕ) (base : ℕ) where
 
   pub ends-real : (last : ℕ) (is : List ℕ) → EndsIn cells base last is → (i : ℕ) → memberOf is i ≡ true → (0 < i) × (0 < getD cells (base + i * 8) 0)
   ends-real last [] e i t = not-both t refl
-  ends-real last (j ∷ js) e i t = go (ends-real (headOf js) js (e .1 .1 .1) i) (known (eqb j i))
+  ends-real last (j ∷ js) e i t = go (ends-real (headOf js) js (e .1 .1 .1) i) (true-or-false (eqb j i))
     where
       go : (memberOf js i ≡ true → (0 < i) × (0 < getD cells (base + i * 8) 0)) → (eqb j i ≡ true) ⊎ (eqb j i ≡ false) → (0 < i) × (0 < getD cells (base + i * 8) 0)
       go r (inl d) = let s : j ≡ i = eqb-true j i d in (subst (λ (k : ℕ). 0 < k) s (e .1 .0), subst (λ (k : ℕ). 0 < getD cells (base + k * 8) 0) s (omega (arith, e .1 .1 .0)))
@@ -119,7 +119,7 @@ module _ (cells : List ℕ) (base : ℕ) where
         other j t = let d : j ≡ i → ⊥ = member-apart is i j f t in getD-set-other cells (base + i * 8) (base + j * 8) (suc last) 0 (λ (q : base + j * 8 ≡ base + i * 8). d (omega (arith, q)))
 
     pub flag-more : (j : ℕ) → flagged cells base j ≡ memberOf is j → flagged (set cells (base + i * 8) (suc last)) base j ≡ memberOf (i ∷ is) j
-    flag-more j h = go (known (eqb i j))
+    flag-more j h = go (true-or-false (eqb i j))
       where
         go : (eqb i j ≡ true) ⊎ (eqb i j ≡ false) → flagged (set cells (base + i * 8) (suc last)) base j ≡ memberOf (i ∷ is) j
         go (inl t) =

@@ -5,8 +5,8 @@ use mathlib.Core.Bool.{true, false}
 use mathlib.Core.List.{List, [], _∷_}
 use Prim.Native.Nat.{ℕ, suc, _≤_, _<_}
 use native.Mathlib.Omega.{arith}
+use Rattle.laws.proofs.Truth.{not-both}
 use Rattle.book_format.specs.Format.{legs, legLink, legParent}
-use Rattle.laws.proofs.Cases.{not-both}
 use Rattle.grow_path.specs.Path.{pathOf}
 use Rattle.grow_waiting.specs.Held.{Waiting}
 use Rattle.grow_waiting.specs.Held.{Untaken}

@@ -8,10 +8,10 @@ use native.Mathlib.Omega.{arith}
 use borrow.Author.Tests.{eqb-true, eq-eqb}
 use lib.Dec.{eqb}
 use lib.ListN.{length, length-append}
+use Rattle.laws.proofs.Truth.{true-or-false, not-both}
 use Rattle.laws.proofs.Below.{or-left, or-right}
 use Rattle.book_format.specs.Format.{links, legs, legLink, legParent}
 use Rattle.book_format.specs.Chains.{legBelow}
-use Rattle.laws.proofs.Cases.{known, not-both}
 use Rattle.grow_path.specs.Path.{legsTo, pathOf, linkOf, pointLink}
 use Rattle.grow_path.proofs.Paths.{Above, path-more}
 use Rattle.grow_rules.specs.Run.{memberOf}
@@ -44,7 +44,7 @@ member-snoc xs j i h = go (memberOf xs i) (eqb j i) refl refl (sym (member-appen
 
 -- none, where one would be wrong
 pub member-none : (xs : List ℕ) (i : ℕ) → (memberOf xs i ≡ true → ⊥) → memberOf xs i ≡ false
-member-none xs i h = go (known (memberOf xs i))
+member-none xs i h = go (true-or-false (memberOf xs i))
   where
     go : (memberOf xs i ≡ true) ⊎ (memberOf xs i ≡ false) → memberOf xs i ≡ false
     go (inl e) = absurd (h e)

@@ -8,6 +8,7 @@ use native.Mathlib.Omega.{arith}
 use lib.ListN.{length, getD, set, length-set}
 use lib.Seq.{getD-set-other}
 use lib.Ieee.{Float, nan, binary64, add}
+use Rattle.laws.proofs.Truth.{true-or-false}
 use Rattle.laws.specs.Answer.{Answer}
 use Rattle.laws.proofs.Below.{sum-more, sum-part}
 use Rattle.floats.specs.Floats.{bookFloat}
@@ -16,7 +17,6 @@ use Rattle.book_format.specs.Format.{links, legs, samples, samplesAt, legAt, le
 use Rattle.book_format.proofs.Places.{sized-samples-at, follow}
 use Rattle.book_format.proofs.Given.{limits, link-float, leg-named}
 use Rattle.net_event_map.specs.EventMap.{Mapped}
-use Rattle.laws.proofs.Cases.{known}
 use Rattle.net_event_map.proofs.Kept.{mapped-before}
 use Rattle.book_legs.specs.declared.TakenLeg.{TakenLeg}
 use Rattle.book_legs.proofs.Takes.{leg-of}
@@ -51,7 +51,7 @@ use Rattle.grow_leg.proofs.Ending.{link-named}
 
 row-alike : (c d : Course) → Sound c → Alike c d → row11 c ≡ row11 d
 unfolding row11
-row-alike c d s a = go (known (reachesLast c))
+row-alike c d s a = go (true-or-false (reachesLast c))
   where
     go : (reachesLast c ≡ true) ⊎ (reachesLast c ≡ false) → (reachesLast c || someBad (pointsPassed c)) ≡ (reachesLast d || someBad (pointsPassed d))
     go (inl e) = ap (λ (t : Bool). t || someBad (pointsPassed c)) e ∙ sym (ap (λ (t : Bool). t || someBad (pointsPassed d)) (sym (reaches-alike a (s .some-points)) ∙ e))

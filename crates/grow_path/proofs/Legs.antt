@@ -10,6 +10,7 @@ use lib.ListN.{length, getD}
 use lib.Ieee.{Float, nan, inf, fin, binary64, top, add, le, fits, ofBits}
 use lib.Ieee.Fits.{add-fits}
 use lib.Ieee.Scale.{finite}
+use Rattle.laws.proofs.Truth.{and-right}
 use Rattle.fields.specs.Fields.{u64At}
 use Rattle.laws.specs.Below.{sumBelow}
 use Rattle.laws.proofs.Below.{none-at, sum-more, sum-part}
@@ -25,7 +26,6 @@ use Rattle.book_format.proofs.Given.{link-float, length-float, sample-good}
 use Rattle.event_walk.specs.declared.Movement.{Movement}
 use Rattle.event_walk.specs.Course.{Course, courseOf, Held, Rises}
 use Rattle.event_walk.proofs.Alike.{Alike}
-use Rattle.laws.proofs.Cases.{and-right}
 use Rattle.grow_path.specs.Path.{pathOf, pointLink, pointOffset, legCourse}
 use Rattle.grow_path.specs.Kept.{PathIn, Sound}
 

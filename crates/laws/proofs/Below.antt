@@ -10,6 +10,14 @@ use Rattle.laws.specs.Below.{someBelow, sumBelow}
 use Rattle.laws.proofs.Truth.{equal-or-not}
 pub use Rattle.laws.proofs.Truth.{or-left, or-right, none-left, none-right}
 
+-- a number below the next one
+pub below : (i n : ℕ) → i < suc n → (i < n) ⊎ (i ≡ n)
+below i n h = go (eq-or-lt-of-le (le-of-suc-le-suc h))
+  where
+    go : (i ≡ n) ⊎ (i < n) → (i < n) ⊎ (i ≡ n)
+    go (inl e) = inr e
+    go (inr l) = inl l
+
 -- ---- one number more
 
 pub some-more : (n : ℕ) (p : ℕ → Bool) → someBelow (n + 1) p ≡ (someBelow n p || p n)

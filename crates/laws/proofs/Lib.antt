@@ -3,5 +3,4 @@ pub mod Lists
 pub mod Below
 pub mod Answers
 pub mod Refusals
-pub mod Cases
 pub mod Members

@@ -43,6 +43,10 @@ pub both : (a b : Bool) → a ≡ true → b ≡ true → (a && b) ≡ true
 both true b e f = f
 both false b e f = e
 
+pub and-none : (a : Bool) → (a && false) ≡ false
+and-none true = refl
+and-none false = refl
+
 -- ---- two cases
 
 -- a Bool is not both

@@ -9,6 +9,7 @@ use lib.Dec.{eqb}
 use lib.ListN.{length, getD, set, length-set}
 use lib.Seq.{getD-set-same, getD-set-other}
 use borrow.Author.Tests.{ne-eqb}
+use Rattle.laws.proofs.Truth.{true-or-false, not-both}
 use Rattle.laws.specs.Below.{someBelow}
 use Rattle.laws.proofs.Below.{some-more, or-right, some-at, none-all}
 use Rattle.net_node.specs.declared.EstType.{EstType}
@@ -20,7 +21,6 @@ use Rattle.net_event_map.specs.declared.Layout.{Layout}
 use Rattle.net_event_map.specs.EventMap.{seenIn, nodesFrom, eventNodes, headOf, lastOf, arriveAt, clearAt, bit, CellsApart, Mapped, MapOnly, RealKind}
 use Rattle.net_event_map.proofs.Lists.{same-arrive, arrive-same, arrive-other, arrive-no-clear, clear-same, clear-other, clear-no-arrive, head-first, head-kept, last-own, has, Inside, Walked, nodes-added, nodes-passed, walk, last-inside, behind-last, behind-other, walked-none, some-first, nodes-none}
 use Rattle.net_node.proofs.Tables.{either}
-use Rattle.laws.proofs.Cases.{known, not-both}
 
 -- ---- an event's kind
 
@@ -84,7 +84,7 @@ module _ (node : ℕ → EstTime) (e : LinkEvent) where
   seen-first z n = go (walk node e 0 n)
     where
       go : (nodesFrom node e 0 n ≡ []) ⊎ Walked node e 0 n (headOf (nodesFrom node e 0 n)) → not (eqb (headOf (nodesFrom node e 0 n)) 0) ≡ someBelow n (has node e)
-      go (inl s) = ap (λ (q : List ℕ). not (eqb (headOf q) 0)) s ∙ sym (none-all n (has node e) (λ i h. lacks i h (known (has node e i))))
+      go (inl s) = ap (λ (q : List ℕ). not (eqb (headOf q) 0)) s ∙ sym (none-all n (has node e) (λ i h. lacks i h (true-or-false (has node e i))))
         where
           lacks : (i : ℕ) → i < n → (has node e i ≡ true) ⊎ (has node e i ≡ false) → has node e i ≡ false
           lacks i h (inl t) = absurd (nodes-none node e 0 n i s (record { from = omega arith; below = omega arith; has-it = t }))
@@ -117,7 +117,7 @@ pub record Agree (c d : List ℕ) (w : Layout) : Type 0 where
 module _ {c : List ℕ} {w : Layout} {node : ℕ → EstTime} {n : ℕ} (v : Mapped c w node n) where
   -- node 0 is no event
   pub no-zeroth : (e : LinkEvent) → RealKind (e .«est_type») → has node e 0 ≡ false
-  no-zeroth e r = go (known (has node e 0))
+  no-zeroth e r = go (true-or-false (has node e 0))
     where
       go : (has node e 0 ≡ true) ⊎ (has node e 0 ≡ false) → has node e 0 ≡ false
       go (inl t) = fake-real (e .«est_type») (v .zeroth e t) r

@@ -9,7 +9,7 @@ use native.Mathlib.Omega.{arith}
 use lib.Dec.{eqb, T}
 use lib.ListN.{length, getD, length-append}
 use borrow.Author.Tests.{eqb-true, eqb-false, eq-eqb, ne-eqb}
-use Rattle.laws.proofs.Cases.{known, not-both, and-left, and-none}
+use Rattle.laws.proofs.Truth.{true-or-false, not-both, and-left, and-none}
 use Rattle.net_node.specs.declared.EstType.{EstType}
 use Rattle.net_node.specs.declared.EstType.the-variants.{Arrive, Clear, Fake}
 use Rattle.net_node.specs.declared.LinkEvent.{LinkEvent}
@@ -167,7 +167,7 @@ module _ (node : ℕ → EstTime) (e : LinkEvent) where
   pub walk : (a k : ℕ) → (nodesFrom node e a k ≡ []) ⊎ Walked node e a k (headOf (nodesFrom node e a k))
   unfolding nodesFrom
   walk a zero = inl refl
-  walk a (suc k) = go (known (has node e a)) (walk (suc a) k)
+  walk a (suc k) = go (true-or-false (has node e a)) (walk (suc a) k)
     where
       go : (has node e a ≡ true) ⊎ (has node e a ≡ false) → (nodesFrom node e (suc a) k ≡ []) ⊎ Walked node e (suc a) k (headOf (nodesFrom node e (suc a) k))
           → (nodesFrom node e a (suc k) ≡ []) ⊎ Walked node e a (suc k) (headOf (nodesFrom node e a (suc k)))
@@ -190,7 +190,7 @@ module _ (node : ℕ → EstTime) (e : LinkEvent) where
   pub last-inside : (a k : ℕ) → (nodesFrom node e a k ≡ []) ⊎ Inside node e a k (lastOf (nodesFrom node e a k))
   unfolding nodesFrom
   last-inside a zero = inl refl
-  last-inside a (suc k) = go (known (has node e (a + k))) (last-inside a k)
+  last-inside a (suc k) = go (true-or-false (has node e (a + k))) (last-inside a k)
     where
       go : (has node e (a + k) ≡ true) ⊎ (has node e (a + k) ≡ false) → (nodesFrom node e a k ≡ []) ⊎ Inside node e a k (lastOf (nodesFrom node e a k))
           → (nodesFrom node e a (suc k) ≡ []) ⊎ Inside node e a (suc k) (lastOf (nodesFrom node e a (suc k)))
@@ -232,7 +232,7 @@ module _ (node : ℕ → EstTime) (e : LinkEvent) where
   pub nodes-inside : (a k m : ℕ) → m < length (nodesFrom node e a k) → Inside node e a k (getD (nodesFrom node e a k) m 0)
   unfolding nodesFrom
   nodes-inside a zero m h = absurd (not-suc-le-zero h)
-  nodes-inside a (suc k) m h = go (known (has node e a)) m h (nodes-inside (suc a) k)
+  nodes-inside a (suc k) m h = go (true-or-false (has node e a)) m h (nodes-inside (suc a) k)
     where
       wider : (j : ℕ) → Inside node e (suc a) k j → Inside node e a (suc k) j
       wider j i = record { from = omega (arith, i .from); below = omega (arith, i .below); has-it = i .has-it }

@@ -9,10 +9,10 @@ use borrow.Author.Tests.{eqb-true, eqb-false, eq-eqb, ne-eqb}
 use lib.Dec.{eqb}
 use lib.ListN.{length, getD, set, length-set}
 use lib.Seq.{getD-set-same, getD-set-other, ext-getD}
+use Rattle.laws.proofs.Truth.{true-or-false, not-both}
 use Rattle.net_event_map.specs.declared.Layout.{Layout}
 use Rattle.net_event_map.specs.EventMap.{bit, CellsApart}
 use Rattle.laws.proofs.Below.{none-left, none-right}
-use Rattle.laws.proofs.Cases.{known, not-both}
 use Rattle.net_strands.specs.declared.EstJoinPath.{EstJoinPath}
 use Rattle.net_strands.specs.Entries.{entryAt, entriesIn, nodeOf, Valid}
 use Rattle.net_strands.proofs.Entries.{entries-more}
@@ -76,7 +76,7 @@ module _ (base : ℕ) where
   unfolding marks hits
   marks-hit v [] c p l h = not-both h refl
   marks-hit v (x ∷ xs) c p l h =
-      go (known (hits xs p)) (marks-hit v xs (set c (base + x .«est_idx_next» * 8 + 1) v) p (subst (λ (m : ℕ). p < m) (sym (length-set c (base + x .«est_idx_next» * 8 + 1) v)) l))
+      go (true-or-false (hits xs p)) (marks-hit v xs (set c (base + x .«est_idx_next» * 8 + 1) v) p (subst (λ (m : ℕ). p < m) (sym (length-set c (base + x .«est_idx_next» * 8 + 1) v)) l))
     where
       q : ℕ
       q = base + x .«est_idx_next» * 8 + 1
@@ -104,7 +104,7 @@ module _ (base : ℕ) where
   hits-placed : (es : List EstJoinPath) (places p : ℕ) → ((k : ℕ) → k < length es → nodeOf es k < places) → hits es p ≡ true → Placed places p
   unfolding hits
   hits-placed [] places p v h = not-both h refl
-  hits-placed (x ∷ xs) places p v h = go (known (eqb (base + x .«est_idx_next» * 8 + 1) p)) (hits-placed xs places p (λ k l. v (suc k) (omega arith)))
+  hits-placed (x ∷ xs) places p v h = go (true-or-false (eqb (base + x .«est_idx_next» * 8 + 1) p)) (hits-placed xs places p (λ k l. v (suc k) (omega arith)))
     where
       q : ℕ
       q = base + x .«est_idx_next» * 8 + 1
@@ -117,7 +117,7 @@ module _ (base : ℕ) where
   hits-node : (es : List EstJoinPath) (i : ℕ) → hits es (base + i * 8 + 1) ≡ names es i
   unfolding hits names
   hits-node [] i = refl
-  hits-node (x ∷ xs) i = ap (λ (b : Bool). b || hits xs (base + i * 8 + 1)) (same (x .«est_idx_next») (known (eqb (x .«est_idx_next») i))) ∙ ap (λ (b : Bool). eqb (x .«est_idx_next») i || b) (hits-node xs i)
+  hits-node (x ∷ xs) i = ap (λ (b : Bool). b || hits xs (base + i * 8 + 1)) (same (x .«est_idx_next») (true-or-false (eqb (x .«est_idx_next») i))) ∙ ap (λ (b : Bool). eqb (x .«est_idx_next») i || b) (hits-node xs i)
     where
       same : (j : ℕ) → (eqb j i ≡ true) ⊎ (eqb j i ≡ false) → eqb (base + j * 8 + 1) (base + i * 8 + 1) ≡ eqb j i
       same j (inl t) = eq-eqb (base + j * 8 + 1) (base + i * 8 + 1) (ap (λ (k : ℕ). base + k * 8 + 1) (eqb-true j i t)) ∙ sym t
@@ -130,7 +130,7 @@ module _ (base : ℕ) where
 module _ {c : List ℕ} {w : Layout} {es : List EstJoinPath} (p : CellsApart c w) (v : Valid es (w .places)) where
   -- a cell that is no place's mark stays
   stays : (m q : ℕ) → ((i : ℕ) → i < w .places → q ≡ w .«nodes_at» + i * 8 + 1 → ⊥) → getD (marks (w .«nodes_at») m es c) q 0 ≡ getD c q 0
-  stays m q h = marks-miss (w .«nodes_at») m es c q (go (known (hits (w .«nodes_at») es q)))
+  stays m q h = marks-miss (w .«nodes_at») m es c q (go (true-or-false (hits (w .«nodes_at») es q)))
     where
       go : (hits (w .«nodes_at») es q ≡ true) ⊎ (hits (w .«nodes_at») es q ≡ false) → hits (w .«nodes_at») es q ≡ false
       go (inl t) = let o = hits-placed (w .«nodes_at») es (w .places) q (v .node) t in absurd (h (o .node) (o .within) (o .is))
@@ -144,7 +144,7 @@ module _ {c : List ℕ} {w : Layout} {es : List EstJoinPath} (p : CellsApart c w
 
   module _ (u : (i : ℕ) → i < w .places → getD c (w .«nodes_at» + i * 8 + 1) 0 ≡ 0) where
     pub marked-all : NamesMarked (marks (w .«nodes_at») 1 es c) w es
-    marked-all = record { is = λ i h. go i h (known (names es i)) }
+    marked-all = record { is = λ i h. go i h (true-or-false (names es i)) }
       where
         go : (i : ℕ) → i < w .places → (names es i ≡ true) ⊎ (names es i ≡ false) → getD (marks (w .«nodes_at») 1 es c) (w .«nodes_at» + i * 8 + 1) 0 ≡ bit (names es i)
         go i h (inl t) = marks-hit (w .«nodes_at») 1 es c (w .«nodes_at» + i * 8 + 1) (omega (arith, p .nodes-inside)) (hits-node (w .«nodes_at») es i ∙ t) ∙ ap bit (sym t)
@@ -152,7 +152,7 @@ module _ {c : List ℕ} {w : Layout} {es : List EstJoinPath} (p : CellsApart c w
 
     -- set and taken back
     pub marks-back : marks (w .«nodes_at») 0 es (marks (w .«nodes_at») 1 es c) ≡ c
-    marks-back = ext-getD 0 back c (length-marks (w .«nodes_at») 0 es set-all ∙ length-marks (w .«nodes_at») 1 es c) (λ q h. go q (subst (λ (m : ℕ). q < m) (length-marks (w .«nodes_at») 0 es set-all) h) (known (hits (w .«nodes_at») es q)))
+    marks-back = ext-getD 0 back c (length-marks (w .«nodes_at») 0 es set-all ∙ length-marks (w .«nodes_at») 1 es c) (λ q h. go q (subst (λ (m : ℕ). q < m) (length-marks (w .«nodes_at») 0 es set-all) h) (true-or-false (hits (w .«nodes_at») es q)))
       where
         set-all : List ℕ
         set-all = marks (w .«nodes_at») 1 es c
