@@ -27,11 +27,11 @@ use Rattle.arcs_passes.proofs.Lent.{arcs-agree}
 use Rattle.arcs_passes.proofs.PassesKeep.{passes-keep, passes-arcs, passes-events}
 
 pub record SheetWell (b : List ℕ) (places : ℕ) (g : Grown) (u : Table) : Type 0 where
-  -- "the same as often each, both ends and every bit of time and distance"
+  -- the same as often each, both ends and every bit of time and distance
   pub arcs : SameArcs (g .noted) (arcsRead (at u) (g .nodes))
-  -- "arcs = added + joined + finished"
+  -- arcs = added + joined + finished
   pub counted : length (g .noted) ≡ g .added + g .joined + g .finished
-  -- "1 + splits = joined + finished"
+  -- 1 + splits = joined + finished
   pub balanced : 1 + g .splits ≡ g .joined + g .finished
   -- each arc leads out with zeros, from the start to an origin's Arrive, or from one event of a run to the very next with the run's own differences
   pub of-runs : AllOfRuns b (at u) (g .noted)

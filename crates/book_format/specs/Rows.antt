@@ -92,7 +92,7 @@ row4 b =
     || someBelow (origins b) (badOriginValue b)
     || someBelow (samples b) (badSample b)
 
--- ---- row 5: "index names nothing; link 0 not all zero; other link of length 0; next = next alternative, nonzero"
+-- ---- row 5: "index .. names nothing; link 0 not all zero; other link of length 0; next = next alternative, nonzero"
 
 -- no link of the book has this number
 abbrev pub noSuchLink : List ℕ → ℕ → Bool

@@ -59,7 +59,7 @@ unfoldable pub clearsNext : Course → Heads → Bool
 unfolding clears
 clearsNext c h = clears (c .offset (h .«pt_idx_front»)) (c .offset (h .«pt_idx_back»)) (c .length)
 
--- "Where the back index becomes 1 nothing is emitted"
+-- where the back index becomes 1 nothing is emitted
 unfoldable pub emits : Course → Heads → Bool
 unfolding inRange clearsNext
 emits c h = inRange c h && not (clearsNext c h && eqb (h .«pt_idx_back») 0)

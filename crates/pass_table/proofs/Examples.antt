@@ -31,7 +31,7 @@ numbers next link kind rest = next ∷ 0 ∷ 0 ∷ 0 ∷ link ∷ kind ∷ rest
 abbrev three : Float → ℕ → ℕ → ℕ → Table
 three time next link kind = record { floats = floats time (floats o (floats o [])); numbers = numbers next link kind (numbers 0 0 2 (numbers 0 0 2 [])) }
 
--- "36,864 + 64 times 3"
+-- 36,864 + 64 times 3
 abbrev asked : ℕ
 asked = 37056
 

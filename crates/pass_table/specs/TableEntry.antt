@@ -24,7 +24,7 @@ use Rattle.pass_table.specs.declared.TimedTable.the-variants.{Whole, Ref
 unfoldable pub tableRow3 : ℕ → ℕ → Bool
 tableRow3 n bytes = ltb n 3 || ltb 65535 n || ltb bytes (36864 + 64 * min n 65535)
 
--- Row 4: "float not finite or above 1,000,000,000 in size (a table takes either sign); .. kind unknown"
+-- Row 4: "float not finite or above 1,000,000,000 in size .. (a table takes either sign); .. kind unknown"
 unfoldable pub badFloats : EstTime → Bool
 badFloats x =
     not (tableFloat (x .«time_sched»))
