@@ -14,7 +14,7 @@ use Rattle.event_walk.specs.Course.{Course, courseOf, Held, Walkable}
 use Rattle.event_walk.specs.Walk.{pointsPassed, row11}
 use Rattle.event_maker.specs.declared.Made.{Made}
 use Rattle.event_maker.specs.declared.Made.the-variants.{Listed, Refused}
-use Rattle.event_maker.specs.Maker.{movementOf, lentCourse, badCounts, badFloats, falling, rowsTo11, answered, answerOf, madeNumber, madeCount, listPlaces, floatsAs, numbersAs}
+use Rattle.event_maker.specs.Maker.{movementOf, lentCourse, badCounts, badFloats, falling, rowsTo11, answered, answerOf, madeNumber, madeCount, listPlaces, floatsAs, numbersAs, LentLeg, EventList, EventsMade, courseIn, placesIn}
 use Rattle.event_maker.specs.Parts.{firstNumber, walkAnswer, FloatsListed, NumbersListed, isRefused, keptFloats, keptNumbers}
 use Rattle.event_maker.proofs.Rows.{within-counts, left-held, left-walkable, answer-refused, answer-walk}
 use Rattle.event_maker.proofs.Walks.{passed-most, floats-kept, numbers-kept}
@@ -91,12 +91,6 @@ count-most c samples places = go (badCounts c) refl
 
 -- ---- the answer as a number and a count
 
-module _ (c : Course) (samples links : List ℕ) (places : ℕ) {r : Made} (e : r ≡ answerOf c samples places) where
-  pub told-count : (n : ℕ) → r ≡ Listed n → n ≤ 1131072
-  told-count n d = subst (λ (x : Made). madeCount x ≤ 1131072) (sym e ∙ d) (count-most c samples places)
-
-  pub told : (x : Made) → r ≡ x → (madeNumber x ≡ madeNumber (answerOf c samples places)) × (madeCount x ≡ madeCount (answerOf c samples places))
-  told x d = (ap madeNumber (sym d ∙ e), ap madeCount (sym d ∙ e))
-
-  pub told-lists : (f u : ℕ) (fs : List Float) (us : List ℕ) → fs ≡ floatsAs r c f → us ≡ numbersAs r c links u → (fs ≡ floatsAs (answerOf c samples places) c f) × (us ≡ numbersAs (answerOf c samples places) c links u)
-  told-lists f u fs us a b = (a ∙ ap (λ (x : Made). floatsAs x c f) e, b ∙ ap (λ (x : Made). numbersAs x c links u) e)
+-- how many events there are at most
+pub made-most : {l : LentLeg} {lent left : EventList} {r : Made} → EventsMade l lent left r → madeCount r ≤ 1131072
+made-most {l} {lent} m = subst (λ (x : Made). madeCount x ≤ 1131072) (sym (m .answer)) (count-most (courseIn l) (l .samples) (placesIn lent))

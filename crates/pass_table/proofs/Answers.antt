@@ -117,7 +117,7 @@ whole-nodes (refused j) n k e = let z : _≡_ {A = ℕ} 0 1 = cc in absurd (nonz
 whole-nodes (given t) n k e = cc
 
 -- as many nodes as a u32 can tell
-pub whole-most : (lent : Slices) (departure : Float) (k : ℕ) (r : TimedTable) → r ≡ timedAnswer (timesOf lent departure) → r ≡ Whole k → k ≤ 65535
+whole-most : (lent : Slices) (departure : Float) (k : ℕ) (r : TimedTable) → r ≡ timedAnswer (timesOf lent departure) → r ≡ Whole k → k ≤ 65535
 unfolding timesOf firstNumber
 whole-most lent departure k r e d = go (firstNumber t (nodesIn t) departure (bytesIn (lent .work))) refl (sym d ∙ e)
   where
@@ -128,5 +128,7 @@ whole-most lent departure k r e d = go (firstNumber t (nodesIn t) departure (byt
     go zero f g = let h = most-nodes t (nodesIn t) departure (bytesIn (lent .work)) f in omega (arith, whole-nodes (passes t (nodesIn t) departure) (nodesIn t) k g)
     go (suc j) f g = let z : _≡_ {A = ℕ} 0 1 = cc in absurd (nonzero 0 (sym z))
 
-pub answer-told : (a r x : TimedTable) → r ≡ a → r ≡ x → (tableNumber x ≡ tableNumber a) × (tableNodes x ≡ tableNodes a)
-answer-told a r x e d = (ap tableNumber (sym d ∙ e), ap tableNodes (sym d ∙ e))
+-- how many nodes are told at most
+pub nodes-most : {lent left : Slices} {departure : Float} (r : TimedTable) → TimesUpdated lent left departure r → tableNodes r ≤ 65535
+nodes-most {lent} {left} {departure} (Whole k) u = whole-most lent departure k (Whole k) (u .answer) refl
+nodes-most (Refused k) u = omega arith

@@ -10,7 +10,7 @@ use Rattle.sheets.proofs.sheet_text.Tie as tie
 
 returns : tie.Need-returns
 returns c =
-    program-text _ _ _ _ _ (text-is (c .before .before .before .before .before .before .before .list-book .ensures))
+    program-text _ _ _ _ _ _ (text-is (c .before .before .before .before .before .before .before .list-book .ensures))
     (length-replicate (programSizes .floats) (ofBits binary64 0)) (length-replicate {A = ℕ} (programSizes .numbers) 0)
     (length-replicate 3072 (ofBits binary64 0)) (length-replicate {A = ℕ} 8192 0) (length-replicate {A = ℕ} 2048 0)
 
