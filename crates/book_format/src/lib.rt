@@ -82,7 +82,7 @@ const DESTINATION_WIDTH: usize = 4;
 
 const LEG_WIDTH: usize = 12;
 
-const SAMPLE_WIDTH: usize = 24;
+pub const SAMPLE_WIDTH: usize = 24;
 
 // The float of a pattern that a book may hold.
 fn float_of(bits: u64) -> f64

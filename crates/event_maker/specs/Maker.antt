@@ -71,9 +71,16 @@ lentCourse train samples offsets links = courseOf samples offsets (movementOf tr
 abbrev pub courseIn : LentLeg → Course
 courseIn l = lentCourse (l .train) (l .samples) (l .offsets) (l .links)
 
+-- the widths of an event in the list: time, offset and speed; link and kind
+abbrev pub eventFloatWidth : ℕ
+eventFloatWidth = 3
+
+abbrev pub eventNumberWidth : ℕ
+eventNumberWidth = 2
+
 -- how many events the list has places for
 unfoldable pub listPlaces : ℕ → ℕ → ℕ
-listPlaces floats numbers = min (floats / 3) (numbers / 2)
+listPlaces floats numbers = min (floats / eventFloatWidth) (numbers / eventNumberWidth)
 
 abbrev pub placesIn : EventList → ℕ
 placesIn l = listPlaces (length (l .floats)) (length (l .numbers))
@@ -140,11 +147,11 @@ eventNumbers links (p ∷ ps) = getD links (p .point) 0 ∷ kindNumber (p .«est
 
 -- "rest zero"; a refusal leaves nothing else
 abbrev pub floatsAs : Made → Course → ℕ → List Float
-floatsAs (Listed n) c size = eventFloats (pointsPassed c) ++ zeroFloats (size - n * 3)
+floatsAs (Listed n) c size = eventFloats (pointsPassed c) ++ zeroFloats (size - n * eventFloatWidth)
 floatsAs (Refused n) c size = zeroFloats size
 
 abbrev pub numbersAs : Made → Course → List ℕ → ℕ → List ℕ
-numbersAs (Listed n) c links size = eventNumbers links (pointsPassed c) ++ zeros (size - n * 2)
+numbersAs (Listed n) c links size = eventNumbers links (pointsPassed c) ++ zeros (size - n * eventNumberWidth)
 numbersAs (Refused n) c links size = zeros size
 
 -- ---- what is promised: the answer, and the list as it is left

@@ -10,7 +10,7 @@ use Rattle.laws.specs.Below.{someBelow}
 use Rattle.laws.specs.Refusals.{firstOf}
 use Rattle.floats.specs.Floats.{bookValue}
 use Rattle.space.specs.Space.{zeros, zeroFloats}
-use Rattle.book_format.specs.Format.{sampleFrom}
+use Rattle.book_format.specs.Format.{sampleFrom, sampleWidth}
 use Rattle.book_format.specs.Rows.{badSampleFrom, sampleFalls}
 use Rattle.net_node.specs.Table.{kindNumber}
 use Rattle.event_walk.specs.declared.PassedPoint.{PassedPoint}
@@ -19,7 +19,7 @@ use Rattle.event_walk.specs.Walk.{pointsPassed, reachesLast, someBad}
 use Rattle.event_maker.specs.declared.Made.{Made}
 use Rattle.event_maker.specs.declared.Made.the-variants.{Listed, Refused}
 use Rattle.event_maker.specs.Maker.{badCounts, badFloats, falling, rowsTo11, floatsAs, numbersAs}
-use Rattle.event_maker.specs.Maker.{EventList, placesIn}
+use Rattle.event_maker.specs.Maker.{EventList, placesIn, eventFloatWidth, eventNumberWidth}
 
 -- ---- the rows
 
@@ -42,11 +42,11 @@ unfoldable pub offsetFalls : List Float → ℕ → Bool
 offsetFalls offsets k = lt (getD offsets (suc k) nan) (getD offsets k nan)
 
 unfoldable pub badAt : List ℕ → ℕ → Bool
-badAt samples i = badSampleFrom samples (i * 24)
+badAt samples i = badSampleFrom samples (i * sampleWidth)
 
 unfoldable pub fallsAt : List ℕ → ℕ → Bool
 unfolding sampleFalls
-fallsAt samples i = sampleFalls (sampleFrom samples (i * 24)) (sampleFrom samples (suc i * 24))
+fallsAt samples i = sampleFalls (sampleFrom samples (i * sampleWidth)) (sampleFrom samples (suc i * sampleWidth))
 
 -- ---- the events
 
@@ -61,10 +61,14 @@ walkAnswer c places = cond (someBad (pointsPassed c)) (Refused 11) (countAnswer 
 
 -- the list with an event at place k
 unfoldable pub putEventFloats : List Float → ℕ → PassedPoint → List Float
-putEventFloats fs k p = set (set (set fs (k * 3) (p .time)) (k * 3 + 1) (p .offset)) (k * 3 + 2) (p .speed)
+putEventFloats fs k p =
+    let f = k * eventFloatWidth in
+    set (set (set fs f (p .time)) (f + 1) (p .offset)) (f + 2) (p .speed)
 
 unfoldable pub putEventNumbers : List ℕ → ℕ → PassedPoint → ℕ → List ℕ
-putEventNumbers us k p link = set (set us (k * 2) link) (k * 2 + 1) (kindNumber (p .«est_type»))
+putEventNumbers us k p link =
+    let u = k * eventNumberWidth in
+    set (set us u link) (u + 1) (kindNumber (p .«est_type»))
 
 -- the list where no refusal leaves it to be made zero
 abbrev pub FloatsListed : Made → Course → ℕ → List Float → Type 0

@@ -6,14 +6,20 @@ ghost use mathlib.Core.Path.{_≡_};
 ghost use mathlib.Core.Bool.{false};
 ghost use Prim.Native.Nat.{suc, _+_, _*_, _≤_, _<_};
 ghost use lib.ListN.{length};
+ghost use Rattle.book_format.specs.Format.{sampleWidth};
 ghost use Rattle.space.specs.Space.{zeros, zeroFloats};
 ghost use Rattle.book_format.specs.Rows.{badSampleFrom};
 ghost use Rattle.event_walk.specs.Course.{courseOf, Held, Walkable};
-ghost use Rattle.event_maker.specs.Maker.{lentLeg, listAtEntry, listAtExit, listPlaces, EventsMade};
+ghost use Rattle.event_maker.specs.Maker.{lentLeg, listAtEntry, listAtExit, listPlaces, eventFloatWidth, eventNumberWidth, EventsMade};
 ghost use Rattle.event_maker.specs.Parts.{numberOf, firstNumber, sweepNumber};
 ghost use Rattle.event_maker.specs.Parts.{badOffset, offsetFalls, badAt, fallsAt};
 ghost use Rattle.event_maker.specs.Parts.{countAnswer, putEventFloats, putEventNumbers, EventsListed};
 ghost use Rattle.event_maker.specs.Parts.{isRefused, keptFloats, keptNumbers};
+
+// How many floats and how many numbers an event has in the list.
+const EVENT_FLOATS: usize = 3;
+
+const EVENT_NUMBERS: usize = 2;
 
 // How many events are in the list, or the number of a refusal.
 pub enum Made {
@@ -25,7 +31,7 @@ pub enum Made {
 fn list_places(floats: usize, numbers: usize) -> usize
     ensures { λ r. ⌜ r ≡ listPlaces floats numbers ⌝ }
 {
-    space::smaller(floats / 3, numbers / 2)
+    space::smaller(floats / EVENT_FLOATS, numbers / EVENT_NUMBERS)
 }
 
 // ---- rows 3, 4, 7, and 11 for the samples
@@ -72,13 +78,13 @@ fn is_bad_sample(samples: &[u8], at: usize) -> bool
 
 // Whether the sample after number i is no later, or further back.
 fn sample_falls(samples: &[u8], i: usize) -> bool
-    requires { ⌜ suc i * 24 + 24 ≤ length (now samples) ⌝ }
+    requires { ⌜ suc i * sampleWidth + sampleWidth ≤ length (now samples) ⌝ }
     requires { ⌜ badAt (now samples) i ≡ false ⌝ }
     requires { ⌜ badAt (now samples) (i + 1) ≡ false ⌝ }
     ensures { λ r. ⌜ r ≡ fallsAt (now (samples .entry)) i ⌝ }
 {
-    let a = book_format::sample_from(samples, i * 24);
-    let b = book_format::sample_from(samples, (i + 1) * 24);
+    let a = book_format::sample_from(samples, i * book_format::SAMPLE_WIDTH);
+    let b = book_format::sample_from(samples, (i + 1) * book_format::SAMPLE_WIDTH);
     book_format::sample_falls(a, b)
 }
 
@@ -86,7 +92,7 @@ fn sample_falls(samples: &[u8], i: usize) -> bool
 // further back.
 fn samples_number(samples: &[u8], n: usize) -> u32
     requires { ⌜ 0 < n ⌝ }
-    requires { ⌜ n * 24 ≤ length (now samples) ⌝ }
+    requires { ⌜ n * sampleWidth ≤ length (now samples) ⌝ }
     ensures { λ r. ⌜ r ≡ sweepNumber n (badAt (now (samples .entry))) (fallsAt (now (samples .entry))) ⌝ }
 {
     if is_bad_sample(samples, 0) {
@@ -95,7 +101,7 @@ fn samples_number(samples: &[u8], n: usize) -> u32
     let mut falls = false;
     let mut i = 0;
     while i + 1 < n {
-        if is_bad_sample(samples, (i + 1) * 24) {
+        if is_bad_sample(samples, (i + 1) * book_format::SAMPLE_WIDTH) {
             return 4;
         }
         falls = falls | sample_falls(samples, i);
@@ -107,7 +113,7 @@ fn samples_number(samples: &[u8], n: usize) -> u32
 // Rows 3, 4 and 7, and 11 for the samples, in that order; 0 where none holds.
 fn first_number(samples: &[u8], offsets: &[f64], m: Movement) -> u32
     requires { ⌜ m .at ≡ 0 ⌝ }
-    requires { ⌜ m .samples * 24 ≤ length (now samples) ⌝ }
+    requires { ⌜ m .samples * sampleWidth ≤ length (now samples) ⌝ }
     requires { ⌜ m .points ≤ length (now offsets) ⌝ }
     ensures { λ r. ⌜ r ≡ firstNumber (courseOf (now (samples .entry)) (now (offsets .entry)) m)
         (now (samples .entry)) ⌝ }
@@ -129,7 +135,7 @@ fn first_number(samples: &[u8], offsets: &[f64], m: Movement) -> u32
     if of_points != 0 {
         return 7;
     }
-    let farthest = book_format::sample_from(samples, (m.samples - 1) * 24);
+    let farthest = book_format::sample_from(samples, (m.samples - 1) * book_format::SAMPLE_WIDTH);
     if offsets[m.points - 1] <= farthest.offset {
         return 11;
     }
@@ -147,21 +153,21 @@ fn list_event(
     p: PassedPoint,
     link: u32,
 )
-    requires { ⌜ places * 3 ≤ length (now floats) ⌝ }
-    requires { ⌜ places * 2 ≤ length (now numbers) ⌝ }
+    requires { ⌜ places * eventFloatWidth ≤ length (now floats) ⌝ }
+    requires { ⌜ places * eventNumberWidth ≤ length (now numbers) ⌝ }
     ensures floats { λ _. ⌜ (k < places → now (floats .exit) ≡ putEventFloats (now (floats .entry)) k p) ⌝ }
     ensures numbers { λ _. ⌜ (k < places → now (numbers .exit) ≡ putEventNumbers (now (numbers .entry)) k p link) ⌝ }
 {
     if k >= places {
         return;
     }
-    floats[k * 3] = p.time;
-    floats[k * 3 + 1] = p.offset;
-    floats[k * 3 + 2] = p.speed;
+    floats[k * EVENT_FLOATS] = p.time;
+    floats[k * EVENT_FLOATS + 1] = p.offset;
+    floats[k * EVENT_FLOATS + 2] = p.speed;
     let est_type = p.est_type;
     let kind = net_node::kind_number(est_type);
-    numbers[k * 2] = link;
-    numbers[k * 2 + 1] = kind;
+    numbers[k * EVENT_NUMBERS] = link;
+    numbers[k * EVENT_NUMBERS + 1] = kind;
 }
 
 // The answer to so many events, none of them bad.
@@ -247,7 +253,7 @@ pub fn make_events(
     space::clear_numbers(numbers);
     let m = Movement {
         at: 0,
-        samples: samples.len() / 24,
+        samples: samples.len() / book_format::SAMPLE_WIDTH,
         points: space::smaller(offsets.len(), links.len()),
         length: train_length,
     };

@@ -8,7 +8,7 @@ use lib.ListN.{getD}
 use lib.Ieee.{Float, nan, le}
 use Rattle.net_node.specs.declared.EstType.{EstType}
 use Rattle.book_format.specs.declared.Sample.{Sample}
-use Rattle.book_format.specs.Format.{sampleFrom}
+use Rattle.book_format.specs.Format.{sampleFrom, sampleWidth}
 use Rattle.event_formula.specs.Event.{clears, passingAt}
 use Rattle.event_walk.specs.declared.Movement.{Movement}
 use Rattle.event_walk.specs.declared.Heads.{Heads}
@@ -37,7 +37,7 @@ unseen offsets length h =
 
 -- a train's sample i
 abbrev pub sampleOf : List ℕ → Movement → ℕ → Sample
-sampleOf b m i = sampleFrom b (m .at + i * 24)
+sampleOf b m i = sampleFrom b (m .at + i * sampleWidth)
 
 -- a point that is passed at an offset between two samples
 unfoldable pub pointWith : Sample → Sample → Float → ℕ → EstType → PassedPoint

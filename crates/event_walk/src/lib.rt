@@ -6,7 +6,7 @@ ghost use mathlib.Core.Bool.{true, false};
 ghost use Prim.Native.Nat.{ℕ, _+_, _-_, _*_, _≤_, _<_};
 ghost use lib.ListN.{length, getD};
 ghost use lib.Ieee.{nan, isNan};
-ghost use Rattle.book_format.specs.Format.{sampleFrom};
+ghost use Rattle.book_format.specs.Format.{sampleFrom, sampleWidth};
 ghost use Rattle.book_format.specs.Rows.{badSampleFrom};
 ghost use Rattle.event_walk.specs.Course.{courseOf, Held, Rises, Walkable};
 ghost use Rattle.event_walk.specs.Search.{Between, Reached, unseen, sampleOf, pointWith};
@@ -51,7 +51,7 @@ pub fn reaches_last(book: &[u8], offsets: &[f64], m: Movement) -> bool
     let last = offsets[m.points - 1];
     let mut i = 0;
     while i < m.samples {
-        let s = book_format::sample_from(book, m.at + i * 24);
+        let s = book_format::sample_from(book, m.at + i * book_format::SAMPLE_WIDTH);
         if last <= s.offset {
             return true;
         }
@@ -135,7 +135,7 @@ pub fn start_heads(book: &[u8], offsets: &[f64], m: Movement) -> Heads
 
 // The offset of the sample whose first byte is at `at`.
 fn sample_offset(book: &[u8], at: usize) -> f64
-    requires { ⌜ at + 24 ≤ length (now book) ⌝ }
+    requires { ⌜ at + sampleWidth ≤ length (now book) ⌝ }
     requires { ⌜ badSampleFrom (now book) at ≡ false ⌝ }
     ensures { λ r. ⌜ r ≡ sampleFrom (now (book .entry)) at .offset ⌝ }
 {
@@ -144,13 +144,13 @@ fn sample_offset(book: &[u8], at: usize) -> f64
 
 // The first sample from `from` on that reaches x, or where the samples end.
 fn first_reaching(book: &[u8], m: Movement, from: usize, x: f64) -> usize
-    requires { ⌜ m .at + m .samples * 24 ≤ length (now book) ⌝ }
-    requires { ⌜ ((i : ℕ) → i < m .samples → badSampleFrom (now book) (m .at + i * 24) ≡ false) ⌝ }
+    requires { ⌜ m .at + m .samples * sampleWidth ≤ length (now book) ⌝ }
+    requires { ⌜ ((i : ℕ) → i < m .samples → badSampleFrom (now book) (m .at + i * sampleWidth) ≡ false) ⌝ }
     ensures { λ r. ⌜ Reached (λ i. sampleOf (now (book .entry)) m i .offset) (m .samples) x from r ⌝ }
 {
     let mut i = from;
     while i < m.samples {
-        let offset = sample_offset(book, m.at + i * 24);
+        let offset = sample_offset(book, m.at + i * book_format::SAMPLE_WIDTH);
         if x <= offset {
             return i;
         }
@@ -168,15 +168,15 @@ fn passed_at(
     point: usize,
     est_type: EstType,
 ) -> PassedPoint
-    requires { ⌜ m .at + m .samples * 24 ≤ length (now book) ⌝ }
-    requires { ⌜ ((k : ℕ) → k < m .samples → badSampleFrom (now book) (m .at + k * 24) ≡ false) ⌝ }
+    requires { ⌜ m .at + m .samples * sampleWidth ≤ length (now book) ⌝ }
+    requires { ⌜ ((k : ℕ) → k < m .samples → badSampleFrom (now book) (m .at + k * sampleWidth) ≡ false) ⌝ }
     requires { ⌜ 0 < i ⌝ }
     requires { ⌜ i < m .samples ⌝ }
     ensures { λ r. ⌜ r ≡ pointWith (sampleOf (now (book .entry)) m i) (sampleOf (now (book .entry)) m (i - 1))
         offset point «est_type» ⌝ }
 {
-    let s = book_format::sample_from(book, m.at + i * 24);
-    let before = book_format::sample_from(book, m.at + (i - 1) * 24);
+    let s = book_format::sample_from(book, m.at + i * book_format::SAMPLE_WIDTH);
+    let before = book_format::sample_from(book, m.at + (i - 1) * book_format::SAMPLE_WIDTH);
     let p = event_formula::pass_at(s, before, offset);
     PassedPoint {
         time: p.time,

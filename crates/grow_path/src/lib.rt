@@ -56,7 +56,7 @@ pub fn movement_of(s: Sections, leg: TakenLeg, depth: usize, length: f64) -> Mov
     ensures { λ r. ⌜ r ≡ movementOn s leg depth «length» ⌝ }
 {
     Movement {
-        at: s.samples_at + leg.first * 24,
+        at: s.samples_at + leg.first * book_format::SAMPLE_WIDTH,
         samples: leg.end - leg.first,
         points: depth + 1,
         length,
