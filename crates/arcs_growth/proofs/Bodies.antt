@@ -8,8 +8,8 @@ use native.Mathlib.Numerals.{add-one}
 use native.Mathlib.Omega.{arith}
 use lib.Ieee.{binary64, sub}
 use Rattle.laws.proofs.Below.{below}
-use Rattle.laws.proofs.Truth.{not-both}
-use Rattle.net_node.proofs.Tables.{RoomIn, either}
+use Rattle.laws.proofs.Truth.{not-both, equal-or-not}
+use Rattle.net_node.proofs.Tables.{RoomIn}
 use Rattle.net_node.specs.declared.EstTime.{EstTime}
 use Rattle.net_node.specs.declared.TimedEvent.{TimedEvent}
 use Rattle.net_node.specs.Table.{Indexed, blank, noLinkEvent, Table, at, isFake, fakeKind, withNextAlt}
@@ -74,7 +74,7 @@ module _ {L : Labels} {places : ℕ} {t : Table} {n : ℕ} {ends : List ℕ} {ar
 
   -- a column that the link to a next leaves alone
   column : {A : Type 0} (f : EstTime → A) → f (linkedTo (at t i) n e) ≡ f (at t i) → (j : ℕ) → j < n → f (after j) ≡ f (at t j)
-  column f s j l = go (either j i)
+  column f s j l = go (equal-or-not j i)
     where
       go : (j ≡ i) ⊎ (j ≡ i → ⊥) → f (after j) ≡ f (at t j)
       go (inl q) = ap (λ (m : ℕ). f (after m)) q ∙ ap f found ∙ s ∙ ap (λ (m : ℕ). f (at t m)) (sym q)
@@ -119,7 +119,7 @@ module _ {L : Labels} {places : ℕ} {t : Table} {n : ℕ} {ends : List ℕ} {ar
     graph = event-graph (v .graph) add-attached add-timed base empty (λ c q r. absurd (fresh c q r)) (v .no-stops) out (new-end v n (omega arith)) (ap (λ (x : EstTime). isFake x) added ∙ real) add-empty arc same;
     no-stops = λ j l q. stops j q (below j n l);
     chains = λ j a l p q r. chain j a p q r (below j n l);
-    ended = λ j m. ending j m (v .ended j m) (either j i);
+    ended = λ j m. ending j m (v .ended j m) (equal-or-not j i);
     bottom = x .depth 1 (v .graph .laid .two) ∙ v .bottom;
   }
     where
@@ -178,7 +178,7 @@ module _ {L : Labels} {places : ℕ} {t : Table} {n : ℕ} {ends : List ℕ} {ar
   beside j l d = split-other t i n p j d (λ (q : j ≡ n). omega arith)
 
   pub split-column : {A : Type 0} (f : EstTime → A) → f (withNextAlt (at t i) n) ≡ f (at t i) → (j : ℕ) → j < n → f (at (splitAt t i n p) j) ≡ f (at t j)
-  split-column f s j l = go (either j i)
+  split-column f s j l = go (equal-or-not j i)
     where
       go : (j ≡ i) ⊎ (j ≡ i → ⊥) → f (half j) ≡ f (at t j)
       go (inl q) = ap (λ (m : ℕ). f (half m)) q ∙ ap f divided ∙ s ∙ ap (λ (m : ℕ). f (at t m)) (sym q)

@@ -8,8 +8,8 @@ use native.Mathlib.Omega.{arith}
 use borrow.Author.Tests.{eq-eqb, ne-eqb, ltb-true}
 use lib.Dec.{eqb, ltb}
 use lib.Ieee.{binary64, ofBits}
-use Rattle.laws.proofs.Truth.{not-both}
-use Rattle.net_node.proofs.Tables.{RoomIn, put-room, either, put-same, put-other}
+use Rattle.laws.proofs.Truth.{not-both, equal-or-not}
+use Rattle.net_node.proofs.Tables.{RoomIn, put-room, put-same, put-other}
 use Rattle.laws.proofs.Answers.{Holds, holds-then}
 use Rattle.laws.proofs.Below.{or-right, below}
 use Rattle.net_node.specs.declared.EstTime.{EstTime}
@@ -98,7 +98,7 @@ module _ {b : List ℕ} {places : ℕ} {arcs : List Arc} {k : ℕ} (i : ℕ) (is
   at-other j h q = put-other one i (leadsToEnd (at one i) n) j q ∙ put-other (t .table) n fake j (λ (e : j ≡ n). omega arith)
 
   column : {A : Type 0} (f : EstTime → A) → f (leadsToEnd (node i) n) ≡ f (node i) → (j : ℕ) → j < n → f (at two j) ≡ f (node j)
-  column f s j h = go (either j i)
+  column f s j h = go (equal-or-not j i)
     where
       go : (j ≡ i) ⊎ (j ≡ i → ⊥) → f (at two j) ≡ f (node j)
       go (inl q) = ap (λ (m : ℕ). f (at two m)) q ∙ ap f at-end ∙ s ∙ ap (λ (m : ℕ). f (node m)) (sym q)
@@ -152,10 +152,10 @@ module _ {b : List ℕ} {places : ℕ} {arcs : List Arc} {k : ℕ} (i : ℕ) (is
   more-linked : Linked (at two) (suc n) (suc (suc n))
   unfolding fakeNode
   more-linked = record {
-    next = λ j h. next j (below j n h) (either j i);
+    next = λ j h. next j (below j n h) (equal-or-not j i);
     next-alt = λ j h. next-alt j (below j n h);
     prev = λ j h. prev j (below j n h);
-    prev-alt = λ j h. prev-alt j (below j n h) (either alt 0);
+    prev-alt = λ j h. prev-alt j (below j n h) (equal-or-not alt 0);
   }
     where
       next : (j : ℕ) → (j < n) ⊎ (j ≡ n) → (j ≡ i) ⊎ (j ≡ i → ⊥) → at two j .«idx_next» < suc (suc n)
@@ -184,9 +184,9 @@ module _ {b : List ℕ} {places : ℕ} {arcs : List Arc} {k : ℕ} (i : ℕ) (is
     labels = M;
     room = put-room one i (leadsToEnd (at one i) n) places one-room;
     graph = subst (Graph M (at two) (suc n) is arcs) (omega arith) (stop-graph (d .graph) attached timed (self-base (L .role i) (end .self)) (end .empty) (λ a q r. chained a q r) is head rest (new-fake .0) (new-fake .1) arc-is);
-    ended = λ j m. ended j m (either j i);
+    ended = λ j m. ended j m (equal-or-not j i);
     distinct = d .distinct .1;
-    closed = λ j h p z. closed j p z (below j n h) (either j i);
+    closed = λ j h p z. closed j p z (below j n h) (equal-or-not j i);
     notes = notes-more b node (at two) x (omega arith) (attached .happens) arcs (d .notes);
     before = λ p. (omega arith, ap receives (new-role L n stop 0 0 0));
     linked = more-linked;

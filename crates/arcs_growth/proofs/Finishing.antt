@@ -8,7 +8,7 @@ use native.Mathlib.Omega.{arith}
 use borrow.Author.Tests.{eqb-true, eq-eqb, ne-eqb, not-false}
 use lib.Dec.{eqb}
 use lib.Ieee.{binary64, ofBits}
-use Rattle.laws.proofs.Truth.{not-both}
+use Rattle.laws.proofs.Truth.{not-both, equal-or-not}
 use Rattle.net_node.specs.Table.{at}
 use Rattle.laws.specs.Below.{sumBelow}
 use Rattle.laws.proofs.Below.{none-left, none-right}
@@ -16,7 +16,6 @@ use Rattle.net_node.specs.declared.EstTime.{EstTime}
 use Rattle.grow_rules.specs.Run.{Arc, Net, Run, arcToEnd, memberOf}
 use Rattle.grow_rules.specs.Growth.{badFinish, finishedAt}
 use Rattle.laws.proofs.Members.{all-so}
-use Rattle.net_node.proofs.Tables.{either}
 use Rattle.arcs_growth.proofs.Sums.{sum-point, total, total-more}
 use Rattle.arcs_growth.proofs.Labels.{baseRole, Labels, Extends}
 use Rattle.arcs_growth.proofs.Laid.{Laid}
@@ -101,7 +100,7 @@ module _ {L : Labels} {places : ℕ} {net : Net} {run : Run} {saved : List Run} 
         graph = record { laid = v; bases = g .body .graph .bases; noted = noted };
         no-stops = g .body .no-stops;
         chains = g .body .chains;
-        ended = λ i o. ended i o (either i p);
+        ended = λ i o. ended i o (equal-or-not i p);
         bottom = g .body .bottom;
       };
       within = g .within;

@@ -5,12 +5,12 @@ use mathlib.Core.Bool.{true, false}
 use mathlib.Core.List.{List, _∷_}
 use Prim.Native.Nat.{ℕ, suc, _+_, _<_}
 use native.Mathlib.Omega.{arith}
+use Rattle.laws.proofs.Truth.{equal-or-not}
 use Rattle.net_node.specs.Table.{isFake}
 use Rattle.net_node.specs.declared.EstTime.{EstTime}
 use Rattle.laws.specs.Below.{sumBelow}
 use Rattle.grow_rules.specs.Run.{Arc, memberOf}
 use Rattle.arcs_growth.specs.Arcs.{one}
-use Rattle.net_node.proofs.Tables.{either}
 use Rattle.arcs_growth.proofs.Sums.{sum-same, sum-suc, total, total-more}
 use Rattle.arcs_growth.proofs.Labels.{Role, event, split, join, stop, baseRole, lands, Labels, Extends, labelled, labelled-old, new-role}
 use Rattle.arcs_growth.proofs.Laid.{Laid}
@@ -32,7 +32,7 @@ pub record Timed (node after : ℕ → EstTime) (n b : ℕ) : Type 0 where
 
 -- the next of a base is a node
 pub next-within : {L : Labels} {node : ℕ → EstTime} {n : ℕ} → Laid L node n → (i : ℕ) → i < n → baseRole (L .role i) ≡ true → node i .«idx_next» < n
-next-within {L} {node} {n} v i h b = go (either (node i .«idx_next») 0)
+next-within {L} {node} {n} v i h b = go (equal-or-not (node i .«idx_next») 0)
   where
     go : (node i .«idx_next» ≡ 0) ⊎ (node i .«idx_next» ≡ 0 → ⊥) → node i .«idx_next» < n
     go (inl e) = omega (arith, v .two)

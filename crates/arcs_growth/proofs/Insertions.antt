@@ -10,7 +10,7 @@ use lib.Dec.{eqb}
 use borrow.Author.Tests.{eqb-true}
 use lib.Ieee.{Float, binary64, sub, lt}
 use Rattle.laws.proofs.Below.{below}
-use Rattle.laws.proofs.Truth.{not-both, and-left, and-right}
+use Rattle.laws.proofs.Truth.{not-both, and-left, and-right, equal-or-not}
 use Rattle.laws.proofs.Answers.{Holds}
 use Rattle.floats.specs.Floats.{gap}
 use Rattle.net_node.specs.declared.LinkEvent.{LinkEvent}
@@ -24,7 +24,6 @@ use Rattle.net_insertion.specs.declared.Inserted.the-variants.{Added, Moved, Re
 use Rattle.net_insertion.specs.Insertion.{matches, placeAt, addBehind, splitAt, inserted, insertedTable}
 use Rattle.grow_rules.specs.Run.{Net, Run, After, arcTo, addedTo, movedTo, memberOf, insertedRun, insertEvent}
 use Rattle.laws.proofs.Members.{some-all}
-use Rattle.net_node.proofs.Tables.{either}
 use Rattle.arcs_growth.proofs.Labels.{Role, nought, start, event, split, join, stop, fakeRole, baseRole, itself, Labels, Extends, labelled, labelled-old, new-role, new-owner, new-depth}
 use Rattle.arcs_growth.proofs.Laid.{EventOf, NextOf, Laid}
 use Rattle.arcs_growth.proofs.NewNodes.{Attached}
@@ -224,7 +223,7 @@ module _ {L : Labels} {places : ℕ} {net : Net} {run : Run} {saved : List Run} 
       still j l f (inr q) = (sym (a .other j l q) ∙ f, (add-timed (g .body) i h room e .time j l q, add-timed (g .body) i h room e .distance j l q))
 
       later : Later L M net more
-      later = record { labels = x; nodes = omega arith; ends = λ j q. q; still = λ j l f. still j l f (either j i) }
+      later = record { labels = x; nodes = omega arith; ends = λ j q. q; still = λ j l f. still j l f (equal-or-not j i) }
 
       which : (j : ℕ) → j < suc n → baseRole (M .role j) ≡ true → at (addBehind t i n e) j .«idx_next» ≡ 0 → (j ≡ n) ⊎ ((j < n) × (j ≡ p → ⊥))
       which j l b f = go (below j n l)

@@ -7,8 +7,8 @@ use Prim.Native.Nat.{ℕ, zero, suc, _+_, _-_, _<_, _≤_}
 use native.Mathlib.Omega.{arith}
 use lib.Ieee.{binary64, sub}
 use Rattle.laws.proofs.Below.{below}
-use Rattle.laws.proofs.Truth.{not-both}
-use Rattle.net_node.proofs.Tables.{RoomIn, put-room, either, put-same, put-other}
+use Rattle.laws.proofs.Truth.{not-both, equal-or-not}
+use Rattle.net_node.proofs.Tables.{RoomIn, put-room, put-same, put-other}
 use Rattle.net_node.specs.declared.LinkEvent.{LinkEvent}
 use Rattle.net_node.specs.declared.EstTime.{EstTime}
 use Rattle.net_node.specs.declared.TimedEvent.{TimedEvent}
@@ -86,7 +86,7 @@ module _ (t : Table) (n places c : ℕ) (e : TimedEvent) (room : RoomIn t places
 
   -- a column that both leave alone
   three-column : {A : Type 0} (f : EstTime → A) → f (linkedTo (at one last) n e) ≡ f (at one last) → f (withPrevAlt (at t c) n) ≡ f (at t c) → (j : ℕ) → j < n → f (at three j) ≡ f (at t j)
-  three-column f p q j l = go (either j last) ∙ put-column f t c (withPrevAlt (at t c) n) places room (omega arith) q j
+  three-column f p q j l = go (equal-or-not j last) ∙ put-column f t c (withPrevAlt (at t c) n) places room (omega arith) q j
     where
       go : (j ≡ last) ⊎ (j ≡ last → ⊥) → f (at three j) ≡ f (at one j)
       go (inl r) = ap (λ (k : ℕ). f (at three k)) r ∙ ap f three-last ∙ p ∙ ap (λ (k : ℕ). f (at one k)) (sym r)
@@ -98,7 +98,7 @@ module _ (t : Table) (n places c : ℕ) (e : TimedEvent) (room : RoomIn t places
 
   prev-alt-here : at three c .«idx_prev_alt» ≡ n
   unfolding linkedTo
-  prev-alt-here = go (either c last) ∙ ap (λ (x : EstTime). x .«idx_prev_alt») (put-same t c (withPrevAlt (at t c) n) places room (omega arith))
+  prev-alt-here = go (equal-or-not c last) ∙ ap (λ (x : EstTime). x .«idx_prev_alt») (put-same t c (withPrevAlt (at t c) n) places room (omega arith))
     where
       go : (c ≡ last) ⊎ (c ≡ last → ⊥) → at three c .«idx_prev_alt» ≡ at one c .«idx_prev_alt»
       go (inl r) = ap (λ (k : ℕ). at three k .«idx_prev_alt») r ∙ ap (λ (x : EstTime). x .«idx_prev_alt») three-last ∙ ap (λ (k : ℕ). at one k .«idx_prev_alt») (sym r)
@@ -106,7 +106,7 @@ module _ (t : Table) (n places c : ℕ) (e : TimedEvent) (room : RoomIn t places
 
   prev-alt-other : (j : ℕ) → j < n → (j ≡ c → ⊥) → at three j .«idx_prev_alt» ≡ at t j .«idx_prev_alt»
   unfolding linkedTo
-  prev-alt-other j l d = go (either j last) ∙ ap (λ (x : EstTime). x .«idx_prev_alt») (put-other t c (withPrevAlt (at t c) n) j d)
+  prev-alt-other j l d = go (equal-or-not j last) ∙ ap (λ (x : EstTime). x .«idx_prev_alt») (put-other t c (withPrevAlt (at t c) n) j d)
     where
       go : (j ≡ last) ⊎ (j ≡ last → ⊥) → at three j .«idx_prev_alt» ≡ at one j .«idx_prev_alt»
       go (inl r) = ap (λ (k : ℕ). at three k .«idx_prev_alt») r ∙ ap (λ (x : EstTime). x .«idx_prev_alt») three-last ∙ ap (λ (k : ℕ). at one k .«idx_prev_alt») (sym r)
@@ -121,7 +121,7 @@ module _ (t : Table) (n places c : ℕ) (e : TimedEvent) (room : RoomIn t places
     alt = three-column (λ (x : EstTime). x .«idx_next_alt») refl refl;
     prev = three-column (λ (x : EstTime). x .«idx_prev») refl refl;
     happens = three-column (λ (x : EstTime). x .«link_event») refl refl;
-    prev-alt = λ j l. chained j l (either j c);
+    prev-alt = λ j l. chained j l (equal-or-not j c);
     new-alt = ap (λ (x : EstTime). x .«idx_next_alt») three-new;
     new-prev = ap (λ (x : EstTime). x .«idx_prev») three-new;
   }
@@ -158,7 +158,7 @@ module _ (t : Table) (n places c : ℕ) (e : TimedEvent) (room : RoomIn t places
       a = join-attached
 
       next : (i : ℕ) → (i < n) ⊎ (i ≡ n) → at three i .«idx_next» < suc n
-      next i (inl l) = go (either i last)
+      next i (inl l) = go (equal-or-not i last)
         where
           go : (i ≡ last) ⊎ (i ≡ last → ⊥) → at three i .«idx_next» < suc n
           go (inl q) = let z : at three i .«idx_next» ≡ n = ap (λ (k : ℕ). at three k .«idx_next») q ∙ a .here in omega arith
@@ -174,7 +174,7 @@ module _ (t : Table) (n places c : ℕ) (e : TimedEvent) (room : RoomIn t places
       prev i (inr q) = let z : at three i .«idx_prev» ≡ last = ap (λ (k : ℕ). at three k .«idx_prev») q ∙ a .new-prev in omega arith
 
       prev-alt : (i : ℕ) → (i < n) ⊎ (i ≡ n) → at three i .«idx_prev_alt» < suc n
-      prev-alt i (inl l) = go (either i c)
+      prev-alt i (inl l) = go (equal-or-not i c)
         where
           go : (i ≡ c) ⊎ (i ≡ c → ⊥) → at three i .«idx_prev_alt» < suc n
           go (inl q) = let z : at three i .«idx_prev_alt» ≡ n = ap (λ (k : ℕ). at three k .«idx_prev_alt») q ∙ prev-alt-here in omega arith
@@ -186,7 +186,7 @@ module _ (t : Table) (n places c : ℕ) (e : TimedEvent) (room : RoomIn t places
       alt-rises i p (inr q) = let z : at three i .«idx_next_alt» ≡ 0 = ap (λ (k : ℕ). at three k .«idx_next_alt») q ∙ a .new-alt in absurd (omega arith)
 
       prev-alt-rises : (i : ℕ) → 0 < at three i .«idx_prev_alt» → (i < n) ⊎ (i ≡ n) → i < at three i .«idx_prev_alt»
-      prev-alt-rises i p (inl l) = go (either i c)
+      prev-alt-rises i p (inl l) = go (equal-or-not i c)
         where
           go : (i ≡ c) ⊎ (i ≡ c → ⊥) → i < at three i .«idx_prev_alt»
           go (inl q) = let z : at three i .«idx_prev_alt» ≡ n = ap (λ (k : ℕ). at three k .«idx_prev_alt») q ∙ prev-alt-here in omega arith
@@ -287,7 +287,7 @@ module _ {L : Labels} {places : ℕ} {net : Net} {run : Run} {saved : List Run} 
   stops j q (inr y) = apart lands (ap (M .role) y ∙ m) q refl refl
 
   chains : (j a : ℕ) → at after j .«idx_prev_alt» ≡ a → 0 < a → lands (M .role j) ≡ true → (j < n) ⊎ (j ≡ n) → (lands (M .role a) ≡ true) × (M .goal a ≡ M .goal j)
-  chains j a q r y (inl l) = go (either j c)
+  chains j a q r y (inl l) = go (equal-or-not j c)
     where
       go : (j ≡ c) ⊎ (j ≡ c → ⊥) → (lands (M .role a) ≡ true) × (M .goal a ≡ M .goal j)
       go (inl z) =
@@ -355,10 +355,10 @@ module _ {L : Labels} {places : ℕ} {net : Net} {run : Run} {saved : List Run} 
       unchained a q r = let z = fresh .1 .1 in omega arith
 
       later : Later L M net more
-      later = record { labels = x; nodes = omega arith; ends = λ j q. q; still = λ j l f. still j l f (either j (n - 1)) }
+      later = record { labels = x; nodes = omega arith; ends = λ j q. q; still = λ j l f. still j l f (equal-or-not j (n - 1)) }
 
       owned : (j : ℕ) → baseRole (M .role j) ≡ true → at after j .«idx_next» ≡ 0 → memberOf (net .ends) j ≡ false → (j < n) ⊎ (j ≡ n) → Owned M j saved
       owned j b z o (inl l) =
           owned-with x l saved
-          (owned-popped L run saved (u .owned j l (ap baseRole (sym (x .role j l)) ∙ b) (still j l z (either j (n - 1)) .0) o) (λ (q : j ≡ p). closed j (q ∙ sym last-is) z))
+          (owned-popped L run saved (u .owned j l (ap baseRole (sym (x .role j l)) ∙ b) (still j l z (equal-or-not j (n - 1)) .0) o) (λ (q : j ≡ p). closed j (q ∙ sym last-is) z))
       owned j b z o (inr y) = not-both b (ap baseRole (ap (M .role) y ∙ m))

@@ -6,13 +6,13 @@ use Prim.Native.Nat.{ℕ, zero, suc, _+_, _-_, _<_, _≤_}
 use native.Mathlib.Omega.{arith}
 use borrow.Author.Tests.{eq-eqb}
 use lib.Dec.{eqb}
+use Rattle.laws.proofs.Truth.{equal-or-not}
 use Rattle.laws.proofs.Below.{below}
 use Rattle.laws.specs.Below.{sumBelow}
 use Rattle.book_format.specs.Format.{legs, legParent}
 use Rattle.grow_rules.specs.Run.{Run}
 use Rattle.arcs_growth.specs.Arcs.{one}
 use Rattle.arcs_growth.specs.Read.{Read}
-use Rattle.net_node.proofs.Tables.{either}
 use Rattle.arcs_growth.proofs.Sums.{sum-same}
 
 -- the sum of what the legs of a path count, from leg i back to its first, in so many steps
@@ -91,7 +91,7 @@ module _ {b : List ℕ} (r : Read b) where
   kids-none p c f (suc k) (suc i) h l =
       let q = r .parents i (omega arith) in
       let a = kids-none p c f k (legParent b i) (omega arith) (omega arith) in
-      let z = go (either (c (suc i)) 0) in
+      let z = go (equal-or-not (c (suc i)) 0) in
       omega arith
     where
       go : (c (suc i) ≡ 0) ⊎ (c (suc i) ≡ 0 → ⊥) → c (suc i) ≡ 0
@@ -110,7 +110,7 @@ module _ {b : List ℕ} (r : Read b) where
   unfolding along
   kids-fewer p c s f zero i h l = omega arith
   kids-fewer p c s f (suc k) zero h l = omega arith
-  kids-fewer p c s f (suc k) (suc i) h l = go (either (c (suc i)) 0) (kids-fewer p c s f k (legParent b i) (omega (arith, r .parents i l)) (omega (arith, r .parents i l)))
+  kids-fewer p c s f (suc k) (suc i) h l = go (equal-or-not (c (suc i)) 0) (kids-fewer p c s f k (legParent b i) (omega (arith, r .parents i l)) (omega (arith, r .parents i l)))
     where
       go : (c (suc i) ≡ 0) ⊎ (c (suc i) ≡ 0 → ⊥) → along b c k (legParent b i) ≤ along b (λ (x : ℕ). one (eqb p x)) k (legParent b i)
           → c (suc i) + along b c k (legParent b i) ≤ one (eqb p (suc i)) + along b (λ (x : ℕ). one (eqb p x)) k (legParent b i)
@@ -141,7 +141,7 @@ module _ {b : List ℕ} (r : Read b) where
   unfolding along
   firsts-most c f zero i l = omega arith
   firsts-most c f (suc k) zero l = omega arith
-  firsts-most c f (suc k) (suc i) l = go (either (c (suc i)) 0) (firsts-most c f k (legParent b i) (omega (arith, r .parents i l)))
+  firsts-most c f (suc k) (suc i) l = go (equal-or-not (c (suc i)) 0) (firsts-most c f k (legParent b i) (omega (arith, r .parents i l)))
     where
       none : (k : ℕ) → along b c k 0 ≡ 0
       none zero = refl

@@ -4,10 +4,9 @@ use mathlib.Core.Logic.{_⊎_, inl, inr}
 use mathlib.Core.Bool.{Bool, true, false}
 use Prim.Native.Nat.{ℕ, suc, _<_, _≤_}
 use native.Mathlib.Omega.{arith}
-use Rattle.laws.proofs.Truth.{not-both}
+use Rattle.laws.proofs.Truth.{not-both, equal-or-not}
 use Rattle.net_node.specs.Table.{isFake}
 use Rattle.net_node.specs.declared.EstTime.{EstTime}
-use Rattle.net_node.proofs.Tables.{either}
 use Rattle.arcs_growth.proofs.Labels.{Role, nought, start, event, split, join, stop, fakeRole, baseRole, receives, lands, itself, Labels, Extends, labelled, labelled-old, new-role, new-owner, new-goal, new-depth}
 use Rattle.arcs_growth.proofs.Laid.{SplitOf, PrevOf, JoinOf, Laid, Step, laterRole, step-laid}
 
@@ -71,7 +70,7 @@ module _ {L : Labels} {node after : ℕ → EstTime} {n b : ℕ} (v : Laid L nod
     labels = x;
     prev = a .prev;
     happens = a .happens;
-    next = λ i h. next i h (either i b);
+    next = λ i h. next i h (equal-or-not i b);
     alt = λ i h. inl (a .alt i h);
     prev-alt = λ i h. prev-alt i h (a .prev-alt i h);
     joins = λ i h e. a .other i h (λ (q : i ≡ b). not-both base (ap (λ (k : ℕ). baseRole (L .role k)) (sym q) ∙ ap baseRole e));
@@ -206,7 +205,7 @@ split-laid {L} {node} {after} {n} {p} v a base empty s k = step-laid v (record {
   prev = a .prev;
   happens = a .happens;
   next = λ i h. inl (a .next i h);
-  alt = λ i h. alt i h (either i p);
+  alt = λ i h. alt i h (equal-or-not i p);
   prev-alt = λ i h. inl (a .prev-alt i h);
   joins = λ i h e. a .next i h;
   stops = λ i h e. absurd (s i h e);

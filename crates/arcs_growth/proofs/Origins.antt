@@ -8,8 +8,8 @@ use native.Mathlib.Omega.{arith}
 use borrow.Author.Tests.{eqb-true, eq-eqb}
 use lib.Dec.{eqb}
 use lib.Ieee.{Float, binary64, add, sub, ofBits}
-use Rattle.laws.proofs.Truth.{not-both}
-use Rattle.net_node.proofs.Tables.{RoomIn, either}
+use Rattle.laws.proofs.Truth.{not-both, equal-or-not}
+use Rattle.net_node.proofs.Tables.{RoomIn}
 use Rattle.net_node.specs.Table.{Table, at}
 use Rattle.laws.proofs.Answers.{Holds, holds-then, holds-so}
 use Rattle.laws.specs.Answer.{given, andThen}
@@ -204,7 +204,7 @@ module _ {b : List ℕ} (r : Read b) (places : ℕ) (idx : ℕ) (kept : memberOf
             is x e = let q : suc k ≡ suc x = eqb-true (suc k) (suc x) e in omega arith
 
             fresh : (x : ℕ) → x ≡ k → legCount saved (suc x) ≡ 0
-            fresh x e = go (either (legCount saved (suc x)) 0)
+            fresh x e = go (equal-or-not (legCount saved (suc x)) 0)
               where
                 less : suc x - 1 ≡ k
                 less = omega arith
@@ -269,7 +269,7 @@ module _ {b : List ℕ} (r : Read b) (places : ℕ) (idx : ℕ) (kept : memberOf
       go a i c j zero e = tt
       go a i c j (suc k) e =
           let o = leg-found b (legs b) 0 link k e in
-          record { rooted = origin-rooted a i c j k o; closed = closed (either (at (c .net .table) 1 .«idx_next») 0); unused = still-unused a i c j k o }
+          record { rooted = origin-rooted a i c j k o; closed = closed (equal-or-not (at (c .net .table) 1 .«idx_next») 0); unused = still-unused a i c j k o }
         where
           closed : (at (c .net .table) 1 .«idx_next» ≡ 0) ⊎ (at (c .net .table) 1 .«idx_next» ≡ 0 → ⊥) → 0 < at (c .net .table) 1 .«idx_next»
           closed (inl z) = let w = j .later .still 1 (omega (arith, d .grows .body .graph .laid .two, i .later .nodes)) z .0 in let f = i .closes in absurd (omega arith)

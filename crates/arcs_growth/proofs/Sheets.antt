@@ -7,7 +7,7 @@ use Prim.Native.Nat.{ℕ, zero, suc, _+_, _-_, _<_, _≤_}
 use native.Mathlib.Omega.{arith}
 use borrow.Author.Tests.{eqb-true, eqb-false, eq-eqb, ne-eqb, ltb-true, lt-ltb}
 use lib.Dec.{eqb, ltb}
-use Rattle.laws.proofs.Truth.{not-both}
+use Rattle.laws.proofs.Truth.{not-both, equal-or-not}
 use Rattle.net_node.specs.Table.{isFake}
 use Rattle.laws.specs.Below.{someBelow}
 use Rattle.laws.proofs.Below.{some-at, or-right, below}
@@ -15,7 +15,6 @@ use Rattle.net_node.specs.declared.EstTime.{EstTime}
 use Rattle.grow_rules.specs.Run.{Arc}
 use Rattle.arcs_growth.specs.Arcs.{isAlternative, isBase, alternativeOf, sourceOf, goalOf, arcOf}
 use Rattle.arcs_growth.specs.Shape.{isReceiver, Shape}
-use Rattle.net_node.proofs.Tables.{either}
 use Rattle.arcs_growth.proofs.Labels.{Role, nought, start, event, split, join, stop, fakeRole, baseRole, receives, lands, itself, Labels}
 use Rattle.arcs_growth.proofs.Laid.{AltOf, SplitOf, StopOf, laterRole, past-first}
 use Rattle.arcs_growth.proofs.NewNodes.{apart}
@@ -217,7 +216,7 @@ module _ {L : Labels} {node : ℕ → EstTime} {n : ℕ} {arcs : List Arc} {k : 
   goal-stop zero r h l e = absurd (omega arith)
   goal-stop (suc m) r h l e =
       let s = v .laid .each r h .stops e in
-      goal-at-fake m r (not-last r h) (v .laid .each r h .kind ∙ ap fakeRole e) ∙ ap (goalOf node all m) (s .next) ∙ go s (either (suc r) n) (goal-stop m)
+      goal-at-fake m r (not-last r h) (v .laid .each r h .kind ∙ ap fakeRole e) ∙ ap (goalOf node all m) (s .next) ∙ go s (equal-or-not (suc r) n) (goal-stop m)
     where
       go : StopOf L node n r → (suc r ≡ n) ⊎ (suc r ≡ n → ⊥) → ((s : ℕ) → s < n → n < m + s → L .role s ≡ stop → goalOf node all m s ≡ 0) → goalOf node all m (suc r) ≡ 0
       go s (inl q) ih = ap (goalOf node all m) q ∙ last-goal m
@@ -243,7 +242,7 @@ module _ {L : Labels} {node : ℕ → EstTime} {n : ℕ} {arcs : List Arc} {k : 
 
       go : (c : Bool) → eqb (node m .«idx_next_alt») i ≡ c → (p < m → m ≤ all → alternativeOf node all m i ≡ p) → cond c m (alternativeOf node all m i) ≡ p
       go true f ih = there (below m n w) (eqb-true (node m .«idx_next_alt») i f)
-      go false f ih = ih (other (either p m)) (omega arith)
+      go false f ih = ih (other (equal-or-not p m)) (omega arith)
         where
           other : (p ≡ m) ⊎ (p ≡ m → ⊥) → p < m
           other (inl z) = absurd (eqb-false (node m .«idx_next_alt») i f (ap (λ (j : ℕ). node j .«idx_next_alt») (sym z) ∙ v .laid .each i h .splits p q e .alt))
@@ -265,7 +264,7 @@ module _ {L : Labels} {node : ℕ → EstTime} {n : ℕ} {arcs : List Arc} {k : 
       itself-is s c = source-here m i c ∙ sym (v .laid .each i h .own s)
 
       is-start : L .role i ≡ start → i ≡ 1
-      is-start q = one i q (either i 0) (either i 1)
+      is-start q = one i q (equal-or-not i 0) (equal-or-not i 1)
         where
           one : (j : ℕ) → L .role i ≡ start → (i ≡ 0) ⊎ (i ≡ 0 → ⊥) → (i ≡ 1) ⊎ (i ≡ 1 → ⊥) → i ≡ 1
           one j q (inl z) d = apart itself q (ap (L .role) z ∙ v .laid .zeroth) refl refl
@@ -342,7 +341,7 @@ module _ {L : Labels} {node : ℕ → EstTime} {n : ℕ} {arcs : List Arc} {k : 
           ended s (inr q) = inl (ap (isReceiver node all) (s .next) ∙ receiver-is (suc r) (omega arith) (ap receives (s .later (suc r) (omega arith) (omega arith))))
 
           go : (lands (L .role r) ≡ true) ⊎ (L .role r ≡ stop) → (isReceiver node all (node r .«idx_next») ≡ true) ⊎ (node r .«idx_next» ≡ all - 1)
-          go (inr q) = ended (v .laid .each r h .stops q) (either (suc r) n)
+          go (inr q) = ended (v .laid .each r h .stops q) (equal-or-not (suc r) n)
           go (inl q) = landing (which-lands (L .role r) q)
             where
               landing : (L .role r ≡ event) ⊎ (L .role r ≡ join) → (isReceiver node all (node r .«idx_next») ≡ true) ⊎ (node r .«idx_next» ≡ all - 1)

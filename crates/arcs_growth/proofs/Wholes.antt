@@ -9,8 +9,8 @@ use borrow.Author.Tests.{ltb-true}
 use lib.Dec.{ltb}
 use lib.Ieee.{binary64, ofBits}
 use Rattle.laws.proofs.Below.{below}
-use Rattle.laws.proofs.Truth.{not-both}
-use Rattle.net_node.proofs.Tables.{RoomIn, put-room, either, put-same, put-other}
+use Rattle.laws.proofs.Truth.{not-both, equal-or-not}
+use Rattle.net_node.proofs.Tables.{RoomIn, put-room, put-same, put-other}
 use Rattle.laws.proofs.Answers.{Holds}
 use Rattle.laws.specs.Below.{sumBelow}
 use Rattle.net_node.specs.declared.EstTime.{EstTime}
@@ -116,7 +116,7 @@ last-keeps {b} {places} {arcs} {k} alt t d = go (ltb (t .nodes) places) refl
         bases = d .graph .bases;
         noted = λ w. d .graph .noted w ∙ sym (sum-same n (weigh (d .labels) (at (t .table)) [] w) (weigh (d .labels) (at after) [] w)
             (λ i h. weigh-same (at (t .table)) (at after) x [] [] w i h (ap (λ (y : EstTime). y .«idx_next») (same i h)) (ap (λ (y : EstTime). y .«time_to_next») (same i h)) (ap (λ (y : EstTime). y .«dist_to_next») (same i h)) (next-within (d .graph .laid) i h) refl));
-        closed = λ i h p. closed i h p (either (at after i .«idx_next») 0);
+        closed = λ i h p. closed i h p (equal-or-not (at after i .«idx_next») 0);
         last-kind = ap (λ (y : EstTime). isFake y) there;
         last-alt = ap (λ (y : EstTime). y .«idx_next_alt») there;
         last-prev = ap (λ (y : EstTime). y .«idx_prev») there;

@@ -7,12 +7,12 @@ use Prim.Native.Nat.{ℕ, zero, suc, _+_, _≤_, _<_}
 use native.Mathlib.Nat.{le-refl}
 use native.Mathlib.Omega.{arith}
 use lib.Ieee.{Float}
+use Rattle.laws.proofs.Truth.{equal-or-not}
 use Rattle.laws.specs.Below.{sumBelow}
 use Rattle.net_node.specs.declared.EstTime.{EstTime}
 use Rattle.grow_rules.specs.Run.{Arc}
 use Rattle.arcs_growth.specs.Arcs.{isBase, sourceOf, goalOf, arcOf, arcsBelow, arcsRead, sameArc, one, timesIn, SameArcs}
 use Rattle.arcs_growth.specs.Shape.{isReceiver, Shape}
-use Rattle.net_node.proofs.Tables.{either as same-or-not}
 use Rattle.arcs_passes.proofs.Frames.{SameFrames, base-same, source-same}
 use Rattle.arcs_passes.proofs.Swapped.{Swapped, goal-same}
 use Rattle.arcs_passes.proofs.Sums.{sum-exchanged}
@@ -103,7 +103,7 @@ module _ (node node′ : ℕ → EstTime) (n a b : ℕ) (s : Shape node n) (w : 
 
   -- both receivers lead to one goal, and what bases hold stays
   pub goal-swapped : goalOf node n n (node a .«idx_next») ≡ goalOf node n n (node b .«idx_next») → ((x : ℕ) → heldOf (node′ x) ≡ heldOf (node x)) → EachArc node node′ n
-  goal-swapped g h i l e = go (same-or-not i a) (same-or-not i b)
+  goal-swapped g h i l e = go (equal-or-not i a) (equal-or-not i b)
     where
       go : (i ≡ a) ⊎ (i ≢ a) → (i ≡ b) ⊎ (i ≢ b) → arcOf node′ n i ≡ arcOf node n i
       go (inl p) q = subst (λ (x : ℕ). arcOf node′ n x ≡ arcOf node n x) (sym p) (arc-as a a (node b .«idx_next») (w .next-a) (receives b (w .inside-b) (w .base-b)) (sym g) refl (h a))

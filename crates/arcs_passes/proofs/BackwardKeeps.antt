@@ -8,6 +8,7 @@ use native.Mathlib.Omega.{arith}
 use borrow.Author.Tests.{not-true}
 use lib.Dec.{eqb}
 use lib.Ieee.{Float, binary64, sub, ofBits, isNan}
+use Rattle.laws.proofs.Truth.{not-both}
 use Rattle.net_node.proofs.Tables.{RoomIn}
 use Rattle.net_node.specs.Table.{Table, at, isFake}
 use Rattle.laws.proofs.Below.{none-right}
@@ -20,7 +21,7 @@ use Rattle.pass_rules.specs.Net.{asserting, Pass}
 use Rattle.pass_rules.specs.Backward.{queued, enqueue, passed, At, relinkWalk, relinked, alternatedBy, stepOn, step, stopsAt, stopIf, strand, addedIf, settledBy, settle, turn, turns, lastTwo, backward}
 use Rattle.arcs_growth.specs.Arcs.{isBase}
 use Rattle.arcs_growth.specs.Shape.{isReceiver, Shape}
-use Rattle.arcs_passes.proofs.Roles.{never, receiver-inside}
+use Rattle.arcs_passes.proofs.Roles.{receiver-inside}
 use Rattle.arcs_passes.proofs.Frames.{base-same, receiver-same}
 use Rattle.arcs_passes.proofs.Ways.{upward, event-receives}
 use Rattle.arcs_passes.proofs.Answers.{holds-if, Every, best-holds, others-hold}
@@ -123,7 +124,7 @@ module _ (node : ℕ → EstTime) (n places : ℕ) (l : n ≤ places) where
       event = none-right (not (eqb (at (a .pass .table) (a .prev) .«idx_next_alt») 0)) (isFake (at (a .pass .table) (a .prev))) e
 
       first : a .prev ≡ 0 → Base (a .prev)
-      first o = never (s .good .kept .shape .first-fake) (subst (λ (x : ℕ). isFake (at (a .pass .table) x) ≡ false) o event)
+      first o = not-both (s .good .kept .shape .first-fake) (subst (λ (x : ℕ). isFake (at (a .pass .table) x) ≡ false) o event)
 
   strand-holds : (k : ℕ) (a : At) → Standing a → Holds Stepped (strand k a)
   unfolding strand

@@ -8,6 +8,7 @@ use native.Mathlib.Omega.{arith}
 use borrow.Author.Tests.{eqb-false, not-true}
 use lib.Dec.{eqb}
 use lib.Ieee.{Float}
+use Rattle.laws.proofs.Truth.{and-left, and-right}
 use Rattle.net_node.proofs.Tables.{RoomIn}
 use Rattle.net_node.specs.Table.{Table, at, isFake, setTime}
 use Rattle.net_node.specs.declared.EstTime.{EstTime}
@@ -17,7 +18,7 @@ use Rattle.pass_rules.specs.Net.{Pass}
 use Rattle.pass_rules.specs.Backward.{isPassable, walkedOn, relinkWalk, swapSplit, swappedIf}
 use Rattle.arcs_growth.specs.Arcs.{isBase, sourceOf, arcsRead, SameArcs, timesIn}
 use Rattle.arcs_growth.specs.Shape.{isReceiver, Shape}
-use Rattle.arcs_passes.proofs.Roles.{and-left, and-right, receiver-inside}
+use Rattle.arcs_passes.proofs.Roles.{receiver-inside}
 use Rattle.arcs_passes.proofs.Frames.{SameFrames}
 use Rattle.arcs_passes.proofs.Ways.{fake-base, split-is, source-up}
 use Rattle.arcs_passes.proofs.Swapped.{Swapped, swapped-shape}

@@ -8,6 +8,7 @@ use native.Mathlib.Omega.{arith}
 use borrow.Author.Tests.{not-true}
 use lib.Dec.{eqb}
 use lib.Ieee.{Float, binary64, ofBits, isNan}
+use Rattle.laws.proofs.Truth.{not-both}
 use Rattle.net_node.proofs.Tables.{RoomIn}
 use Rattle.net_node.specs.Table.{Table, at, isFake, setTime}
 use Rattle.laws.proofs.Below.{none-right}
@@ -20,7 +21,7 @@ use Rattle.pass_rules.specs.Net.{asserting, Pass}
 use Rattle.pass_rules.specs.Forward.{timeNext, queued, enqueue, timed, At, relinkWalk, relinked, alternatedBy, stepOn, step, stopsAt, stopIf, strand, addedIf, settledBy, settle, turn, turns, firstTwo, forward}
 use Rattle.arcs_growth.specs.Arcs.{isBase, arcsRead}
 use Rattle.arcs_growth.specs.Shape.{isReceiver, Shape}
-use Rattle.arcs_passes.proofs.Roles.{never, base-start, base-event, base-alternative, alternative-named, receiver-inside}
+use Rattle.arcs_passes.proofs.Roles.{base-start, base-event, base-alternative, alternative-named, receiver-inside}
 use Rattle.arcs_passes.proofs.Frames.{fake-same, base-same, receiver-same}
 use Rattle.arcs_passes.proofs.Ways.{onward}
 use Rattle.arcs_passes.proofs.Arcs.{read-same}
@@ -117,7 +118,7 @@ module _ (node : ℕ → EstTime) (n places : ℕ) (l : n ≤ places) where
       event = none-right (not (eqb (at (a .pass .table) (a .next) .«idx_prev_alt») 0)) (isFake (at (a .pass .table) (a .next))) e
 
       last : a .next ≡ n - 1 → isReceiver node n (a .next) ≡ true
-      last o = never (s .good .forth .shape .end-fake) (subst (λ (x : ℕ). isFake (at (a .pass .table) x) ≡ false) o event)
+      last o = not-both (s .good .forth .shape .end-fake) (subst (λ (x : ℕ). isFake (at (a .pass .table) x) ≡ false) o event)
 
   strand-holds : (k : ℕ) (a : At) → Standing a → Holds Stepped (strand k a)
   unfolding strand

@@ -4,13 +4,14 @@ use mathlib.Core.Logic.{_⊎_, inl, inr}
 use mathlib.Core.Bool.{Bool, true, false, not, _&&_, _||_, cond}
 use Prim.Native.Nat.{ℕ, zero, suc, _-_}
 use lib.Dec.{eqb, ltb}
+use Rattle.laws.proofs.Truth.{true-or-false}
 use Rattle.net_node.specs.Table.{fakeKind, isFake}
 use Rattle.laws.specs.Below.{someBelow}
 use Rattle.net_node.specs.declared.LinkEvent.{LinkEvent}
 use Rattle.net_node.specs.declared.EstTime.{EstTime}
 use Rattle.arcs_growth.specs.Arcs.{isAlternative, isBase, alternativeOf, sourceOf}
 use Rattle.arcs_growth.specs.Shape.{isReceiver}
-use Rattle.arcs_passes.proofs.Roles.{either, source-itself, source-step}
+use Rattle.arcs_passes.proofs.Roles.{source-itself, source-step}
 
 pub record Frame : Type 0 where
   pub event : LinkEvent
@@ -57,7 +58,7 @@ module _ (node node′ : ℕ → EstTime) (f : SameFrames node node′) where
     pub source-same : (k i : ℕ) → sourceOf node′ n k i ≡ sourceOf node n k i
     unfolding sourceOf
     source-same zero i = refl
-    source-same (suc k) i = go (either (eqb i 1 || not (isFake (node i)))) (source-same k (alternativeOf node n n i))
+    source-same (suc k) i = go (true-or-false (eqb i 1 || not (isFake (node i)))) (source-same k (alternativeOf node n n i))
       where
         itself : (eqb i 1 || not (isFake (node′ i))) ≡ (eqb i 1 || not (isFake (node i)))
         itself = ap (λ (b : Bool). eqb i 1 || not b) (fake-same i)

@@ -6,6 +6,7 @@ use mathlib.Core.List.{List, [], _∷_}
 use Prim.Native.Nat.{ℕ, zero, suc, _-_, _≤_, _<_}
 use native.Mathlib.Omega.{arith}
 use lib.Dec.{eqb}
+use Rattle.laws.proofs.Truth.{true-or-false}
 use Rattle.net_node.specs.Table.{isFake}
 use Rattle.laws.specs.Below.{someBelow}
 use Rattle.laws.proofs.Below.{some-same}
@@ -13,7 +14,7 @@ use Rattle.net_node.specs.declared.EstTime.{EstTime}
 use Rattle.grow_rules.specs.Run.{Arc}
 use Rattle.arcs_growth.specs.Arcs.{isAlternative, isBase, alternativeOf, sourceOf, goalOf, arcOf, arcsBelow, arcsRead}
 use Rattle.arcs_growth.specs.Shape.{Shape, isReceiver}
-use Rattle.arcs_passes.proofs.Roles.{either, source-itself, source-step, goal-end, goal-event, goal-fake, receiver-is, receiver-inside}
+use Rattle.arcs_passes.proofs.Roles.{source-itself, source-step, goal-end, goal-event, goal-fake, receiver-is, receiver-inside}
 
 -- an arc between two ends, with a node's own time and distance to next
 abbrev arcWith : ℕ → ℕ → EstTime → Arc
@@ -46,7 +47,7 @@ module _ (node other : ℕ → EstTime) (n : ℕ) (ag : (i : ℕ) → i < n → 
   source-same : (k i : ℕ) → i < n → sourceOf other n k i ≡ sourceOf node n k i
   unfolding sourceOf
   source-same zero i h = refl
-  source-same (suc k) i h = go (either (eqb i 1 || not (isFake (node i)))) (source-same k (alternativeOf node n n i) (alternative-of-below n i (omega arith)))
+  source-same (suc k) i h = go (true-or-false (eqb i 1 || not (isFake (node i)))) (source-same k (alternativeOf node n n i) (alternative-of-below n i (omega arith)))
     where
       itself : (eqb i 1 || not (isFake (other i))) ≡ (eqb i 1 || not (isFake (node i)))
       itself = ap (λ (x : EstTime). eqb i 1 || not (isFake x)) (ag i h)
@@ -64,7 +65,7 @@ module _ (node other : ℕ → EstTime) (n : ℕ) (ag : (i : ℕ) → i < n → 
   unfolding goalOf
   goal-same zero r l = refl
   goal-same (suc k) r (inr e) = ap (goalOf other n (suc k)) e ∙ goal-end other n (suc k) ∙ sym (ap (goalOf node n (suc k)) e ∙ goal-end node n (suc k))
-  goal-same (suc k) r (inl q) = go (either (isFake (node r))) (goal-same k (node r .«idx_next»))
+  goal-same (suc k) r (inl q) = go (true-or-false (isFake (node r))) (goal-same k (node r .«idx_next»))
     where
       fake : isFake (other r) ≡ isFake (node r)
       fake = ap isFake (ag r (receiver-inside node n r q))

@@ -2,43 +2,18 @@
 -- (its event and both alternatives), which no pass changes, and at a Fake's next.
 use mathlib.Core.Path.{_≡_, refl, sym, ap, _∙_}
 use mathlib.Core.Logic.{_⊎_, inl, inr, _≢_, ⊎-elim}
-use mathlib.Core.Bool.{Bool, true, false, not, _&&_, _||_, cond, true≢false}
+use mathlib.Core.Bool.{Bool, true, false, not, _&&_, _||_, cond}
 use Prim.Native.Nat.{ℕ, zero, suc, _-_, _<_}
 use native.Mathlib.Omega.{arith}
 use borrow.Author.Tests.{eqb-true, eqb-false, ltb-true, lt-ltb, eq-eqb, ne-eqb, not-true}
 use lib.Dec.{eqb, ltb}
+use Rattle.laws.proofs.Truth.{equal-or-not, and-left, and-right, both, not-both, or-is, true-or-false}
 use Rattle.net_node.specs.Table.{isFake}
 use Rattle.laws.specs.Below.{someBelow}
 use Rattle.laws.proofs.Below.{some-at, or-left, or-right}
 use Rattle.net_node.specs.declared.EstTime.{EstTime}
-use Rattle.net_node.proofs.Tables.{either as same-or-not}
 use Rattle.arcs_growth.specs.Arcs.{isAlternative, isBase, alternativeOf, sourceOf, goalOf}
 use Rattle.arcs_growth.specs.Shape.{isReceiver}
-
--- ---- Bools
-
-pub either : (b : Bool) → (b ≡ true) ⊎ (b ≡ false)
-either true = inl refl
-either false = inr refl
-
-pub never : {X : Type 0} {b : Bool} → b ≡ true → b ≡ false → X
-never e f = absurd (true≢false (sym e ∙ f))
-
-pub and-left : (a b : Bool) → (a && b) ≡ true → a ≡ true
-and-left true b e = refl
-and-left false b e = e
-
-pub and-right : (a b : Bool) → (a && b) ≡ true → b ≡ true
-and-right true b e = e
-and-right false b e = never e refl
-
-pub and-both : (a b : Bool) → a ≡ true → b ≡ true → (a && b) ≡ true
-and-both true b e f = f
-and-both false b e f = e
-
-pub or-is : (a b : Bool) → (a || b) ≡ true → (a ≡ true) ⊎ (b ≡ true)
-or-is true b e = inl refl
-or-is false b e = inr e
 
 -- ---- alternatives
 
@@ -46,7 +21,7 @@ module _ (node : ℕ → EstTime) (n : ℕ) where
   named-above : (i k : ℕ) → someBelow k (λ j. eqb (node j .«idx_next_alt») i) ≡ true
       → (alternativeOf node n k i < k) × (node (alternativeOf node n k i) .«idx_next_alt» ≡ i)
   unfolding someBelow alternativeOf
-  named-above i zero e = never e refl
+  named-above i zero e = not-both e refl
   named-above i (suc k) e = go (eqb (node k .«idx_next_alt») i) refl (named-above i k)
     where
       go : (b : Bool) → eqb (node k .«idx_next_alt») i ≡ b → (someBelow k (λ j. eqb (node j .«idx_next_alt») i) ≡ true → (alternativeOf node n k i < k) × (node (alternativeOf node n k i) .«idx_next_alt» ≡ i))
@@ -54,7 +29,7 @@ module _ (node : ℕ → EstTime) (n : ℕ) where
       go true f ih = (omega arith, eqb-true (node k .«idx_next_alt») i f)
       go false f ih =
           let below = or-is (someBelow k (λ j. eqb (node j .«idx_next_alt») i)) (eqb (node k .«idx_next_alt») i) e in
-          let q = ih (⊎-elim (λ (a : someBelow k (λ j. eqb (node j .«idx_next_alt») i) ≡ true). a) (λ (a : eqb (node k .«idx_next_alt») i ≡ true). never a f) below) in
+          let q = ih (⊎-elim (λ (a : someBelow k (λ j. eqb (node j .«idx_next_alt») i) ≡ true). a) (λ (a : eqb (node k .«idx_next_alt») i ≡ true). not-both a f) below) in
           let l = q .0 in
           (omega arith, q .1)
 
@@ -67,12 +42,12 @@ module _ (node : ℕ → EstTime) (n : ℕ) where
   unfolding isAlternative
   alternative-some i e =
       let o = eqb-false i 0 (not-true (eqb i 0) (and-left (not (eqb i 0)) (someBelow n (λ k. eqb (node k .«idx_next_alt») i)) e)) in
-      ⊎-elim (λ (z : i ≡ 0). absurd (o z)) (λ (z : i ≢ 0). omega arith) (same-or-not i 0)
+      ⊎-elim (λ (z : i ≡ 0). absurd (o z)) (λ (z : i ≢ 0). omega arith) (equal-or-not i 0)
 
   pub alternative-named : (k : ℕ) → k < n → 0 < node k .«idx_next_alt» → isAlternative node n (node k .«idx_next_alt») ≡ true
   unfolding isAlternative
   alternative-named k h o =
-      and-both (not (eqb (node k .«idx_next_alt») 0)) (someBelow n (λ j. eqb (node j .«idx_next_alt») (node k .«idx_next_alt»)))
+      both (not (eqb (node k .«idx_next_alt») 0)) (someBelow n (λ j. eqb (node j .«idx_next_alt») (node k .«idx_next_alt»)))
       (ap not (ne-eqb (node k .«idx_next_alt») 0 (λ (z : node k .«idx_next_alt» ≡ 0). omega arith)))
       (some-at n (λ j. eqb (node j .«idx_next_alt») (node k .«idx_next_alt»)) k h (eq-eqb (node k .«idx_next_alt») (node k .«idx_next_alt») refl))
 
@@ -116,7 +91,7 @@ module _ (node : ℕ → EstTime) (n : ℕ) where
   pub is-receiver : (i : ℕ) → 1 < i → i < n - 1 → isAlternative node n i ≡ false → isReceiver node n i ≡ true
   unfolding isReceiver
   is-receiver i a b c =
-      and-both (ltb 1 i && ltb i (n - 1)) (not (isAlternative node n i)) (and-both (ltb 1 i) (ltb i (n - 1)) (lt-ltb 1 i a) (lt-ltb i (n - 1) b)) (ap not c)
+      both (ltb 1 i && ltb i (n - 1)) (not (isAlternative node n i)) (both (ltb 1 i) (ltb i (n - 1)) (lt-ltb 1 i a) (lt-ltb i (n - 1) b)) (ap not c)
 
   pub receiver-inside : (i : ℕ) → isReceiver node n i ≡ true → i < n
   receiver-inside i e = let h = receiver-is i e .1 in omega arith
@@ -126,12 +101,12 @@ module _ (node : ℕ → EstTime) (n : ℕ) where
 
   -- a Fake that receives is no base
   pub fake-receiver : (r : ℕ) → isReceiver node n r ≡ true → isFake (node r) ≡ true → isBase node n r ≡ false
-  fake-receiver r e f = ⊎-elim (λ (b : isBase node n r ≡ true). absurd (go (base-is r b))) (λ (b : isBase node n r ≡ false). b) (either (isBase node n r))
+  fake-receiver r e f = ⊎-elim (λ (b : isBase node n r ≡ true). absurd (go (base-is r b))) (λ (b : isBase node n r ≡ false). b) (true-or-false (isBase node n r))
     where
       go : (r ≡ 1) ⊎ ((isFake (node r) ≡ false) ⊎ (isAlternative node n r ≡ true)) → ⊥
       go (inl a) = let h = receiver-is r e .0 in omega arith
-      go (inr (inl a)) = never f a
-      go (inr (inr a)) = never a (receiver-is r e .2)
+      go (inr (inl a)) = not-both f a
+      go (inr (inr a)) = not-both a (receiver-is r e .2)
 
   -- ---- sources and goals, a step
 

@@ -6,6 +6,7 @@ use Prim.Native.Nat.{ℕ, _<_}
 use native.Mathlib.Omega.{arith}
 use lib.Dec.{eqb}
 use lib.Ieee.{Float}
+use Rattle.laws.proofs.Truth.{equal-or-not}
 use Rattle.net_node.proofs.Sets.{Changed, time-set as set-time, next-set as set-next, prev-set as set-prev, arc-set as set-arc}
 use Rattle.net_node.proofs.Tables.{RoomIn}
 use Rattle.net_node.specs.Table.{Table, at, setTime, setNext, setPrev, setArc, withTime, withNext, withPrev, withArc}
@@ -13,7 +14,7 @@ use Rattle.net_node.specs.declared.EstTime.{EstTime}
 use Rattle.arcs_growth.specs.Arcs.{isBase}
 use Rattle.arcs_growth.specs.Shape.{Shape}
 use Rattle.arcs_passes.proofs.Sets.{sets, sets-at, sets-other}
-use Rattle.net_node.proofs.Tables.{either as same-or-not}
+use Rattle.net_node.proofs.Tables.{equal-or-not as same-or-not}
 use Rattle.arcs_passes.proofs.Roles.{base-start}
 use Rattle.arcs_passes.proofs.Frames.{frameOf, SameFrames}
 use Rattle.arcs_passes.proofs.Swapped.{Swapped}

@@ -1,20 +1,13 @@
--- Sums over the numbers below n: equal where each value is, and where two values have changed places.
+-- Sums over the numbers below n: equal where two values have changed places.
 use mathlib.Core.Path.{_≡_, refl, sym, ap, _∙_}
 use mathlib.Core.Logic.{_⊎_, inl, inr, _≢_}
 use Prim.Native.Nat.{ℕ, zero, suc, _+_, _<_}
 use native.Mathlib.Nat.{not-suc-le-zero}
 use native.Mathlib.Omega.{arith}
+use Rattle.laws.proofs.Truth.{equal-or-not}
 use Rattle.laws.specs.Below.{sumBelow}
+use Rattle.laws.proofs.Below.{sum-same}
 use Rattle.arcs_passes.proofs.Sets.{sets, sets-at, sets-other}
-use Rattle.net_node.proofs.Tables.{either as same-or-not}
-
-pub sum-same : (n : ℕ) (f g : ℕ → ℕ) → ((i : ℕ) → i < n → f i ≡ g i) → sumBelow n f ≡ sumBelow n g
-unfolding sumBelow
-sum-same zero f g e = refl
-sum-same (suc n) f g e = go (sum-same n f g (λ (i : ℕ) (h : i < n). e i (omega arith))) (e n (omega arith))
-  where
-    go : sumBelow n f ≡ sumBelow n g → f n ≡ g n → sumBelow n f + f n ≡ sumBelow n g + g n
-    go p q = omega arith
 
 -- all values but that at a
 abbrev but : ℕ → (ℕ → ℕ) → ℕ → ℕ
@@ -23,7 +16,7 @@ but a f = sets a 0 f
 sum-but : (n : ℕ) (f : ℕ → ℕ) (a : ℕ) → a < n → sumBelow n f ≡ f a + sumBelow n (but a f)
 unfolding sumBelow
 sum-but zero f a h = absurd (not-suc-le-zero h)
-sum-but (suc n) f a h = go (same-or-not n a) (sum-but n f a)
+sum-but (suc n) f a h = go (equal-or-not n a) (sum-but n f a)
   where
     go : (n ≡ a) ⊎ (n ≢ a) → (a < n → sumBelow n f ≡ f a + sumBelow n (but a f)) → sumBelow n f + f n ≡ f a + (sumBelow n (but a f) + but a f n)
     go (inl e) ih =
@@ -44,7 +37,7 @@ sum-exchanged n f g a b h k o p q e =
     let g1 = sum-but n g a h in
     let g2 = sum-but n (but a g) b k in
     let g3 = sets-other a 0 g b (λ (z : b ≡ a). o (sym z)) in
-    let rest : sumBelow n (but b (but a f)) ≡ sumBelow n (but b (but a g)) = sum-same n (but b (but a f)) (but b (but a g)) (λ (i : ℕ) (l : i < n). at i l (same-or-not i a) (same-or-not i b)) in
+    let rest : sumBelow n (but b (but a f)) ≡ sumBelow n (but b (but a g)) = sum-same n (but b (but a f)) (but b (but a g)) (λ (i : ℕ) (l : i < n). at i l (equal-or-not i a) (equal-or-not i b)) in
     omega arith
   where
     at : (i : ℕ) → i < n → (i ≡ a) ⊎ (i ≢ a) → (i ≡ b) ⊎ (i ≢ b) → but b (but a f) i ≡ but b (but a g) i

@@ -1,15 +1,15 @@
--- Two bases exchange receivers: what every relink of either pass does. The shape stays, and so does the goal behind each receiver. With one base for both nothing but times changes.
+-- Two bases exchange receivers: what every relink of true-or-false pass does. The shape stays, and so does the goal behind each receiver. With one base for both nothing but times changes.
 use mathlib.Core.Path.{_≡_, refl, sym, ap, _∙_, subst}
 use mathlib.Core.Logic.{_⊎_, inl, inr, _≢_, ⊎-elim}
 use mathlib.Core.Bool.{true, false}
 use Prim.Native.Nat.{ℕ, zero, suc, _-_, _<_}
 use native.Mathlib.Omega.{arith}
+use Rattle.laws.proofs.Truth.{equal-or-not, true-or-false, not-both}
 use Rattle.net_node.specs.Table.{isFake}
 use Rattle.net_node.specs.declared.EstTime.{EstTime}
 use Rattle.arcs_growth.specs.Arcs.{isAlternative, isBase, goalOf}
 use Rattle.arcs_growth.specs.Shape.{isReceiver, Shape}
-use Rattle.net_node.proofs.Tables.{either as same-or-not}
-use Rattle.arcs_passes.proofs.Roles.{either, never, alternative-named, receiver-is, end-receives-not, fake-receiver, goal-end, goal-event, goal-fake}
+use Rattle.arcs_passes.proofs.Roles.{alternative-named, receiver-is, end-receives-not, fake-receiver, goal-end, goal-event, goal-fake}
 use Rattle.arcs_passes.proofs.Frames.{SameFrames, fake-same, next-alt-same, prev-alt-same, base-same, receiver-same}
 
 -- Bases a and b have exchanged their nexts, and the two receivers their prevs accordingly.
@@ -31,8 +31,8 @@ module _ (node node′ : ℕ → EstTime) (n a b : ℕ) (s : Shape node n) (w : 
 
   next-unbased : (r : ℕ) → isBase node n r ≡ false → node′ r .«idx_next» ≡ node r .«idx_next»
   next-unbased r e =
-      w .next-other r (λ (o : r ≡ a). never (w .base-a) (subst (λ (x : ℕ). isBase node n x ≡ false) o e))
-      (λ (o : r ≡ b). never (w .base-b) (subst (λ (x : ℕ). isBase node n x ≡ false) o e))
+      w .next-other r (λ (o : r ≡ a). not-both (w .base-a) (subst (λ (x : ℕ). isBase node n x ≡ false) o e))
+      (λ (o : r ≡ b). not-both (w .base-b) (subst (λ (x : ℕ). isBase node n x ≡ false) o e))
 
   receives-a : isReceiver node n (node a .«idx_next») ≡ true
   receives-a = s .base-next a (w .inside-a) (w .base-a) .0
@@ -49,7 +49,7 @@ module _ (node node′ : ℕ → EstTime) (n a b : ℕ) (s : Shape node n) (w : 
   pub goal-same : (k r : ℕ) → isReceiver node n r ≡ true → goalOf node′ n k r ≡ goalOf node n k r
   unfolding goalOf
   goal-same zero r e = refl
-  goal-same (suc k) r e = go (either (isFake (node r))) (goal-same k)
+  goal-same (suc k) r e = go (true-or-false (isFake (node r))) (goal-same k)
     where
       last : r ≢ n - 1
       last = end-receives-not node n r e
@@ -69,7 +69,7 @@ module _ (node node′ : ℕ → EstTime) (n a b : ℕ) (s : Shape node n) (w : 
   -- ---- next and prev are inverse to each other again
 
   next-back : (x : ℕ) → x < n → isBase node n x ≡ true → (isReceiver node n (node′ x .«idx_next») ≡ true) × (node′ (node′ x .«idx_next») .«idx_prev» ≡ x)
-  next-back x h e = go (same-or-not x a) (same-or-not x b)
+  next-back x h e = go (equal-or-not x a) (equal-or-not x b)
     where
       to : (y : ℕ) → node′ x .«idx_next» ≡ y → isReceiver node n y ≡ true → node′ y .«idx_prev» ≡ x → (isReceiver node n (node′ x .«idx_next») ≡ true) × (node′ (node′ x .«idx_next») .«idx_prev» ≡ x)
       to y p q r = (subst (λ (z : ℕ). isReceiver node n z ≡ true) (sym p) q, ap (λ (z : ℕ). node′ z .«idx_prev») p ∙ r)
@@ -85,7 +85,7 @@ module _ (node node′ : ℕ → EstTime) (n a b : ℕ) (s : Shape node n) (w : 
           (w .prev-other (node x .«idx_next») (unlike a (w .inside-a) (w .base-a) p) (unlike b (w .inside-b) (w .base-b) q) ∙ s .base-next x h e .1)
 
   prev-back : (r : ℕ) → isReceiver node n r ≡ true → (isBase node n (node′ r .«idx_prev») ≡ true) × ((node′ r .«idx_prev» < n) × (node′ (node′ r .«idx_prev») .«idx_next» ≡ r))
-  prev-back r e = go (same-or-not r (node a .«idx_next»)) (same-or-not r (node b .«idx_next»))
+  prev-back r e = go (equal-or-not r (node a .«idx_next»)) (equal-or-not r (node b .«idx_next»))
     where
       to : (y : ℕ) → node′ r .«idx_prev» ≡ y → isBase node n y ≡ true → y < n → node′ y .«idx_next» ≡ r
           → (isBase node n (node′ r .«idx_prev») ≡ true) × ((node′ r .«idx_prev» < n) × (node′ (node′ r .«idx_prev») .«idx_next» ≡ r))
@@ -104,7 +104,7 @@ module _ (node node′ : ℕ → EstTime) (n a b : ℕ) (s : Shape node n) (w : 
   -- ---- the shape
 
   alternative-unreceived : (i : ℕ) → isAlternative node n i ≡ true → isReceiver node n i ≡ true → ⊥
-  alternative-unreceived i a e = never a (receiver-is node n i e .2)
+  alternative-unreceived i a e = not-both a (receiver-is node n i e .2)
 
   alternated : (P : ℕ → Type 0) (i : ℕ) → (0 < node i .«idx_next_alt» → P (node i .«idx_next_alt»)) → 0 < node′ i .«idx_next_alt» → P (node′ i .«idx_next_alt»)
   alternated P i = subst (λ (x : ℕ). 0 < x → P x) (sym (next-alt-same node node′ (w .frames) i))

@@ -6,13 +6,13 @@ use Prim.Native.Nat.{ℕ, zero, suc, _-_, _≤_, _<_}
 use native.Mathlib.Omega.{arith}
 use borrow.Author.Tests.{eqb-false, ne-eqb, not-false}
 use lib.Dec.{eqb}
+use Rattle.laws.proofs.Truth.{equal-or-not, true-or-false, not-both}
 use Rattle.net_node.specs.Table.{isFake}
 use Rattle.laws.proofs.Below.{none-left, none-right}
 use Rattle.net_node.specs.declared.EstTime.{EstTime}
 use Rattle.arcs_growth.specs.Arcs.{isAlternative, isBase, alternativeOf, sourceOf, goalOf}
 use Rattle.arcs_growth.specs.Shape.{isReceiver, Shape}
-use Rattle.net_node.proofs.Tables.{either as same-or-not}
-use Rattle.arcs_passes.proofs.Roles.{either, never, alternative-above, alternative-some, base-event, base-alternative, base-is, is-receiver, receiver-inside, end-receives-not, source-itself, source-step, goal-fake}
+use Rattle.arcs_passes.proofs.Roles.{alternative-above, alternative-some, base-event, base-alternative, base-is, is-receiver, receiver-inside, end-receives-not, source-itself, source-step, goal-fake}
 
 module _ (node : ℕ → EstTime) (n : ℕ) (s : Shape node n) where
   -- ---- split Fakes
@@ -53,17 +53,17 @@ module _ (node : ℕ → EstTime) (n : ℕ) (s : Shape node n) where
   -- ---- events
 
   pub event-receives : (i : ℕ) → i < n → isFake (node i) ≡ false → isReceiver node n i ≡ true
-  event-receives i h e = is-receiver node n i one (last (same-or-not i (n - 1))) (main (either (isAlternative node n i)))
+  event-receives i h e = is-receiver node n i one (last (equal-or-not i (n - 1))) (main (true-or-false (isAlternative node n i)))
     where
       main : (isAlternative node n i ≡ true) ⊎ (isAlternative node n i ≡ false) → isAlternative node n i ≡ false
-      main (inl a) = never (split-is i a .fake) e
+      main (inl a) = not-both (split-is i a .fake) e
       main (inr a) = a
 
       unlike : (j : ℕ) → isFake (node j) ≡ true → i ≢ j
-      unlike j f o = never f (subst (λ (x : ℕ). isFake (node x) ≡ false) o e)
+      unlike j f o = not-both f (subst (λ (x : ℕ). isFake (node x) ≡ false) o e)
 
       one : 1 < i
-      one = go (same-or-not i 0) (same-or-not i 1)
+      one = go (equal-or-not i 0) (equal-or-not i 1)
         where
           go : (i ≡ 0) ⊎ (i ≢ 0) → (i ≡ 1) ⊎ (i ≢ 1) → 1 < i
           go (inl a) c = absurd (unlike 0 (s .first-fake) a)
@@ -77,7 +77,7 @@ module _ (node : ℕ → EstTime) (n : ℕ) (s : Shape node n) where
   -- ---- along next
 
   pub onward : (r : ℕ) → isReceiver node n r ≡ true → (isReceiver node n (node r .«idx_next») ≡ true) ⊎ (node r .«idx_next» ≡ n - 1)
-  onward r e = ⊎-elim (s .fake-next r e) (λ (f : isFake (node r) ≡ false). inl (s .base-next r (receiver-inside node n r e) (base-event node n r f) .0)) (either (isFake (node r)))
+  onward r e = ⊎-elim (s .fake-next r e) (λ (f : isFake (node r) ≡ false). inl (s .base-next r (receiver-inside node n r e) (base-event node n r f) .0)) (true-or-false (isFake (node r)))
 
   pub goal-on : (r : ℕ) → isReceiver node n r ≡ true → isFake (node r) ≡ true → goalOf node n n (node r .«idx_next») ≡ goalOf node n n r
   goal-on r e f = sym (goal-fake node n n r (end-receives-not node n r e) f) ∙ s .settled r (suc n) e (omega arith)
@@ -98,7 +98,7 @@ module _ (node : ℕ → EstTime) (n : ℕ) (s : Shape node n) where
     where
       go : (b ≡ 1) ⊎ ((isFake (node b) ≡ false) ⊎ (isAlternative node n b ≡ true)) → isAlternative node n b ≡ true
       go (inl a) = absurd (o a)
-      go (inr (inl a)) = never f a
+      go (inr (inl a)) = not-both f a
       go (inr (inr a)) = a
 
   -- an alternative's source is not itself
@@ -114,9 +114,9 @@ module _ (node : ℕ → EstTime) (n : ℕ) (s : Shape node n) where
     where
       go : (i ≡ 1) ⊎ ((isFake (node i) ≡ false) ⊎ (isAlternative node n i ≡ true)) → ⊥
       go (inl a) = omega arith
-      go (inr (inl a)) = let z : i ≡ 0 = omega arith in never (s .first-fake) (subst (λ (x : ℕ). isFake (node x) ≡ false) z a)
+      go (inr (inl a)) = let z : i ≡ 0 = omega arith in not-both (s .first-fake) (subst (λ (x : ℕ). isFake (node x) ≡ false) z a)
       go (inr (inr a)) = let o = alternative-some node n i a in omega arith
-  source-settled (suc k) i e h = go (either (eqb i 1 || not (isFake (node i)))) (source-settled k)
+  source-settled (suc k) i e h = go (true-or-false (eqb i 1 || not (isFake (node i)))) (source-settled k)
     where
       go : ((eqb i 1 || not (isFake (node i))) ≡ true) ⊎ ((eqb i 1 || not (isFake (node i))) ≡ false) → ((j : ℕ) → isBase node n j ≡ true → j ≤ k → sourceOf node n (suc k) j ≡ sourceOf node n k j)
           → sourceOf node n (suc (suc k)) i ≡ sourceOf node n (suc k) i

@@ -16,6 +16,7 @@ use Rattle.laws.proofs.Truth.{none-left, none-right, and-right}
 use Rattle.laws.proofs.Refusals.{none-holds}
 use Rattle.laws.proofs.Below.{none-at, none-all, some-at, some-same}
 use Rattle.floats.specs.Floats.{tableFloat, bookFloat, bookValue, Size}
+use Rattle.floats.proofs.Laws.{table-finite}
 use Rattle.floats.proofs.Order.{not-lt, not-le, le-trans, size-of-bits, size-of-value}
 use Rattle.book_format.specs.declared.Sample.{Sample}
 use Rattle.book_format.specs.Format.{sampleFrom}
@@ -87,12 +88,6 @@ by-fall false false false false false r a b c d = absurd (true≢false (sym d))
 pub within-counts : (c : Course) → badCounts c ≡ false → (c .samples ≤ 1000000) × (c .points ≤ 65536)
 unfolding badCounts
 within-counts c e = (within 1000000 (c .samples) (none-left (outsideLimits 1000000 (c .samples)) (outsideLimits 65536 (c .points)) e) .1, within 65536 (c .points) (none-right (outsideLimits 1000000 (c .samples)) (outsideLimits 65536 (c .points)) e) .1)
-
-table-finite : (x : Float) → tableFloat x ≡ true → finite x ≡ true
-unfolding tableFloat
-table-finite nan h = h
-table-finite (inf s) h = h
-table-finite (fin s m e) h = refl
 
 value-finite : (x : Float) → T (fits binary64 x) → bookValue x ≡ true → finite x ≡ true
 unfolding bookValue bookFloat

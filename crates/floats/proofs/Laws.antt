@@ -9,9 +9,11 @@ use borrow.Author.Tests.{ltb-true, ltb-false, eqb-true, eqb-false, lt-ltb, le-lt
 use lib.Dec.{T, ltb, eqb, eqb→eq}
 use lib.IntN.{ℤ, pos, negsuc}
 use lib.Ieee.{Float, nan, inf, fin, binary64, up, down, top, ones, hid, neg, sub, lt, le, eq, ne, isNan, fits, ofBits, toBits, nanBits}
+use lib.Ieee.Scale.{finite}
 use lib.Ieee.Bits.{nanBits-is, nanBits-above}
 use lib.Ieee.Fits.{down-pos, up-pos, sub-fits}
 use lib.Ieee.Compare.{differs-from-itself}
+use Rattle.laws.proofs.Truth.{never, and-left}
 use Rattle.floats.specs.Floats.{billion, tableFloat, bookFloat, bookValue, abs, gap, smaller}
 
 -- ---- the code's literals
@@ -38,15 +40,20 @@ nan-bits x h = nan-pattern ∙ ap (toBits binary64) (sym (differs-from-itself x 
 
 -- ---- tests
 
-never : {X : Type 0} → true ≡ false → X
-never e = absurd (subst T e tt)
-
 eqb-swap : (a b : ℕ) → eqb a b ≡ eqb b a
 eqb-swap a b = go (eqb a b) refl
   where
     go : (t : Bool) → eqb a b ≡ t → t ≡ eqb b a
     go true e = sym (eq-eqb b a (sym (eqb-true a b e)))
     go false e = sym (ne-eqb b a (λ q. eqb-false a b e (sym q)))
+
+-- ---- a table's float is finite
+
+pub table-finite : (x : Float) → tableFloat x ≡ true → finite x ≡ true
+unfolding tableFloat
+table-finite nan e = e
+table-finite (inf s) e = e
+table-finite (fin s m k) e = refl
 
 -- ---- a table's float: the test from above, then the one from below
 
@@ -119,17 +126,13 @@ zero-place (pos zero) h = refl
 zero-place (pos (suc k)) h = absurd (twice-one k (omega arith))
 zero-place (negsuc k) h = absurd (twice-one k (omega arith))
 
-first : (p q : Bool) → (p && q) ≡ true → p ≡ true
-first true q h = refl
-first false q h = h
-
 size-zero : (d : Float) → T (fits binary64 d) → eq d origin ≡ true → origin ≡ abs d
 unfolding fits eq ofBits abs
 size-zero nan f h = never (sym h)
 size-zero (inf s) f h = never (sym h)
 size-zero (fin s zero e) f h = ap (fin false 0) (sym (zero-place e (eqb→eq (up e * down e) 1 f)))
 size-zero (fin s (suc m) e) f h =
-    let l : suc m * up e * 1 ≡ 0 * down e = eqb-true (suc m * up e * 1) (0 * down e) (first (eqb (suc m * up e * 1) (0 * down e)) (Bool·beq s false || eqb (suc m * up e * 1) 0) h) in
+    let l : suc m * up e * 1 ≡ 0 * down e = eqb-true (suc m * up e * 1) (0 * down e) (and-left (eqb (suc m * up e * 1) (0 * down e)) (Bool·beq s false || eqb (suc m * up e * 1) 0) h) in
     absurd (omega (arith, up-pos e, mul-pos (zero-lt-suc m) (up-pos e)))
 
 size-above : (d : Float) → lt d origin ≡ false → eq d origin ≡ false → d ≡ abs d
@@ -160,15 +163,15 @@ pub smaller-nan : (a b : Float) → ne a a ≡ true → b ≡ smaller a b
 unfolding smaller isNan
 smaller-nan a b h = ap (λ (x : Float). smaller x b) (sym (differs-from-itself a (subst T (sym h) tt)))
 
-number : (a : Float) → ne a a ≡ false → isNan a ≡ false
+pub no-nan : (a : Float) → ne a a ≡ false → isNan a ≡ false
 unfolding isNan ne
-number nan h = h
-number (inf s) h = refl
-number (fin s m e) h = refl
+no-nan nan h = h
+no-nan (inf s) h = refl
+no-nan (fin s m e) h = refl
 
 smaller-number : (a b : Float) → ne a a ≡ false → cond (lt b a) b a ≡ smaller a b
 unfolding smaller
-smaller-number a b h = rw (number a h)
+smaller-number a b h = rw (no-nan a h)
 
 pub smaller-second : (a b : Float) → ne a a ≡ false → lt b a ≡ true → b ≡ smaller a b
 smaller-second a b h l = rw l at (smaller-number a b h)
@@ -186,7 +189,7 @@ pub value-nan : (x : Float) → ne x x ≡ true → false ≡ bookValue x
 value-nan x h = nan-value ∙ ap bookValue (sym (differs-from-itself x (subst T (sym h) tt)))
 
 pub value-number : (x : Float) → ne x x ≡ false → T (not (isNan x))
-value-number x h = subst (λ (t : Bool). T (not t)) (sym (number x h)) tt
+value-number x h = subst (λ (t : Bool). T (not t)) (sym (no-nan x h)) tt
 
 pub value-bits : (x : Float) {r : Bool} → r ≡ bookFloat (toBits binary64 x) → r ≡ bookValue x
 unfolding bookValue

@@ -15,10 +15,8 @@ use lib.Ieee.Exact.{HasValue, odd-sign, round-exact}
 use lib.Ieee.Fits.{up-pos, down-pos, round-is, and-l, and-r}
 use lib.Ieee.Order.{transfer, round-mono, kept, drop}
 use lib.Ieee.Scale.{finite}
+use Rattle.laws.proofs.Truth.{never}
 use Rattle.floats.specs.Floats.{tableFloat, bookFloat, bookValue, Size}
-
-never : {X : Type 0} → true ≡ false → X
-never e = absurd (subst T e tt)
 
 -- ---- two signed numbers: ±a < ±b is one comparison of sums without signs
 

@@ -8,6 +8,7 @@ use borrow.Author.Tests.{eqb-true, eqb-false, not-true}
 use lib.Dec.{eqb}
 use lib.ListN.{length}
 use lib.Ieee.{Float}
+use Rattle.laws.proofs.Truth.{and-is}
 use Rattle.laws.specs.Answer.{Answer, refused, given, andThen}
 use Rattle.book_format.specs.Format.{legs}
 use Rattle.book_format.proofs.Given.{limits}
@@ -43,11 +44,6 @@ drive-turn n b places net (run ∷ runs) = refl
 
 -- ---- no run is left
 
-both : (a b : Bool) → (a && b) ≡ true → (a ≡ true) × (b ≡ true)
-both true true e = (refl, refl)
-both true false e = absurd (true≢false (sym e))
-both false b e = absurd (true≢false (sym e))
-
 module _ {b : List ℕ} {p : Plan} {fs : List Float} {us : List ℕ} {reals : List Float} {cells joins path : List ℕ} {g : State} {net : Net} {runs : List Run} (d : DriveIn b p (lists fs us reals cells joins) path g net runs) where
   none-same : (ws : List Waiting) (rs : List Run) → ws ≡ [] → SameRuns b ws rs → rs ≡ []
   none-same [] [] e s = refl
@@ -56,7 +52,7 @@ module _ {b : List ℕ} {p : Plan} {fs : List Float} {us : List ℕ} {reals : Li
 
   none-left : (not (g .front .moves) && eqb (g .top) 0) ≡ true → runs ≡ []
   none-left e =
-      let t = both (not (g .front .moves)) (eqb (g .top) 0) e in
+      let t = and-is (not (g .front .moves)) (eqb (g .top) 0) e in
       let w = idle-waits d (not-true (g .front .moves) (t .0)) in
       none-same (w .runs) runs (saved-end cells reals (p .r) (g .top) (g .used) (w .runs) (eqb-true (g .top) 0 (t .1)) (w .kept)) (w .same)
 

@@ -8,7 +8,8 @@ use native.Mathlib.Omega.{arith}
 use lib.Dec.{ltb}
 use lib.Ieee.{Float}
 use lib.ListN.{length, getD}
-use Rattle.net_node.proofs.Tables.{RoomIn, either}
+use Rattle.laws.proofs.Truth.{equal-or-not}
+use Rattle.net_node.proofs.Tables.{RoomIn}
 use Rattle.laws.specs.Answer.{refused}
 use Rattle.net_node.specs.declared.EstType.the-variants.{Fake}
 use Rattle.net_node.specs.declared.EstTime.{EstTime}
@@ -92,7 +93,7 @@ module _ {w : Layout} {start : List ℕ} {fs : List Float} {us cells : List ℕ}
 
     -- the nodes that were there have the same events
     still-mapped : (after : Table) (i : ℕ) → at after i .«link_event» ≡ at (tableOf fs us) i .«link_event» → ((j : ℕ) → j < c .nodes → j ≢ i → at after j ≡ at (tableOf fs us) j) → Mapped cells w (at after) (c .nodes)
-    still-mapped after i x s = mapped-same (at (tableOf fs us)) (at after) cells w (c .nodes) (omega arith) (λ j g. go j g (either j i)) net-mapped
+    still-mapped after i x s = mapped-same (at (tableOf fs us)) (at after) cells w (c .nodes) (omega arith) (λ j g. go j g (equal-or-not j i)) net-mapped
       where
         go : (j : ℕ) → j < c .nodes → (j ≡ i) ⊎ (j ≡ i → ⊥) → at after j .«link_event» ≡ at (tableOf fs us) j .«link_event»
         go j g (inl d) = ap (λ (y : ℕ). at after y .«link_event») d ∙ x ∙ ap (λ (y : ℕ). at (tableOf fs us) y .«link_event») (sym d)

@@ -22,6 +22,7 @@ use Rattle.net_strands.specs.declared.EstJoinPath.{EstJoinPath}
 use Rattle.net_strands.specs.Entries.{entriesIn, Valid}
 use Rattle.net_event_map.specs.declared.Layout.{Layout}
 use Rattle.grow_path.specs.Path.{legsTo, pathOf}
+use Rattle.grow_path.proofs.Legs.{less-one}
 use Rattle.grow_waiting.specs.declared.Rooms.{Rooms}
 use Rattle.grow_waiting.specs.Held.{Waiting, Untaken, SavedIn, waitingOf}
 use Rattle.grow_waiting.specs.Held.{SavedElsewhere}
@@ -74,9 +75,6 @@ no-leg b (suc n) k e = absurd (subst NotMissing e tt)
 
 -- ---- paths of one leg
 
-idx-of : (i : ℕ) → suc i - 1 ≡ i
-idx-of i = omega arith
-
 none-before : (k : ℕ) (b : List ℕ) → legsTo k b 0 ≡ []
 unfolding legsTo
 none-before zero b = refl
@@ -96,7 +94,7 @@ not-member i j d = ap (λ (t : Bool). t || false) (ne-eqb i j d)
 first-separate : (b : List ℕ) (i j : ℕ) → 0 < j → legParent b i ≡ 0 → legParent b (j - 1) ≡ 0 → (suc i ≡ j → ⊥) → Separate b (suc i) j
 first-separate b i zero h p q d = absurd (omega arith)
 first-separate b i (suc j) h p q d = record {
-  no-there = ap (λ (xs : List ℕ). memberOf xs (suc i)) (path-first b j (ap (legParent b) (sym (idx-of j)) ∙ q)) ∙ not-member (suc j) (suc i) (λ (e : suc j ≡ suc i). d (sym e));
+  no-there = ap (λ (xs : List ℕ). memberOf xs (suc i)) (path-first b j (ap (legParent b) (sym (less-one j)) ∙ q)) ∙ not-member (suc j) (suc i) (λ (e : suc j ≡ suc i). d (sym e));
   no-back = ap (λ (xs : List ℕ). memberOf xs (suc j)) (path-first b i p) ∙ not-member (suc i) (suc j) d;
 }
 
@@ -105,7 +103,7 @@ first-separate b i (suc j) h p q d = record {
 module _ (b : List ℕ) (link i : ℕ) (e : legLink b i ≡ link) where
   -- a run over another link takes another leg
   other-leg : (j : ℕ) → legLink b (j - 1) ≢ link → suc i ≡ j → ⊥
-  other-leg j d q = d (ap (λ (x : ℕ). legLink b (x - 1)) (sym q) ∙ ap (legLink b) (idx-of i) ∙ e)
+  other-leg j d q = d (ap (λ (x : ℕ). legLink b (x - 1)) (sym q) ∙ ap (legLink b) (less-one i) ∙ e)
 
   all-others : (n : ℕ) (idxs : List ℕ) (runs : List Run) → legParent b i ≡ 0 → AllSound b n runs → AllFirst b idxs runs → NotOver b link runs → SeparateFrom b (suc i) runs
   all-others n idxs [] p s f o = tt
@@ -214,7 +212,7 @@ module _ (b : List ℕ) (p : Plan) (fs : List Float) (us : List ℕ) (reals : Li
       state = record { counts = c; top = leg .number; used = g .used; front = g .front }
 
       path-none : pathBefore b (suc (leg-is .idx)) ≡ []
-      path-none = before-first b (suc (leg-is .idx)) (ap (legParent b) (idx-of (leg-is .idx)) ∙ of .parent)
+      path-none = before-first b (suc (leg-is .idx)) (ap (legParent b) (less-one (leg-is .idx)) ∙ of .parent)
 
       wait-more : WaitIn b (p .r) reals′ cells′ (leg .number) (g .used) (then ∷ runs)
       unfolding waitingOf entriesIn then
@@ -251,6 +249,6 @@ module _ (b : List ℕ) (p : Plan) (fs : List Float) (us : List ℕ) (reals : Li
             separate = (all-others b link (leg-is .idx) (of .link) (c .nodes) idxs runs (of .parent) (held .sound) (v .origins .firsts) (v .others), held .separate);
           };
           idle = v .origins .idle;
-          firsts = (ap (legParent b) (idx-of (leg-is .idx)) ∙ of .parent, (subst (λ (l : ℕ). OtherLinks b l idxs) (sym (ap (legLink b) (idx-of (leg-is .idx)) ∙ of .link)) (v .apart), v .origins .firsts));
+          firsts = (ap (legParent b) (less-one (leg-is .idx)) ∙ of .parent, (subst (λ (l : ℕ). OtherLinks b l idxs) (sym (ap (legLink b) (less-one (leg-is .idx)) ∙ of .link)) (v .apart), v .origins .firsts));
         };
       }

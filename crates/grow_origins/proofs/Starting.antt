@@ -8,7 +8,7 @@ use native.Mathlib.Omega.{arith}
 use borrow.Author.Tests.{eq-eqb, ne-eqb}
 use lib.Dec.{eqb, ltb}
 use lib.Ieee.{Float}
-use Rattle.net_node.proofs.Tables.{either}
+use Rattle.laws.proofs.Truth.{equal-or-not}
 use Rattle.book_format.specs.Format.{originLink}
 use Rattle.net_node.specs.declared.EstTime.{EstTime}
 use Rattle.net_node.specs.declared.TimedEvent.{TimedEvent}
@@ -173,7 +173,7 @@ module _ (b : List ℕ) (idx : ℕ) (idxs : List ℕ) (t : Table) (n last : ℕ)
   like-before : (m last′ : ℕ) (node : ℕ → EstTime) → n ≤ m → ((i : ℕ) → i < n → i ≢ last → i ≢ last′) → at u last .«link_event» ≡ at t last .«link_event» → Like u m last′ node → Like t n last node
   like-before m last′ node h d same like = record {
     others = λ i l o. like .others i (omega arith) (d i l o) ∙ others i l o;
-    events = λ i l. like .events i (omega arith) ∙ event i l (either i last);
+    events = λ i l. like .events i (omega arith) ∙ event i l (equal-or-not i last);
   }
     where
       event : (i : ℕ) → i < n → (i ≡ last) ⊎ (i ≡ last → ⊥) → at u i .«link_event» ≡ at t i .«link_event»

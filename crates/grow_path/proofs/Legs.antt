@@ -15,6 +15,7 @@ use Rattle.fields.specs.Fields.{u64At}
 use Rattle.laws.specs.Below.{sumBelow}
 use Rattle.laws.proofs.Below.{none-at, sum-more, sum-part}
 use Rattle.floats.specs.Floats.{tableFloat, bookFloat, Size}
+use Rattle.floats.proofs.Laws.{table-finite}
 use Rattle.floats.proofs.Order.{size-of-bits, add-grows, le-trans}
 use Rattle.book_format.specs.declared.Sample.{Sample}
 use Rattle.book_format.specs.declared.Sections.{Sections}
@@ -38,12 +39,6 @@ zero-book = refl
 zero-size : Size (ofBits binary64 0)
 zero-size = size-of-bits 0 zero-book
 
-table-finite : (x : Float) → tableFloat x ≡ true → finite x ≡ true
-unfolding tableFloat
-table-finite nan e = e
-table-finite (inf s) e = e
-table-finite (fin s m k) e = refl
-
 -- a book's float is finite
 book-finite : (n : ℕ) → bookFloat n ≡ true → finite (ofBits binary64 n) ≡ true
 unfolding bookFloat
@@ -65,7 +60,7 @@ module _ (b path : List ℕ) (named : (k : ℕ) → k < length path → bookFloa
   unfolding pointOffset
   point-rises k h = add-grows (pointOffset b path k) (floatOf (linkLength b (pointLink b path k))) (point-size k (omega arith)) (size-of-bits (linkLength b (pointLink b path k)) (named k h))
 
-less-one : (n : ℕ) → suc n - 1 ≡ n
+pub less-one : (n : ℕ) → suc n - 1 ≡ n
 less-one n = omega arith
 
 -- ---- a leg: in row i, and so of number i + 1

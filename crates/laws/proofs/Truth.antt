@@ -25,6 +25,10 @@ none-right true true e = e
 none-right true false e = refl
 none-right false b e = e
 
+pub or-is : (a b : Bool) → (a || b) ≡ true → (a ≡ true) ⊎ (b ≡ true)
+or-is true b e = inl refl
+or-is false b e = inr e
+
 pub neither : (a b : Bool) → a ≡ false → b ≡ false → (a || b) ≡ false
 neither true b e f = e
 neither false b e f = f
@@ -43,11 +47,17 @@ pub both : (a b : Bool) → a ≡ true → b ≡ true → (a && b) ≡ true
 both true b e f = f
 both false b e f = e
 
+pub and-is : (a b : Bool) → (a && b) ≡ true → (a ≡ true) × (b ≡ true)
+and-is a b e = (and-left a b e, and-right a b e)
+
 pub and-none : (a : Bool) → (a && false) ≡ false
 and-none true = refl
 and-none false = refl
 
 -- ---- two cases
+
+pub never : {A : Type 0} → true ≡ false → A
+never e = absurd (true≢false e)
 
 -- a Bool is not both
 pub not-both : {A : Type 0} {b : Bool} → b ≡ true → b ≡ false → A

@@ -9,7 +9,7 @@ use lib.Dec.{eqb}
 use lib.ListN.{length, getD, set, length-set}
 use lib.Seq.{getD-set-same, getD-set-other}
 use borrow.Author.Tests.{ne-eqb}
-use Rattle.laws.proofs.Truth.{true-or-false, not-both}
+use Rattle.laws.proofs.Truth.{true-or-false, not-both, equal-or-not}
 use Rattle.laws.specs.Below.{someBelow}
 use Rattle.laws.proofs.Below.{some-more, or-right, some-at, none-all}
 use Rattle.net_node.specs.declared.EstType.{EstType}
@@ -20,7 +20,6 @@ use Rattle.net_node.specs.Table.{sameEvent}
 use Rattle.net_event_map.specs.declared.Layout.{Layout}
 use Rattle.net_event_map.specs.EventMap.{seenIn, nodesFrom, eventNodes, headOf, lastOf, arriveAt, clearAt, bit, CellsApart, Mapped, MapOnly, RealKind}
 use Rattle.net_event_map.proofs.Lists.{same-arrive, arrive-same, arrive-other, arrive-no-clear, clear-same, clear-other, clear-no-arrive, head-first, head-kept, last-own, has, Inside, Walked, nodes-added, nodes-passed, walk, last-inside, behind-last, behind-other, walked-none, some-first, nodes-none}
-use Rattle.net_node.proofs.Tables.{either}
 
 -- ---- an event's kind
 
@@ -130,7 +129,7 @@ module _ {c : List ℕ} {w : Layout} {node : ℕ → EstTime} {n : ℕ} (v : Map
     first = λ l h. a .first l h ∙ v .first l h ∙ ap headOf (sym (all-passed node (arriveAt l) n (q l)));
     last = λ l h. a .last l h ∙ v .last l h ∙ ap lastOf (sym (all-passed node (arriveAt l) n (q l)));
     cleared = s;
-    next = λ l i h g t. go l i h g t (either i n);
+    next = λ l i h g t. go l i h g t (equal-or-not i n);
     fresh = λ i h g. a .next i g ∙ v .fresh i (omega arith) g;
     unmarked = λ i h. a .mark i h ∙ v .unmarked i h;
     zeroth = v .zeroth;
@@ -167,7 +166,7 @@ module _ {c : List ℕ} {w : Layout} {node : ℕ → EstTime} {i : ℕ} (l : ℕ
     last = λ k h. getD-set-other c flag (w .«links_at» + k * 8 + 1) 1 0 (λ (d : w .«links_at» + k * 8 + 1 ≡ flag). omega arith);
     next = λ j h. getD-set-other c flag (w .«nodes_at» + j * 8) 1 0 (λ (d : w .«nodes_at» + j * 8 ≡ flag). omega (arith, p .apart));
     mark = λ j h. getD-set-other c flag (w .«nodes_at» + j * 8 + 1) 1 0 (λ (d : w .«nodes_at» + j * 8 + 1 ≡ flag). omega (arith, p .apart));
-  }) (λ k. ap (λ (x : LinkEvent). sameEvent x (arriveAt k)) e ∙ clear-no-arrive l k) (λ k h. go k h (either k l))
+  }) (λ k. ap (λ (x : LinkEvent). sameEvent x (arriveAt k)) e ∙ clear-no-arrive l k) (λ k h. go k h (equal-or-not k l))
     where
       go : (k : ℕ) → k < w .links → (k ≡ l) ⊎ (k ≡ l → ⊥) → getD (set c flag 1) (w .«links_at» + k * 8 + 2) 0 ≡ bit (seenIn node (i + 1) (clearAt k))
       go k h (inl d) =
@@ -208,13 +207,13 @@ module _ {c : List ℕ} {w : Layout} {node : ℕ → EstTime} {i : ℕ} (l to : 
   arrived : Open w node i l to → getD d at 0 ≡ headOf (eventNodes node (arriveAt l) i ++ (i ∷ []))
       → ((j : ℕ) → j < i → has node (arriveAt l) j ≡ true → getD d (w .«nodes_at» + j * 8) 0 ≡ headOf (nodesFrom node (arriveAt l) (suc j) (i - suc j) ++ (i ∷ []))) → Mapped d w node (i + 1)
   arrived o f g = record {
-    first = λ k h. first k h (either k l);
-    last = λ k h. last k h (either k l);
+    first = λ k h. first k h (equal-or-not k l);
+    last = λ k h. last k h (equal-or-not k l);
     cleared = λ k h.
         two-other c to (at + 1) i i (w .«links_at» + k * 8 + 2) (o .clear-else k h) (λ (q : w .«links_at» + k * 8 + 2 ≡ at + 1). omega arith)
         ∙ v .cleared k h
         ∙ ap bit (sym (seen-passed node (clearAt k) i (no-clear k)));
-    next = λ k j h q t. next k j h q t (either j i) (either k l);
+    next = λ k j h q t. next k j h q t (equal-or-not j i) (equal-or-not k l);
     fresh = λ j h q. node-stays j q (λ (x : j < i) y. omega arith) ∙ v .fresh j (omega arith) q;
     unmarked = λ j h.
         two-other c to (at + 1) i i (w .«nodes_at» + j * 8 + 1) (o .mark-else j h) (λ (q : w .«nodes_at» + j * 8 + 1 ≡ at + 1). omega (arith, p .apart))
@@ -316,12 +315,12 @@ module _ {c : List ℕ} {w : Layout} {node : ℕ → EstTime} {i : ℕ} (l to : 
             mark-else = λ j h x. omega arith;
           })
           (two-other c to (at + 1) i i at (λ (x : at ≡ to). omega (arith, p .apart)) (λ (x : at ≡ at + 1). omega arith) ∙ v .first l b ∙ sym (head-kept xs i some))
-          (λ j h t. chain j h t (either j q) r)
+          (λ j h t. chain j h t (equal-or-not j q) r)
 
   -- in the cell that is open
   pub arrived-open : (getD c (w .«links_at» + l * 8) 0 ≡ 0 → to ≡ w .«links_at» + l * 8)
       → (0 < getD c (w .«links_at» + l * 8) 0 → to ≡ w .«nodes_at» + getD c (w .«links_at» + l * 8 + 1) 0 * 8) → Mapped (set (set c to i) (w .«links_at» + l * 8 + 1) i) w node (i + 1)
-  arrived-open f g = go (either (getD c at 0) 0)
+  arrived-open f g = go (equal-or-not (getD c at 0) 0)
     where
       go : (getD c at 0 ≡ 0) ⊎ (getD c at 0 ≡ 0 → ⊥) → Mapped d w node (i + 1)
       go (inl z) = arrived-first z (f z)
@@ -329,7 +328,7 @@ module _ {c : List ℕ} {w : Layout} {node : ℕ → EstTime} {i : ℕ} (l to : 
 
 pub open-inside : {c : List ℕ} {w : Layout} (l to : ℕ) → CellsApart c w → l < w .links → getD c (w .«links_at» + l * 8 + 1) 0 < w .places → (getD c (w .«links_at» + l * 8) 0 ≡ 0 → to ≡ w .«links_at» + l * 8)
     → (0 < getD c (w .«links_at» + l * 8) 0 → to ≡ w .«nodes_at» + getD c (w .«links_at» + l * 8 + 1) 0 * 8) → to < length c
-open-inside {c} {w} l to p b m f g = go (either (getD c (w .«links_at» + l * 8) 0) 0)
+open-inside {c} {w} l to p b m f g = go (equal-or-not (getD c (w .«links_at» + l * 8) 0) 0)
   where
     go : (getD c (w .«links_at» + l * 8) 0 ≡ 0) ⊎ (getD c (w .«links_at» + l * 8) 0 ≡ 0 → ⊥) → to < length c
     go (inl z) = omega (arith, f z, p .links-inside)
@@ -343,7 +342,7 @@ module _ {c : List ℕ} {w : Layout} (l : ℕ) (b : l < w .links) where
 
   pub arrived-only : (to i : ℕ) → getD c (w .«links_at» + l * 8 + 1) 0 < w .places → (getD c (w .«links_at» + l * 8) 0 ≡ 0 → to ≡ w .«links_at» + l * 8)
       → (0 < getD c (w .«links_at» + l * 8) 0 → to ≡ w .«nodes_at» + getD c (w .«links_at» + l * 8 + 1) 0 * 8) → MapOnly c (set (set c to i) (w .«links_at» + l * 8 + 1) i) w
-  arrived-only to i m f g = record { stays = λ q a n. two-other c to (w .«links_at» + l * 8 + 1) i i q (go q a n (either (getD c (w .«links_at» + l * 8) 0) 0)) (a l 1 b (omega arith)) }
+  arrived-only to i m f g = record { stays = λ q a n. two-other c to (w .«links_at» + l * 8 + 1) i i q (go q a n (equal-or-not (getD c (w .«links_at» + l * 8) 0) 0)) (a l 1 b (omega arith)) }
     where
       go : (q : ℕ) → ((l k : ℕ) → l < w .links → k < 3 → q ≢ w .«links_at» + l * 8 + k) → ((i : ℕ) → i < w .places → q ≢ w .«nodes_at» + i * 8)
           → (getD c (w .«links_at» + l * 8) 0 ≡ 0) ⊎ (getD c (w .«links_at» + l * 8) 0 ≡ 0 → ⊥) → q ≢ to

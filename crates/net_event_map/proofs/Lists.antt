@@ -9,13 +9,12 @@ use native.Mathlib.Omega.{arith}
 use lib.Dec.{eqb, T}
 use lib.ListN.{length, getD, length-append}
 use borrow.Author.Tests.{eqb-true, eqb-false, eq-eqb, ne-eqb}
-use Rattle.laws.proofs.Truth.{true-or-false, not-both, and-left, and-none}
+use Rattle.laws.proofs.Truth.{true-or-false, not-both, and-left, and-none, equal-or-not}
 use Rattle.net_node.specs.declared.EstType.{EstType}
 use Rattle.net_node.specs.declared.EstType.the-variants.{Arrive, Clear, Fake}
 use Rattle.net_node.specs.declared.LinkEvent.{LinkEvent}
 use Rattle.net_node.specs.declared.EstTime.{EstTime}
 use Rattle.net_node.specs.Table.{kindNumber, sameKind, sameEvent}
-use Rattle.net_node.proofs.Tables.{either}
 use Rattle.net_event_map.specs.EventMap.{nodesFrom, headOf, lastOf, arriveAt, clearAt, RealKind}
 
 -- ---- equal events
@@ -256,7 +255,7 @@ module _ (node : ℕ → EstTime) (e : LinkEvent) where
         go (inr v) = not-both (subst (λ (j : ℕ). has node e j ≡ true) z (v .inside .has-it)) zeroth
 
     pub some-first : (a k j : ℕ) → Inside node e a k j → 0 < headOf (nodesFrom node e a k)
-    some-first a k j i = go (either (headOf (nodesFrom node e a k)) 0)
+    some-first a k j i = go (equal-or-not (headOf (nodesFrom node e a k)) 0)
       where
         go : (headOf (nodesFrom node e a k) ≡ 0) ⊎ (headOf (nodesFrom node e a k) ≡ 0 → ⊥) → 0 < headOf (nodesFrom node e a k)
         go (inl z) = absurd (nodes-none a k j (walked-none a k z) i)

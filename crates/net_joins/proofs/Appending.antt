@@ -8,10 +8,10 @@ use Prim.Native.Nat.{ℕ, zero, suc, _+_, _-_, _*_, _≤_, _<_}
 use native.Mathlib.Omega.{arith}
 use lib.Dec.{eqb}
 use lib.ListN.{getD}
+use Rattle.laws.proofs.Truth.{equal-or-not}
 use Rattle.net_node.specs.declared.EstTime.{EstTime}
 use Rattle.net_event_map.specs.declared.Layout.{Layout}
 use Rattle.net_event_map.specs.EventMap.{nodesFrom, eventNodes, headOf, arriveAt, bit, Mapped}
-use Rattle.net_node.proofs.Tables.{either}
 use Rattle.net_event_map.proofs.Kept.{all-are, walked, walked-end}
 use Rattle.net_strands.specs.declared.EstJoinPath.{EstJoinPath}
 use Rattle.net_strands.specs.declared.Count.{Count}
@@ -64,12 +64,12 @@ module _ {c : List ℕ} {w : Layout} {node : ℕ → EstTime} {n : ℕ} (v : Map
   from a k = nodesFrom node (arriveAt l) a k
 
   chain-from : (fuel a k i : ℕ) → a + k ≡ n → k ≤ fuel → headOf (from a k) ≡ i → Chain d w i (from a k)
-  chain-from zero a k i e f h = go (either i 0)
+  chain-from zero a k i e f h = go (equal-or-not i 0)
     where
       go : (i ≡ 0) ⊎ (i ≡ 0 → ⊥) → Chain d w i (from a k)
       go (inl z) = subst (Chain d w i) (sym (walked-end v l a k (h ∙ z))) z
       go (inr z) = let u = walked node l a k i h (omega arith) .inside in absurd (omega (arith, u .from, u .below))
-  chain-from (suc fuel) a k i e f h = go (either i 0) (chain-from fuel)
+  chain-from (suc fuel) a k i e f h = go (equal-or-not i 0) (chain-from fuel)
     where
       go : (i ≡ 0) ⊎ (i ≡ 0 → ⊥) → ((a k i : ℕ) → a + k ≡ n → k ≤ fuel → headOf (from a k) ≡ i → Chain d w i (from a k)) → Chain d w i (from a k)
       go (inl z) ih = subst (Chain d w i) (sym (walked-end v l a k (h ∙ z))) z

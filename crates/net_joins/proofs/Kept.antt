@@ -11,7 +11,8 @@ use borrow.Author.Tests.{ltb-true}
 use lib.Dec.{ltb}
 use lib.Ieee.{Float, lt}
 use lib.ListN.{length, getD}
-use Rattle.net_node.proofs.Tables.{RoomIn, put-room, put-same, put-other, Fits, fits-at, fits-indexed, either}
+use Rattle.laws.proofs.Truth.{equal-or-not}
+use Rattle.net_node.proofs.Tables.{RoomIn, put-room, put-same, put-other, Fits, fits-at, fits-indexed}
 use Rattle.net_node.specs.declared.EstType.the-variants.{Fake}
 use Rattle.net_node.specs.declared.LinkEvent.{LinkEvent}
 use Rattle.net_node.specs.declared.EstTime.{EstTime}
@@ -121,7 +122,7 @@ module _ (t : Table) (n end : ℕ) (e : TimedEvent) where
 
 -- a node written that fits leaves all fitting
 fits-put : (t : Table) (i : ℕ) (x : EstTime) (places m j : ℕ) → RoomIn t places → i < places → Fits x i m → (j ≢ i → Fits (at t j) j m) → Fits (at (put t i x) j) j m
-fits-put t i x places m j r h f g = go (either j i)
+fits-put t i x places m j r h f g = go (equal-or-not j i)
   where
     go : (j ≡ i) ⊎ (j ≡ i → ⊥) → Fits (at (put t i x) j) j m
     go (inl d) = subst (λ (k : ℕ). Fits (at (put t i x) k) k m) (sym d) (subst (λ (z : EstTime). Fits z i m) (sym (put-same t i x places r h)) f)
@@ -129,7 +130,7 @@ fits-put t i x places m j r h f g = go (either j i)
 
 -- a number that a node has is kept by a write that keeps it
 kept-put : {A : Type 0} (f : EstTime → A) (t : Table) (i : ℕ) (x : EstTime) (places j : ℕ) → RoomIn t places → i < places → f x ≡ f (at t i) → f (at (put t i x) j) ≡ f (at t j)
-kept-put f t i x places j r h e = go (either j i)
+kept-put f t i x places j r h e = go (equal-or-not j i)
   where
     go : (j ≡ i) ⊎ (j ≡ i → ⊥) → f (at (put t i x) j) ≡ f (at t j)
     go (inl d) = ap (λ (k : ℕ). f (at (put t i x) k)) d ∙ ap f (put-same t i x places r h) ∙ e ∙ ap (λ (k : ℕ). f (at t k)) (sym d)

@@ -10,7 +10,7 @@ use borrow.Author.Tests.{lt-ltb}
 use lib.Dec.{ltb}
 use lib.ListN.{length, getD, set, take, length-append, length-set}
 use lib.Seq.{getD-set-same, getD-set-other, take-all, take-append-le}
-use Rattle.net_node.proofs.Tables.{either}
+use Rattle.laws.proofs.Truth.{equal-or-not}
 use Rattle.net_strands.specs.declared.EstJoinPath.{EstJoinPath}
 use Rattle.net_strands.specs.declared.Count.{Count}
 use Rattle.net_strands.specs.declared.Count.the-variants.{Entries, Over}
@@ -39,7 +39,7 @@ copying-start from to = record { same = λ p h. omega arith; many = refl }
 
 module _ {from to₀ to : List ℕ} {i : ℕ} (v : Copying from to₀ to i) where
   pub copying-on : i < length to → Copying from to₀ (set to i (getD from i 0)) (i + 1)
-  copying-on l = record { same = λ p h. go p h (either p i); many = length-set to i (getD from i 0) ∙ v .many }
+  copying-on l = record { same = λ p h. go p h (equal-or-not p i); many = length-set to i (getD from i 0) ∙ v .many }
     where
       go : (p : ℕ) → p < i + 1 → (p ≡ i) ⊎ (p ≡ i → ⊥) → getD (set to i (getD from i 0)) p 0 ≡ getD from p 0
       go p h (inl e) = ap (λ (k : ℕ). getD (set to i (getD from i 0)) k 0) e ∙ getD-set-same to i (getD from i 0) 0 l ∙ ap (λ (k : ℕ). getD from k 0) (sym e)
@@ -59,7 +59,7 @@ entries-front : (s : List ℕ) (n k : ℕ) → k ≤ n → take k (entriesIn s n
 unfolding entriesIn
 entries-front s zero zero h = refl
 entries-front s zero (suc k) h = absurd (omega arith)
-entries-front s (suc n) k h = go (either k (suc n)) (entries-front s n k)
+entries-front s (suc n) k h = go (equal-or-not k (suc n)) (entries-front s n k)
   where
     go : (k ≡ suc n) ⊎ (k ≡ suc n → ⊥) → (k ≤ n → take k (entriesIn s n) ≡ entriesIn s k) → take k (entriesIn s (suc n)) ≡ entriesIn s k
     go (inl e) ih = take-all k (entriesIn s (suc n)) (omega (arith, entries-count s (suc n))) ∙ ap (entriesIn s) (sym e)

@@ -6,6 +6,7 @@ use Prim.Native.Nat.{ℕ, _+_, _≤_, _<_}
 use native.Mathlib.Omega.{arith}
 use borrow.Author.Tests.{eqb-true, eqb-false}
 use lib.Dec.{eqb}
+use Rattle.laws.proofs.Truth.{equal-or-not}
 use Rattle.net_node.specs.declared.EstTime.{EstTime}
 use Rattle.net_node.specs.Table.{nodeAt, putFloats, putNumbers, Table, put, at, Room, Indexed}
 use Rattle.net_node.proofs.Nodes.{node-put-same, node-put-other, length-put-floats, length-put-numbers}
@@ -79,15 +80,8 @@ fits-indexed f = record {
   prev-alt-rises = λ i h. f i h .prev-alt-rises;
 }
 
-pub either : (a b : ℕ) → (a ≡ b) ⊎ (a ≡ b → ⊥)
-either a b = go (eqb a b) refl
-  where
-    go : (t : Bool) → eqb a b ≡ t → (a ≡ b) ⊎ (a ≡ b → ⊥)
-    go true e = inl (eqb-true a b e)
-    go false e = inr (eqb-false a b e)
-
 pub both-indexed : (t : Table) (i n : ℕ) (x y : EstTime) (places : ℕ) → RoomIn t places → Indexed (at t) n → i < n → n < places → Fits x i (n + 1) → Fits y n (n + 1) → Indexed (at (both t i n x y)) (n + 1)
-both-indexed t i n x y places r w h g f s = fits-indexed (λ j l. go j l (either j i) (either j n))
+both-indexed t i n x y places r w h g f s = fits-indexed (λ j l. go j l (equal-or-not j i) (equal-or-not j n))
   where
     go : (j : ℕ) → j < n + 1 → (j ≡ i) ⊎ (j ≡ i → ⊥) → (j ≡ n) ⊎ (j ≡ n → ⊥) → Fits (at (both t i n x y) j) j (n + 1)
     go j l (inl a) b = subst (λ (k : ℕ). Fits (at (both t i n x y) k) k (n + 1)) (sym a) (subst (λ (z : EstTime). Fits z i (n + 1)) (sym (both-first t i n x y places r h (omega arith))) f)

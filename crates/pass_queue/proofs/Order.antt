@@ -7,12 +7,10 @@ use borrow.Author.Tests.{ltb-true, ltb-false, le-ltb, eqb-true, eq-eqb}
 use lib.Dec.{T, ltb, eqb}
 use lib.Ieee.{Float, binary64, lt, isNan, fits, ofBits, toBits}
 use lib.Ieee.Bits.{ofBits-toBits}
+use Rattle.laws.proofs.Truth.{never, and-is}
 use Rattle.floats.proofs.Order.{lt-asym, not-lt, le-trans, le-not-lt}
 use Rattle.pass_queue.specs.declared.Entry.{Entry}
 use Rattle.pass_queue.specs.Queue.{thenBy, byBits, beforeForward, beforeBackward, before, Ordered, sameEntry}
-
-pub never : {X : Type 0} → true ≡ false → X
-never e = absurd (subst T e tt)
 
 -- what a heap asks of an order, over the entries that are in order at all
 pub record Laws {E : Type 0} (Ok : E → Type 0) (bef : E → E → Bool) : Type 0 where
@@ -129,15 +127,11 @@ equal-entries a b A B p q r =
     let sub = equal-floats (a .sub) (b .sub) (A .sub-fits) (B .sub-fits) q in
     λ t. record { time = time t; sub = sub t; node = r t }
 
-both : (s t : Bool) → (s && t) ≡ true → (s ≡ true) × (t ≡ true)
-both true t h = (refl, h)
-both false t h = never (sym h)
-
 pub same-equal : (a b : Entry) → Ordered a → Ordered b → sameEntry a b ≡ true → a ≡ b
 unfolding sameEntry
 same-equal a b A B h =
-    let p = both (eqb (toBits binary64 (a .time)) (toBits binary64 (b .time)) && eqb (toBits binary64 (a .sub)) (toBits binary64 (b .sub))) (eqb (a .node) (b .node)) h in
-    let q = both (eqb (toBits binary64 (a .time)) (toBits binary64 (b .time))) (eqb (toBits binary64 (a .sub)) (toBits binary64 (b .sub))) (p .0) in
+    let p = and-is (eqb (toBits binary64 (a .time)) (toBits binary64 (b .time)) && eqb (toBits binary64 (a .sub)) (toBits binary64 (b .sub))) (eqb (a .node) (b .node)) h in
+    let q = and-is (eqb (toBits binary64 (a .time)) (toBits binary64 (b .time))) (eqb (toBits binary64 (a .sub)) (toBits binary64 (b .sub))) (p .0) in
     equal-entries a b A B (eqb-true (toBits binary64 (a .time)) (toBits binary64 (b .time)) (q .0)) (eqb-true (toBits binary64 (a .sub)) (toBits binary64 (b .sub)) (q .1)) (eqb-true (a .node) (b .node) (p .1))
 
 pub same-self : (a : Entry) → sameEntry a a ≡ true

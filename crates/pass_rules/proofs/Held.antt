@@ -5,6 +5,7 @@ use Prim.Native.Nat.{ℕ, _+_, _-_, _≤_, _<_}
 use native.Mathlib.Omega.{arith}
 use lib.Dec.{eqb, leb, ltb}
 use borrow.Author.Tests.{ltb-true, lt-leb, ne-eqb}
+use Rattle.laws.proofs.Truth.{and-left, and-right}
 use Rattle.laws.specs.Below.{someBelow}
 use Rattle.laws.proofs.Below.{some-at, none-more}
 use Rattle.net_node.specs.declared.EstType.{EstType}
@@ -90,14 +91,6 @@ bools-hold true true true true true true false m t u v w y z e = absurd (true≢
 bools-hold true true true true true true true false t u v w y z e = absurd (true≢false (sym e))
 bools-hold true true true true true true true true t u v w y z e = refl
 
-first-true : (a b : Bool) → (a && b) ≡ true → a ≡ true
-first-true true b e = refl
-first-true false b e = e
-
-second-true : (a b : Bool) → (a && b) ≡ true → b ≡ true
-second-true true b e = e
-second-true false b e = absurd (true≢false (sym e))
-
 module _ (node : ℕ → EstTime) (n i : ℕ) where
   abbrev before : EstTime
   before = node (node i .«idx_prev»)
@@ -126,10 +119,10 @@ module _ (node : ℕ → EstTime) (n i : ℕ) where
       ∙ ap (λ (t : Bool). checks t false) (sym first) ∙ ap (λ (t : Bool). checks (leb i 1) t) (sym last)
     where
       first : leb i 1 ≡ false
-      first = lt-leb i 1 (ltb-true 1 i (first-true (ltb 1 i) (ltb i (n - 1) && linked) e))
+      first = lt-leb i 1 (ltb-true 1 i (and-left (ltb 1 i) (ltb i (n - 1) && linked) e))
 
       less : i < n - 1
-      less = ltb-true i (n - 1) (first-true (ltb i (n - 1)) linked (second-true (ltb 1 i) (ltb i (n - 1) && linked) e))
+      less = ltb-true i (n - 1) (and-left (ltb i (n - 1)) linked (and-right (ltb 1 i) (ltb i (n - 1) && linked) e))
 
       last : eqb i (n - 1) ≡ false
       last = ne-eqb i (n - 1) (λ (q : i ≡ n - 1). omega (arith, q, less))

@@ -4,18 +4,13 @@ use mathlib.Core.Bool.{Bool, true, false, _||_}
 use lib.Dec.{T}
 use lib.Ieee.{Float, nan, inf, fin, binary64, ne, isNan, fits}
 use lib.Ieee.Compare.{differs-from-itself}
+use Rattle.floats.proofs.Laws.{no-nan}
 use Rattle.pass_queue.specs.declared.Entry.{Entry}
 use Rattle.pass_queue.specs.Queue.{Ordered}
 
 is-nan : (x : Float) → ne x x ≡ true → isNan x ≡ true
 unfolding isNan
 is-nan x h = ap isNan (differs-from-itself x (subst T (sym h) tt))
-
-no-nan : (x : Float) → ne x x ≡ false → isNan x ≡ false
-unfolding isNan ne
-no-nan nan h = h
-no-nan (inf s) h = refl
-no-nan (fin s m e) h = refl
 
 module _ (e : Entry) where
   pub time-no-number : ne (e .time) (e .time) ≡ true → (isNan (e .time) || isNan (e .sub)) ≡ true

@@ -10,7 +10,7 @@ use borrow.Author.Tests.{eq-eqb, ne-eqb}
 use lib.Dec.{eqb, ltb}
 use lib.ListN.{length, set}
 use lib.Seq.{getD-set-same, getD-set-other}
-use Rattle.net_node.proofs.Tables.{either}
+use Rattle.laws.proofs.Truth.{equal-or-not}
 use Rattle.pass_queue.specs.Queue.{one}
 use Rattle.pass_rules.specs.Net.{alsoDone}
 use Rattle.pass_rules.specs.Walks.{doneIn}
@@ -54,7 +54,7 @@ module _ (done : ℕ → Bool) (i : ℕ) where
   pub left-falls : (n : ℕ) → i < n → done i ≡ false → left (alsoDone done i) n + 1 ≡ left done n
   unfolding left
   left-falls zero h e = absurd (not-suc-le-zero h)
-  left-falls (suc n) h e = ⊎-elim here (λ (o : n ≢ i). there o (left-falls n (below o) e)) (either n i)
+  left-falls (suc n) h e = ⊎-elim here (λ (o : n ≢ i). there o (left-falls n (below o) e)) (equal-or-not n i)
     where
       below : n ≢ i → i < n
       below o = omega arith
@@ -79,7 +79,7 @@ module _ (done : ℕ → Bool) (i : ℕ) where
 module _ (cells : List ℕ) (at i : ℕ) (h : at + i < length cells) where
   flag-set : (k : ℕ) → doneIn (set cells (at + i) 1) at k ≡ alsoDone (doneIn cells at) i k
   unfolding doneIn
-  flag-set k = ⊎-elim here there (either k i)
+  flag-set k = ⊎-elim here there (equal-or-not k i)
     where
       here : k ≡ i → doneIn (set cells (at + i) 1) at k ≡ alsoDone (doneIn cells at) i k
       here o =

@@ -4,7 +4,7 @@ use mathlib.Core.Logic.{_≢_, ⊎-elim}
 use mathlib.Core.List.{List}
 use Prim.Native.Nat.{ℕ, _<_}
 use lib.Ieee.{Float}
-use Rattle.net_node.proofs.Tables.{either}
+use Rattle.laws.proofs.Truth.{equal-or-not}
 use Rattle.net_node.proofs.Sets.{Changed, time-set, next-set, prev-set, arc-set}
 use Rattle.net_node.proofs.Tables.{RoomIn}
 use Rattle.net_node.specs.declared.EstTime.{EstTime}
@@ -45,7 +45,7 @@ linked-change t s n i x v c w = record {
         ⊎-elim
         (λ (o : k ≡ i). subst (λ (y : EstTime). Names y n) (sym (ap (at s) o ∙ c .here)) w)
         (λ (o : k ≢ i). subst (λ (y : EstTime). Names y n) (sym (c .other k o)) (names-at t n v k l))
-        (either k i)
+        (equal-or-not k i)
 
 module _ (t : Table) (n : ℕ) (v : Linked t n) (i : ℕ) (h : i < n) where
   pub linked-time : (time : Float) → Linked (setTime t i time) n

@@ -2,17 +2,6 @@
 // ones print `too long`), 192 nodes, 65,536 bytes of work space.
 use libc::STDIN_FILENO;
 use libc::STDOUT_FILENO;
-use listing::Listed;
-
-// Prints the listing of a book's sheet, or of its refusal, which is first put into a slice.
-fn print_sheet(book: &[u8], text: &mut [u8]) {
-    let Listed::Bytes(n) = sheets::sheet_text(book, text) else {
-        return;
-    };
-    if n <= text.len() {
-        io::write_all(STDOUT_FILENO, &text[..n]);
-    }
-}
 
 fn main() {
     let mut space = io::large_buffer();
@@ -23,5 +12,5 @@ fn main() {
         return;
     }
     let mut text = io::large_buffer();
-    print_sheet(&space[..n], &mut text);
+    sheets::print_sheet(&space[..n], &mut text);
 }

@@ -1,5 +1,6 @@
 // A book to its listing, for programs. Contracts: specs/Sheets.antt.
 use est_times::Sheet;
+use libc::STDOUT_FILENO;
 use listing::Listed;
 ghost use Rattle.net_node.specs.Lent.{lentAtEntry, lentAtExit};
 ghost use Rattle.listing.specs.Listing.{TextListed};
@@ -49,4 +50,14 @@ pub fn sheet_text(book: &[u8], out: &mut [u8]) -> Listed
         &mut marks,
         out,
     )
+}
+
+// Prints the listing of a book's sheet, or of its refusal, which is first put into a slice.
+pub fn print_sheet(book: &[u8], text: &mut [u8]) {
+    let Listed::Bytes(n) = sheet_text(book, text) else {
+        return;
+    };
+    if n <= text.len() {
+        io::write_all(STDOUT_FILENO, &text[..n]);
+    }
 }

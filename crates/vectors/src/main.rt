@@ -2,17 +2,6 @@
 // program `sheet` does, each behind a line `== K`, K from 0.
 use libc::STDIN_FILENO;
 use libc::STDOUT_FILENO;
-use listing::Listed;
-
-// Prints the listing of a book's sheet, or of its refusal, which is first put into a slice.
-fn print_sheet(book: &[u8], text: &mut [u8]) {
-    let Listed::Bytes(n) = sheets::sheet_text(book, text) else {
-        return;
-    };
-    if n <= text.len() {
-        io::write_all(STDOUT_FILENO, &text[..n]);
-    }
-}
 
 // Answers the book of so many bytes that comes next, which is read into a slice; false if it is longer than that.
 fn answer_book(space: &mut [u8], size: usize) -> bool {
@@ -24,7 +13,7 @@ fn answer_book(space: &mut [u8], size: usize) -> bool {
         return false;
     }
     let mut text = io::large_buffer();
-    print_sheet(&space[..n], &mut text);
+    sheets::print_sheet(&space[..n], &mut text);
     true
 }
 

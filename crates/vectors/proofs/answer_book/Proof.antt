@@ -9,7 +9,7 @@ use Rattle.vectors.proofs.answer_book.Reads as reads
 use Rattle.vectors.proofs.answer_book.Lts as lts
 use Rattle.io.proofs.large_buffer.Reads as large-buffer-reads
 use Rattle.io.proofs.read_full.Reads as read-full-reads
-use Rattle.vectors.proofs.print_sheet.Reads as print-sheet-reads
+use Rattle.sheets.proofs.print_sheet.Reads as print-sheet-reads
 
 returns : tie.Need-returns
 returns c = search needs

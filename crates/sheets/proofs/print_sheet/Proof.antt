@@ -1,9 +1,9 @@
--- `sheet::print_sheet` does nothing undefined, and ends.
+-- `sheets::print_sheet` does nothing undefined, and ends.
 use mathlib.Core.Path.{sym}
 use lib.Seq.{length-take-le}
 use borrow.Author.Needs.{needs}
-use Rattle.sheet.proofs.print_sheet.Statement.{statement}
-use Rattle.sheet.proofs.print_sheet.Tie as tie
+use Rattle.sheets.proofs.print_sheet.Statement.{statement}
+use Rattle.sheets.proofs.print_sheet.Tie as tie
 
 slice-aggregate-write-all : tie.Need-slice-aggregate-write-all
 slice-aggregate-write-all c = sym (length-take-le _ _ (c .before .if1 .taken))
