@@ -7,7 +7,7 @@ use native.Mathlib.Omega.{arith}
 use borrow.Author.Tests.{eqb-true, not-false}
 use lib.Dec.{eqb}
 use lib.Ieee.{Float}
-use Rattle.laws.proofs.Truth.{equal-or-not, and-left, and-right, or-is}
+use Rattle.laws.proofs.Truth.{true-or-false, equal-or-not, and-left, and-right, or-is}
 use Rattle.net_node.proofs.Tables.{RoomIn}
 use Rattle.net_node.specs.Table.{Table, at}
 use Rattle.laws.proofs.Below.{none-at}
@@ -21,8 +21,7 @@ use Rattle.pass_rules.specs.Backward.{backward}
 use Rattle.pass_rules.specs.Passes.{someLeft, allZero, checkedAs, afterBackward, afterForward, passes}
 use Rattle.arcs_growth.specs.Arcs.{isBase, isAlternative, arcsRead, SameArcs, timesIn}
 use Rattle.arcs_growth.specs.Shape.{isReceiver, Shape}
-use Rattle.net_node.proofs.Tables.{equal-or-not as same-or-not}
-use Rattle.arcs_passes.proofs.Roles.{equal-or-not, base-start, base-alternative, is-receiver, end-receives-not}
+use Rattle.arcs_passes.proofs.Roles.{base-start, base-alternative, is-receiver, end-receives-not}
 use Rattle.arcs_passes.proofs.Frames.{event-same, receiver-same}
 use Rattle.arcs_passes.proofs.ForwardRelinks.{Forth}
 use Rattle.arcs_passes.proofs.ForwardKeeps.{forward-keeps, forward-arcs}
@@ -59,8 +58,8 @@ module _ (node : ℕ → EstTime) (n : ℕ) (s : Shape node n) where
   pub second-last-receives : row14 node n ≡ false → isReceiver node n (n - 2) ≡ true
   second-last-receives e =
       let some = s .some in
-      is-receiver node n (n - 2) (beyond (same-or-not (n - 2) 1)) (omega arith)
-      (⊎-elim (λ (a : isAlternative node n (n - 2) ≡ true). absurd (unbased (n - 2) (base-alternative node n (n - 2) a) refl)) (λ (a : isAlternative node n (n - 2) ≡ false). a) (equal-or-not (isAlternative node n (n - 2))))
+      is-receiver node n (n - 2) (beyond (equal-or-not (n - 2) 1)) (omega arith)
+      (⊎-elim (λ (a : isAlternative node n (n - 2) ≡ true). absurd (unbased (n - 2) (base-alternative node n (n - 2) a) refl)) (λ (a : isAlternative node n (n - 2) ≡ false). a) (true-or-false (isAlternative node n (n - 2))))
     where
       unbased : (i : ℕ) → isBase node n i ≡ true → i ≡ n - 2 → ⊥
       unbased i b o =

@@ -14,7 +14,6 @@ use Rattle.net_node.specs.declared.EstTime.{EstTime}
 use Rattle.arcs_growth.specs.Arcs.{isBase}
 use Rattle.arcs_growth.specs.Shape.{Shape}
 use Rattle.arcs_passes.proofs.Sets.{sets, sets-at, sets-other}
-use Rattle.net_node.proofs.Tables.{equal-or-not as same-or-not}
 use Rattle.arcs_passes.proofs.Roles.{base-start}
 use Rattle.arcs_passes.proofs.Frames.{frameOf, SameFrames}
 use Rattle.arcs_passes.proofs.Swapped.{Swapped}
@@ -24,14 +23,14 @@ use Rattle.arcs_passes.proofs.Arcs.{Held, heldOf}
 
 module _ {t s : Table} {places i : ℕ} {y : EstTime} (c : Changed t s places i y) where
   change-sets : {A : Type 0} (g : EstTime → A) (x : ℕ) → g (at s x) ≡ sets i (g y) (λ (j : ℕ). g (at t j)) x
-  change-sets g x = go (same-or-not x i)
+  change-sets g x = go (equal-or-not x i)
     where
       go : (x ≡ i) ⊎ (x ≢ i) → g (at s x) ≡ sets i (g y) (λ (j : ℕ). g (at t j)) x
       go (inl e) = ap g (ap (at s) e ∙ c .here) ∙ sym (sets-at i (g y) (λ (j : ℕ). g (at t j))) ∙ sym (ap (sets i (g y) (λ (j : ℕ). g (at t j))) e)
       go (inr o) = ap g (c .other x o) ∙ sym (sets-other i (g y) (λ (j : ℕ). g (at t j)) x o)
 
   change-keeps : {A : Type 0} (g : EstTime → A) → g y ≡ g (at t i) → (x : ℕ) → g (at s x) ≡ g (at t x)
-  change-keeps g e x = go (same-or-not x i)
+  change-keeps g e x = go (equal-or-not x i)
     where
       go : (x ≡ i) ⊎ (x ≢ i) → g (at s x) ≡ g (at t x)
       go (inl o) = ap g (ap (at s) o ∙ c .here) ∙ e ∙ ap (λ (j : ℕ). g (at t j)) (sym o)
