@@ -8,3 +8,7 @@ pub mod roots;
 pub mod sizes;
 mod stream;
 pub mod tables;
+
+/// How many floats and how many numbers a node has in the table's two slices.
+pub const FLOATS: usize = 4;
+pub const NUMBERS: usize = 6;

@@ -1,4 +1,5 @@
 //! The library's listing of a sheet, against the text that is made here.
+use crate::{FLOATS, NUMBERS};
 
 extern "C" {
     fn keldurap_list_sheet(
@@ -47,6 +48,6 @@ pub fn is_listed(floats: &[f64], numbers: &[u32], report: [usize; 5], text: &[u8
         && whole(9)
         && none(1, floats, numbers, size - 1)
         && none(1, floats, numbers, 0)
-        && none(2, &floats[..4 * nodes - 1], numbers, size)
-        && none(2, floats, &numbers[..6 * nodes - 1], size)
+        && none(2, &floats[..FLOATS * nodes - 1], numbers, size)
+        && none(2, floats, &numbers[..NUMBERS * nodes - 1], size)
 }

@@ -1,5 +1,6 @@
 //! What is lent to the entries that take a book to nodes, and the call of one.
 use crate::books::{refill, Work};
+use crate::{FLOATS, NUMBERS};
 
 macro_rules! entries {
     ($($name:ident)*) => {
@@ -44,12 +45,12 @@ pub struct Lengths {
 impl Lengths {
     /// So many places and bytes of work space, and in each slice a part of a place or of a unit more.
     pub fn of(places: usize, bytes: u64) -> Lengths {
-        Lengths { table: [4 * places + 3, 6 * places + 5], work: Work::lengths(bytes) }
+        Lengths { table: [FLOATS * places + 3, NUMBERS * places + 5], work: Work::lengths(bytes) }
     }
 
     /// The places that both slices of the table fill.
     pub fn places(&self) -> usize {
-        (self.table[0] / 4).min(self.table[1] / 6)
+        (self.table[0] / FLOATS).min(self.table[1] / NUMBERS)
     }
 
     /// The bytes of the units that all three slices of the work space fill.
@@ -121,7 +122,7 @@ impl Room {
     /// The first nodes as an item for `keldurap_update_times`, with a departure of 0.
     pub fn item(&self, nodes: usize) -> Vec<u8> {
         let mut item = vec![0; 8];
-        for (floats, numbers) in self.floats.chunks(4).zip(self.numbers.chunks(6)).take(nodes) {
+        for (floats, numbers) in self.floats.chunks(FLOATS).zip(self.numbers.chunks(NUMBERS)).take(nodes) {
             item.extend(floats.iter().flat_map(|x| x.to_le_bytes()));
             item.extend(numbers.iter().flat_map(|n| n.to_le_bytes()));
         }
@@ -130,7 +131,7 @@ impl Room {
 
     /// Whether the work space is zero, and the table from a node on.
     pub(crate) fn is_zero_from(&self, nodes: usize) -> bool {
-        let floats = self.floats.iter().skip(4 * nodes).all(|x| x.to_bits() == 0);
-        floats && self.numbers.iter().skip(6 * nodes).all(|&n| n == 0) && self.work.is_zero()
+        let floats = self.floats.iter().skip(FLOATS * nodes).all(|x| x.to_bits() == 0);
+        floats && self.numbers.iter().skip(NUMBERS * nodes).all(|&n| n == 0) && self.work.is_zero()
     }
 }

@@ -2,13 +2,14 @@
 use crate::books::asked;
 use crate::jobs::{Job, Tally};
 use crate::room::Lengths;
+use crate::{FLOATS, NUMBERS};
 use generator::{book, needed};
 
 /// Tables of just so many places, of one more, of one less by one slice alone, and of none by both or by one.
 fn tables(places: usize) -> [[usize; 2]; 6] {
-    let (floats, numbers) = (4 * places, 6 * places);
+    let (floats, numbers) = (FLOATS * places, NUMBERS * places);
     let less = |length: usize| length.saturating_sub(1);
-    [[floats, numbers], [floats + 4, numbers + 6], [less(floats), numbers], [floats, less(numbers)], [0, 0], [floats, 0]]
+    [[floats, numbers], [floats + FLOATS, numbers + NUMBERS], [less(floats), numbers], [floats, less(numbers)], [0, 0], [floats, 0]]
 }
 
 /// Work space of just so many units, of more, of one less by one slice alone, and of none by all or by one.

@@ -1,6 +1,7 @@
 //! The table entry, driven from a stream and against both outside answers.
 use crate::books::Work;
 use crate::stream::{self, digits};
+use crate::{FLOATS, NUMBERS};
 use generator::Tables;
 use std::collections::BTreeMap;
 use std::fmt::Write as _;
@@ -23,8 +24,8 @@ extern "C" {
     ) -> u32;
 }
 
-/// 4 f64 and 6 u32.
-const WIDTH: usize = 56;
+/// A node's bytes in an item.
+const WIDTH: usize = 8 * FLOATS + 4 * NUMBERS;
 
 /// What the table entry is lent: an item's nodes in two slices, each a little longer than they fill.
 #[derive(Clone)]
@@ -42,8 +43,8 @@ impl Lent {
         let number = |at: usize| u32::from_le_bytes(item[at..at + 4].try_into().unwrap());
         let nodes = (item.len() - 8) / WIDTH;
         let rows = || (0..nodes).map(|i| 8 + i * WIDTH);
-        let mut floats: Vec<f64> = rows().flat_map(|at| (0..4).map(move |k| float(at + 8 * k))).collect();
-        let mut numbers: Vec<u32> = rows().flat_map(|at| (0..6).map(move |k| number(at + 32 + 4 * k))).collect();
+        let mut floats: Vec<f64> = rows().flat_map(|at| (0..FLOATS).map(move |k| float(at + 8 * k))).collect();
+        let mut numbers: Vec<u32> = rows().flat_map(|at| (0..NUMBERS).map(move |k| number(at + 8 * FLOATS + 4 * k))).collect();
         // One slice alone has whole places more, by turns, and both a part of one.
         floats.resize(floats.len() + if nodes % 2 == 0 { 11 } else { 3 }, f64::MAX);
         numbers.resize(numbers.len() + if nodes % 2 == 0 { 5 } else { 17 }, 0xa5a5_a5a5);
@@ -95,14 +96,14 @@ impl Lent {
     }
 
     fn is_zero_from(&self, nodes: usize) -> bool {
-        let floats = self.floats.iter().skip(4 * nodes).all(|x| x.to_bits() == 0);
-        floats && self.numbers.iter().skip(6 * nodes).all(|&n| n == 0)
+        let floats = self.floats.iter().skip(FLOATS * nodes).all(|x| x.to_bits() == 0);
+        floats && self.numbers.iter().skip(NUMBERS * nodes).all(|&n| n == 0)
     }
 }
 
 /// The first nodes of a table, as the listing has them; before the passes each time is `-`.
 pub fn listed(text: &mut String, floats: &[f64], numbers: &[u32], nodes: usize, is_timed: bool) {
-    for (i, (floats, numbers)) in floats.chunks(4).zip(numbers.chunks(6)).take(nodes).enumerate() {
+    for (i, (floats, numbers)) in floats.chunks(FLOATS).zip(numbers.chunks(NUMBERS)).take(nodes).enumerate() {
         let kind = ['A', 'C', 'F'][numbers[5] as usize];
         write!(text, "{i} {kind} {}", numbers[4]).unwrap();
         for index in &numbers[..4] {
