@@ -1,6 +1,6 @@
--- A run between two events: which of its events it stands on, and which come next. Noted arcs lead between neighbouring events.
+-- A run between two events: which of its events it stands on, which nodes they have, and which come next. Noted arcs lead between neighbouring events.
 use mathlib.Core.Path.{_≡_, refl, sym, ap, _∙_, subst}
-use mathlib.Core.Logic.{inl, inr}
+use mathlib.Core.Logic.{_⊎_, inl, inr}
 use mathlib.Core.List.{List, [], _∷_, _++_, append-assoc}
 use Prim.Native.Nat.{ℕ, _<_, _≤_}
 use native.Mathlib.Omega.{arith}
@@ -9,100 +9,120 @@ use Rattle.net_node.specs.Table.{at}
 use Rattle.net_node.specs.declared.EstTime.{EstTime}
 use Rattle.net_node.specs.declared.TimedEvent.{TimedEvent}
 use Rattle.grow_path.specs.Path.{legEvents}
-use Rattle.grow_rules.specs.Run.{Arc, Net, Run, arcTo}
-use Rattle.arcs_growth.specs.Runs.{runEventsTo, NextTo, Follows}
-use Rattle.arcs_growth.specs.Noted.{OfRun}
+use Rattle.grow_rules.specs.Run.{Arc, EndedRun, Net, Run, arcTo, nodesTo}
+use Rattle.arcs_growth.specs.Runs.{Taken, runEventsTo, HasEvent, Visits, AllTaken, Between, LeadsOn}
+use Rattle.arcs_growth.specs.Noted.{LeadsOut, Starts, Follows, Ends}
 use Rattle.laws.proofs.Members.{All, all-so}
 use Rattle.arcs_growth.proofs.Labels.{Labels, Extends}
 use Rattle.arcs_growth.proofs.Invariant.{Grows, Waits}
+use Rattle.arcs_growth.proofs.Paths.{Real}
+use Rattle.arcs_growth.proofs.Visits.{EventsKept, has-more, ends-more, starts-more, has-real, Paired, paired-more, paired-on, leads-paired, allRuns, Covers, starts-covered, follows-covered}
 
--- the run stands on the node of its last event, with that event's own numbers, and has es to come; its place is no origin's Arrive
+-- the run stands on the node of its last event, with that event's own numbers, each event before it has a node, and it has es to come; its place is no origin's Arrive
 pub record AtEvent (b : List ℕ) (L : Labels) (node : ℕ → EstTime) (n : ℕ) (run : Run) (es : List TimedEvent) : Type 0 where
-  pub within : run .place .«idx_prev» < n
   pub deep : 2 ≤ L .depth (run .place .«idx_prev»)
+  pub taken : Taken b (run .leg)
   pub past : List TimedEvent
   pub last : TimedEvent
   pub events : runEventsTo b (run .leg) ≡ past ++ (last ∷ es)
-  pub here : node (run .place .«idx_prev») .«link_event» ≡ last .«link_event»
+  pub front : List ℕ
+  pub nodes : run .nodes ≡ front ++ (run .place .«idx_prev» ∷ [])
+  pub paired : Paired b node n past front
+  pub here : HasEvent b node n last (run .place .«idx_prev»)
+  pub real : Real last
   pub time : run .place .«time_to_next» ≡ last .time
   pub distance : run .place .«dist_to_next» ≡ last .offset
 
--- an arc among the first n nodes
-abbrev pub Notes : List ℕ → (ℕ → EstTime) → ℕ → Arc → Type 0
-Notes b node n arc = (arc .from < n) × ((arc .to < n) × OfRun b node arc)
+-- a noted arc, while these runs wait and those have ended
+abbrev pub Notes : List ℕ → (ℕ → EstTime) → ℕ → List Run → List EndedRun → Arc → Type 0
+Notes b node n runs ended arc = Ends node n arc × (LeadsOut b ended arc ⊎ (Starts b node (allRuns runs ended) arc ⊎ Follows b (allRuns runs ended) arc))
 
--- it stays so where the nodes' events do
-pub of-run-still : (b : List ℕ) (n : ℕ) (node after : ℕ → EstTime) → ((i : ℕ) → i < n → after i .«link_event» ≡ node i .«link_event») → (arc : Arc) → arc .from < n → arc .to < n → OfRun b node arc → OfRun b after arc
-of-run-still b n node after f arc p q (inl o) = inl o
-of-run-still b n node after f arc p q (inr (inl o)) = inr (inl (record { idx = o .idx; kept = o .kept; from = o .from; to-event = f (arc .to) q ∙ o .to-event; time = o .time; distance = o .distance }))
-of-run-still b n node after f arc p q (inr (inr o)) = inr (inr (record {
-  leg = o .leg;
-  before = o .before;
-  after = o .after;
-  neighbours = o .neighbours;
-  from-event = f (arc .from) p ∙ o .from-event;
-  to-event = f (arc .to) q ∙ o .to-event;
-  time = o .time;
-  distance = o .distance;
-}))
-
-module _ (b : List ℕ) {L M : Labels} {n m : ℕ} (node after : ℕ → EstTime) (x : Extends L M n) (h : n ≤ m) (f : (i : ℕ) → i < n → after i .«link_event» ≡ node i .«link_event») where
+-- it stays so where the nodes keep their events
+module _ (b : List ℕ) {L M : Labels} {n m : ℕ} (node after : ℕ → EstTime) (x : Extends L M n) (h : n ≤ m) (f : EventsKept n node after) where
   pub at-event-more : (run : Run) (es : List TimedEvent) → AtEvent b L node n run es → AtEvent b M after m run es
-  at-event-more run es d =
-      let w = d .within in
-      record {
-        within = omega arith;
-        deep = subst (λ (k : ℕ). 2 ≤ k) (sym (x .depth (run .place .«idx_prev») w)) (d .deep);
-        past = d .past;
-        last = d .last;
-        events = d .events;
-        here = f (run .place .«idx_prev») w ∙ d .here;
-        time = d .time;
-        distance = d .distance;
-      }
+  at-event-more run es d = record {
+    deep = subst (λ (k : ℕ). 2 ≤ k) (sym (x .depth (run .place .«idx_prev») (d .here .inside))) (d .deep);
+    taken = d .taken;
+    past = d .past;
+    last = d .last;
+    events = d .events;
+    front = d .front;
+    nodes = d .nodes;
+    paired = paired-more b node after h f (d .past) (d .front) (d .paired);
+    here = has-more b node after h f (d .last) (run .place .«idx_prev») (d .here);
+    real = d .real;
+    time = d .time;
+    distance = d .distance;
+  }
 
   pub waiting-more : (runs : List Run) → All (λ (s : Run). AtEvent b L node n s (legEvents b (s .leg))) runs → All (λ (s : Run). AtEvent b M after m s (legEvents b (s .leg))) runs
   waiting-more = all-so (λ (s : Run). AtEvent b L node n s (legEvents b (s .leg))) (λ (s : Run). AtEvent b M after m s (legEvents b (s .leg))) (λ s d. at-event-more s (legEvents b (s .leg)) d)
 
-  pub notes-more : (arcs : List Arc) → All (Notes b node n) arcs → All (Notes b after m) arcs
-  notes-more = all-so (Notes b node n) (Notes b after m) (λ arc d. (omega (arith, d .0), (omega (arith, d .1 .0), of-run-still b n node after f arc (d .0) (d .1 .0) (d .1 .1))))
+pub notes-more : (b : List ℕ) {n m : ℕ} (node after : ℕ → EstTime) → 0 < n → n ≤ m → EventsKept n node after → (runs : List Run) (ended : List EndedRun) (arcs : List Arc) → All (Notes b node n runs ended) arcs → All (Notes b after m runs ended) arcs
+notes-more b {n} {m} node after some h f runs ended = all-so (Notes b node n runs ended) (Notes b after m runs ended) (λ arc d. (ends-more b node after h f arc (d .0), still arc (d .0) (d .1)))
+  where
+    still : (arc : Arc) → Ends node n arc → LeadsOut b ended arc ⊎ (Starts b node (allRuns runs ended) arc ⊎ Follows b (allRuns runs ended) arc)
+        → LeadsOut b ended arc ⊎ (Starts b after (allRuns runs ended) arc ⊎ Follows b (allRuns runs ended) arc)
+    still arc e (inl o) = inl o
+    still arc e (inr (inl o)) = inr (inl (starts-more b node after h f some (allRuns runs ended) arc e o))
+    still arc e (inr (inr o)) = inr (inr o)
 
--- ---- neighbours
+-- it stays so where the runs go on
+pub notes-on : (b : List ℕ) (node : ℕ → EstTime) (n : ℕ) (runs next : List Run) (ended more : List EndedRun) → ((arc : Arc) → LeadsOut b ended arc → LeadsOut b more arc)
+    → Covers b (allRuns runs ended) (allRuns next more) → (arcs : List Arc) → All (Notes b node n runs ended) arcs → All (Notes b node n next more) arcs
+notes-on b node n runs next ended more f c = all-so (Notes b node n runs ended) (Notes b node n next more) (λ arc d. (d .0, still arc (d .1)))
+  where
+    still : (arc : Arc) → LeadsOut b ended arc ⊎ (Starts b node (allRuns runs ended) arc ⊎ Follows b (allRuns runs ended) arc)
+        → LeadsOut b more arc ⊎ (Starts b node (allRuns next more) arc ⊎ Follows b (allRuns next more) arc)
+    still arc (inl o) = inl (f arc o)
+    still arc (inr (inl o)) = inr (inl (starts-covered b node (allRuns runs ended) (allRuns next more) c arc o))
+    still arc (inr (inr o)) = inr (inr (follows-covered b (allRuns runs ended) (allRuns next more) c arc o))
 
-pub next-there : (past : List TimedEvent) (x y : TimedEvent) (es : List TimedEvent) → NextTo (past ++ (x ∷ y ∷ es)) x y
-next-there [] x y es = inl (refl, refl)
-next-there (z ∷ []) x y es = inr (inl (refl, refl))
-next-there (z ∷ w ∷ past) x y es = inr (next-there (w ∷ past) x y es)
+-- a run more has ended
+pub out-more : (b : List ℕ) (run : EndedRun) (ended : List EndedRun) (arc : Arc) → LeadsOut b ended arc → LeadsOut b (run ∷ ended) arc
+out-more b run ended arc o = record { run = inr (o .run); to = o .to; time = o .time; distance = o .distance }
 
--- an arc to node i, which has the run's next event
-pub follows-next : {b : List ℕ} {L : Labels} {n : ℕ} (node after : ℕ → EstTime) {run : Run} {e : TimedEvent} {es : List TimedEvent} → AtEvent b L node n run (e ∷ es)
-    → ((i : ℕ) → i < n → after i .«link_event» ≡ node i .«link_event») → (i : ℕ) → after i .«link_event» ≡ e .«link_event» → Follows b after (arcTo (run .place) i e)
-unfolding arcTo
-follows-next {b} node after {run} {e} {es} d f i q = record {
-  leg = run .leg;
-  before = d .last;
-  after = e;
-  neighbours = subst (λ (xs : List TimedEvent). NextTo xs (d .last) e) (sym (d .events)) (next-there (d .past) (d .last) e es);
-  from-event = f (run .place .«idx_prev») (d .within) ∙ d .here;
-  to-event = q;
-  time = ap (sub binary64 (e .time)) (d .time);
-  distance = ap (sub binary64 (e .offset)) (d .distance);
-}
+-- ---- the next event
 
--- the run has gone on to its next event
-pub at-event-on : {b : List ℕ} {L M : Labels} {node after : ℕ → EstTime} {n m : ℕ} {run next : Run} {e : TimedEvent} {es : List TimedEvent} → AtEvent b L node n run (e ∷ es)
-    → next .place .«idx_prev» < m → 2 ≤ M .depth (next .place .«idx_prev») → next .leg ≡ run .leg → after (next .place .«idx_prev») .«link_event» ≡ e .«link_event»
-    → next .place .«time_to_next» ≡ e .time → next .place .«dist_to_next» ≡ e .offset → AtEvent b M after m next es
-at-event-on {b} {e = e} {es = es} d w k l q t o = record {
-  within = w;
-  deep = k;
-  past = d .past ++ (d .last ∷ []);
-  last = e;
-  events = ap (runEventsTo b) l ∙ d .events ∙ sym (append-assoc (d .past) (d .last ∷ []) (e ∷ es));
-  here = q;
-  time = t;
-  distance = o;
-}
+module _ {b : List ℕ} {L : Labels} {node : ℕ → EstTime} {n : ℕ} {run : Run} {e : TimedEvent} {es : List TimedEvent} (d : AtEvent b L node n run (e ∷ es)) where
+  -- an arc to node i, which has the run's next event
+  pub leads-next : (i : ℕ) → LeadsOn (runEventsTo b (run .leg)) (nodesTo run i) (arcTo (run .place) i e)
+  unfolding arcTo
+  leads-next i =
+      subst (λ (xs : List TimedEvent). LeadsOn xs (nodesTo run i) (arcTo (run .place) i e)) (sym (d .events))
+      (subst (λ (is : List ℕ). LeadsOn (d .past ++ (d .last ∷ e ∷ es)) is (arcTo (run .place) i e)) (sym nodes-are)
+      (leads-paired (d .past) (d .front) (d .paired) (d .last) e (run .place .«idx_prev») i (arcTo (run .place) i e)
+      (record { from = refl; to = refl; time = ap (sub binary64 (e .time)) (d .time); distance = ap (sub binary64 (e .offset)) (d .distance) }) es))
+    where
+      nodes-are : nodesTo run i ≡ d .front ++ (run .place .«idx_prev» ∷ i ∷ [])
+      nodes-are = ap (λ (is : List ℕ). is ++ (i ∷ [])) (d .nodes) ∙ append-assoc (d .front) (run .place .«idx_prev» ∷ []) (i ∷ [])
+
+  -- both its ends are event nodes
+  pub ends-next : {after : ℕ → EstTime} {m : ℕ} → n ≤ m → EventsKept n node after → (i : ℕ) → HasEvent b after m e i → Real e → Ends after m (arcTo (run .place) i e)
+  unfolding arcTo
+  ends-next {after} {m} h f i q real = record {
+    from = inr (has-real b after m (d .last) (run .place .«idx_prev») (has-more b node after h f (d .last) (run .place .«idx_prev») (d .here)) (d .real));
+    to = inr (has-real b after m e i q real);
+  }
+
+  -- the run has gone on to its next event
+  pub at-event-on : {M : Labels} {after : ℕ → EstTime} {m : ℕ} {next : Run} → n ≤ m → EventsKept n node after → 2 ≤ M .depth (next .place .«idx_prev») → next .leg ≡ run .leg
+      → next .nodes ≡ nodesTo run (next .place .«idx_prev») → HasEvent b after m e (next .place .«idx_prev») → Real e → next .place .«time_to_next» ≡ e .time → next .place .«dist_to_next» ≡ e .offset → AtEvent b M after m next es
+  at-event-on {M} {after} {m} {next} h f k l q p real t o = record {
+    deep = k;
+    taken = subst (Taken b) (sym l) (d .taken);
+    past = d .past ++ (d .last ∷ []);
+    last = e;
+    events = ap (runEventsTo b) l ∙ d .events ∙ sym (append-assoc (d .past) (d .last ∷ []) (e ∷ es));
+    front = run .nodes;
+    nodes = q;
+    paired = subst (Paired b after m (d .past ++ (d .last ∷ []))) (sym (d .nodes))
+        (paired-on (d .past) (d .front) (paired-more b node after h f (d .past) (d .front) (d .paired)) (d .last) (run .place .«idx_prev») (has-more b node after h f (d .last) (run .place .«idx_prev») (d .here)));
+    here = p;
+    real = real;
+    time = t;
+    distance = o;
+  }
 
 -- ---- the driver's invariant: the runs that wait
 
@@ -111,7 +131,8 @@ pub record Driven (b : List ℕ) (places : ℕ) (net : Net) (runs : List Run) : 
   pub grows : Grows labels places net
   pub waits : Waits labels net runs
   pub at-event : All (λ (s : Run). AtEvent b labels (at (net .table)) (net .nodes) s (legEvents b (s .leg))) runs
-  pub notes : All (Notes b (at (net .table)) (net .nodes)) (net .noted)
+  pub notes : All (Notes b (at (net .table)) (net .nodes) runs (net .runs)) (net .noted)
+  pub taken : AllTaken b (at (net .table)) (net .nodes) (net .runs)
 
 -- and with a run within a leg, es to come
 pub record Running (b : List ℕ) (places : ℕ) (net : Net) (run : Run) (saved : List Run) (es : List TimedEvent) : Type 0 where
@@ -120,4 +141,5 @@ pub record Running (b : List ℕ) (places : ℕ) (net : Net) (run : Run) (saved 
   pub waits : Waits labels net (run ∷ saved)
   pub at-event : AtEvent b labels (at (net .table)) (net .nodes) run es
   pub others : All (λ (s : Run). AtEvent b labels (at (net .table)) (net .nodes) s (legEvents b (s .leg))) saved
-  pub notes : All (Notes b (at (net .table)) (net .nodes)) (net .noted)
+  pub notes : All (Notes b (at (net .table)) (net .nodes) (run ∷ saved) (net .runs)) (net .noted)
+  pub taken : AllTaken b (at (net .table)) (net .nodes) (net .runs)

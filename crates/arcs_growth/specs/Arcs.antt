@@ -2,7 +2,9 @@
 -- nodes (Arrive or Clear), by number." Read off the sheet: "each of node 1, event nodes and split Fakes (Fakes that are
 -- next alternatives, 0 being none) has one arc, with its own time to next and distance to next. It leads from the event
 -- or start whose next alternatives reach it (the start or an event: from itself) to the first non-Fake or the end along
--- next." The network is a function from index to node, of which the first n count. In an arc 0 stands for the end.
+-- next." The network is a function from index to node, of which the first n count. In an arc 0 stands for the end, and
+-- n, which no node has and no noted arc, for an end that is not there: where a walk along next or up the alternatives
+-- does not end, and where a split Fake is the next alternative of no node, of node 0, or of two.
 use mathlib.Core.Path.{_≡_}
 use mathlib.Core.Bool.{Bool, true, false, not, _&&_, _||_, cond}
 use mathlib.Core.List.{List, [], _∷_, _++_}
@@ -14,6 +16,18 @@ use Rattle.net_node.specs.declared.EstTime.{EstTime}
 use Rattle.net_node.specs.Table.{isFake}
 use Rattle.net_node.specs.declared.TimedEvent.{TimedEvent}
 use Rattle.grow_rules.specs.Run.{Arc}
+
+-- 1 for true
+abbrev pub one : Bool → ℕ
+one true = 1
+one false = 0
+
+-- a node's source, by whether it is the start or an event, and whether it has one owner: itself, what its owner's
+-- source is, or none
+abbrev pub sourceAs : ℕ → Bool → Bool → ℕ → ℕ → ℕ
+sourceAs none true owned i before = i
+sourceAs none false true i before = before
+sourceAs none false false i before = none
 
 module _ (node : ℕ → EstTime) (n : ℕ) where
   -- "Fakes that are next alternatives, 0 being none"
@@ -30,18 +44,24 @@ module _ (node : ℕ → EstTime) (n : ℕ) where
   alternativeOf zero i = 0
   alternativeOf (suc k) i = cond (eqb (node k .«idx_next_alt») i) k (alternativeOf k i)
 
-  -- "from the event or start whose next alternatives reach it (the start or an event: from itself)", in so many steps
-  abbrev sourceAs : Bool → ℕ → ℕ → ℕ
-  sourceAs true i before = i
-  sourceAs false i before = before
+  -- how many of the first k nodes have i as their next alternative
+  unfoldable pub owners : ℕ → ℕ → ℕ
+  owners zero i = 0
+  owners (suc k) i = owners k i + one (eqb (node k .«idx_next_alt») i)
 
-  -- where the arc of node i begins
+  -- one node has, and it is not node 0
+  unfoldable pub isOwned : ℕ → Bool
+  unfolding owners alternativeOf
+  isOwned i = eqb (owners n i) 1 && not (eqb (alternativeOf n i) 0)
+
+  -- "from the event or start whose next alternatives reach it (the start or an event: from itself)": where the arc of
+  -- node i begins, in so many steps
   unfoldable pub sourceOf : ℕ → ℕ → ℕ
-  unfolding alternativeOf
-  sourceOf zero i = i
+  unfolding isOwned
+  sourceOf zero i = n
   sourceOf (suc k) i =
       let before = sourceOf k (alternativeOf n i) in
-      sourceAs (eqb i 1 || not (isFake (node i))) i before
+      sourceAs n (eqb i 1 || not (isFake (node i))) (isOwned i) i before
 
   -- "to the first non-Fake or the end along next", in so many steps; 0 is the end
   abbrev goalAs : Bool → Bool → ℕ → ℕ → ℕ
@@ -51,7 +71,7 @@ module _ (node : ℕ → EstTime) (n : ℕ) where
 
   -- where an arc that leads to node i ends
   unfoldable pub goalOf : ℕ → ℕ → ℕ
-  goalOf zero i = 0
+  goalOf zero i = n
   goalOf (suc k) i =
       let later = goalOf k (node i .«idx_next») in
       goalAs (eqb i (n - 1)) (isFake (node i)) i later
@@ -86,11 +106,6 @@ sameArc a b =
     && eqb (a .to) (b .to)
     && eqb (toBits binary64 (a .time)) (toBits binary64 (b .time))
     && eqb (toBits binary64 (a .distance)) (toBits binary64 (b .distance))
-
--- 1 for true
-abbrev pub one : Bool → ℕ
-one true = 1
-one false = 0
 
 -- how often an arc is in a list
 unfoldable pub timesIn : Arc → List Arc → ℕ

@@ -4,16 +4,16 @@ use mathlib.Core.Bool.{Bool, true, false, not, _&&_, true≢false}
 use mathlib.Core.List.{List, [], _∷_}
 use Prim.Native.Nat.{ℕ, zero, suc, _+_, _-_, _≤_, _<_}
 use native.Mathlib.Omega.{arith}
-use borrow.Author.Tests.{eqb-true, eqb-false, not-true}
+use borrow.Author.Tests.{eqb-true, eqb-false, eq-eqb, not-true}
 use lib.Dec.{eqb}
 use lib.ListN.{length}
 use lib.Ieee.{Float}
-use Rattle.laws.proofs.Truth.{and-is}
+use Rattle.laws.proofs.Truth.{and-is, both, not-both}
 use Rattle.laws.specs.Answer.{Answer, refused, given, andThen}
 use Rattle.book_format.specs.Format.{legs}
 use Rattle.book_format.proofs.Given.{limits}
 use Rattle.book_format.proofs.Places.{sized-legs}
-use Rattle.grow_waiting.specs.Held.{Waiting}
+use Rattle.grow_waiting.specs.Held.{Waiting, SavedIn}
 use Rattle.grow_waiting.proofs.Kept.{saved-end}
 use Rattle.grow_rules.specs.Run.{Net, Run}
 use Rattle.grow_rules.specs.Growth.{Growth, takeLeg, drive}
@@ -24,7 +24,7 @@ use Rattle.grow_state.specs.declared.GrowthAnswer.the-variants.{On, Refused}
 use Rattle.grow_state.specs.Held.{PlanIn, SameRuns, RunsIn, DriveIn, Driving, GivesAs, TurnedAs, lists, SameDrive}
 use Rattle.grow_state.proofs.Keeping.{idle-waits}
 use Rattle.grow_leg.specs.OneLeg.{TakesLeg}
-use Rattle.grow_book.specs.Answers.{nextTurn, DriveAs, TakesNext, Drives}
+use Rattle.grow_book.specs.Answers.{nextTurn, afterAll, DriveAs, TakesNext, Drives}
 
 -- ---- the definition, a turn at a time
 
@@ -33,14 +33,24 @@ unfolding drive
 drive-none zero b places net = refl
 drive-none (suc n) b places net = refl
 
-drive-over : (b : List ℕ) (places : ℕ) (net : Net) (runs : List Run) → drive 0 b places net runs ≡ given net
+-- turns that ran out, with some run left
+drive-over : (b : List ℕ) (places : ℕ) (net : Net) (runs : List Run) → (runs ≡ [] → ⊥) → drive 0 b places net runs ≡ refused 0
 unfolding drive
-drive-over b places net runs = refl
+drive-over b places net [] some = absurd (some refl)
+drive-over b places net (run ∷ runs) some = refl
 
 drive-turn : (n : ℕ) (b : List ℕ) (places : ℕ) (net : Net) (runs : List Run) → drive (suc n) b places net runs ≡ andThen (nextTurn b places net runs) (λ (g : Growth). drive n b places (g .net) (g .saved))
 unfolding drive
 drive-turn n b places net [] = sym (drive-none n b places net)
 drive-turn n b places net (run ∷ runs) = refl
+
+-- ---- when each leg has had its turn
+
+pub after-done : (g : State) (t : Bool) → t ≡ (not (g .front .moves) && eqb (g .top) 0) → t ≡ true → On g ≡ afterAll (not (g .front .moves) && eqb (g .top) 0) g
+after-done g t q e = sym (ap (λ (x : Bool). afterAll x g) (sym q ∙ e))
+
+pub after-left : (g : State) (t : Bool) → t ≡ (not (g .front .moves) && eqb (g .top) 0) → t ≡ false → Refused 0 ≡ afterAll (not (g .front .moves) && eqb (g .top) 0) g
+after-left g t q e = sym (ap (λ (x : Bool). afterAll x g) (sym q ∙ e))
 
 -- ---- no run is left
 
@@ -55,6 +65,17 @@ module _ {b : List ℕ} {p : Plan} {fs : List Float} {us : List ℕ} {reals : Li
       let t = and-is (not (g .front .moves)) (eqb (g .top) 0) e in
       let w = idle-waits d (not-true (g .front .moves) (t .0)) in
       none-same (w .runs) runs (saved-end cells reals (p .r) (g .top) (g .used) (w .runs) (eqb-true (g .top) 0 (t .1)) (w .kept)) (w .same)
+
+  some-left : (not (g .front .moves) && eqb (g .top) 0) ≡ false → runs ≡ [] → ⊥
+  some-left e none = go (g .front .moves) refl (subst (RunsIn (g .front .moves) b (p .r) reals cells joins g) none (d .waiting))
+    where
+      none-waits : (ws : List Waiting) → SameRuns b ws [] → SavedIn cells reals (p .r) (g .top) (g .used) ws → g .top ≡ 0
+      none-waits [] s k = k .0
+      none-waits (w ∷ ws) s k = absurd s
+
+      go : (moves : Bool) → g .front .moves ≡ moves → RunsIn moves b (p .r) reals cells joins g [] → ⊥
+      go true q w = w
+      go false q w = not-both (both (not (g .front .moves)) (eqb (g .top) 0) (ap not q) (eq-eqb (g .top) 0 (none-waits (w .runs) (w .same) (w .kept)))) e
 
 -- ---- one turn
 
@@ -140,11 +161,17 @@ module _ (b : List ℕ) (p : Plan) (fs₀ : List Float) (us₀ : List ℕ) (real
       record { net = x .net; is = x .same ∙ ap (drive (legs b - k) b (p .w .places) (x .net)) (none-left (x .holds) e) ∙ drive-none (legs b - k) b (p .w .places) (x .net); holds = x .holds .grown }
 
   -- each leg had its turn
-  pub turning-over : legs b ≤ k → Drives b p g₀ (lists fs₀ us₀ reals₀ cells₀ joins₀) (lists fs us reals cells joins) (On g)
-  turning-over h path net runs d =
-      let x = v .goes path net runs d in
-      let e : legs b - k ≡ 0 = omega arith in
-      record { net = x .net; is = x .same ∙ ap (λ (n : ℕ). drive n b (p .w .places) (x .net) (x .runs)) e ∙ drive-over b (p .w .places) (x .net) (x .runs); holds = x .holds .grown }
+  pub turning-over : legs b ≤ k → (r : GrowthAnswer) → r ≡ afterAll (not (g .front .moves) && eqb (g .top) 0) g
+      → Drives b p g₀ (lists fs₀ us₀ reals₀ cells₀ joins₀) (lists fs us reals cells joins) r
+  turning-over h r q path net runs d =
+      subst (DriveAs (drive (legs b) b (p .w .places) net runs) p fs us cells) (sym q) (go (not (g .front .moves) && eqb (g .top) 0) refl)
+    where
+      go : (t : Bool) → (not (g .front .moves) && eqb (g .top) 0) ≡ t → DriveAs (drive (legs b) b (p .w .places) net runs) p fs us cells (afterAll t g)
+      go true e = turning-done e path net runs d
+      go false e =
+          let x = v .goes path net runs d in
+          let z : legs b - k ≡ 0 = omega arith in
+          x .same ∙ ap (λ (n : ℕ). drive n b (p .w .places) (x .net) (x .runs)) z ∙ drive-over b (p .w .places) (x .net) (x .runs) (some-left (x .holds) e)
 
   module _ (h : k < legs b) (fs′ : List Float) (us′ : List ℕ) (reals′ : List Float) (cells′ joins′ : List ℕ) (t : GrowthAnswer)
       (told : TakesNext b p g (lists fs us reals cells joins) (lists fs′ us′ reals′ cells′ joins′) t) where

@@ -1,5 +1,6 @@
 -- What the code of growth answers. Growth is `grow` of grow_rules' specs/Growth.antt.
 use mathlib.Core.Path.{_≡_}
+use mathlib.Core.Bool.{Bool, true, false}
 use mathlib.Core.List.{List, [], _∷_}
 use Prim.Native.Nat.{ℕ}
 use lib.Ieee.{Float}
@@ -29,6 +30,11 @@ use Rattle.grow_book.specs.declared.GrownBook.the-variants.{Whole, Stopp
 abbrev pub nextTurn : List ℕ → ℕ → Net → List Run → Answer Growth
 nextTurn b places net [] = given (record { net = net; saved = [] })
 nextTurn b places net (run ∷ saved) = takeLeg b places net run saved
+
+-- what is answered once each leg has had its turn, by whether no run is left
+abbrev pub afterAll : Bool → State → GrowthAnswer
+afterAll true g = On g
+afterAll false g = Refused 0
 
 -- the network that the driver leaves
 pub record DrivenAs (answer : Answer Net) (p : Plan) (fs : List Float) (us cells : List ℕ) (g : State) : Type 0 where

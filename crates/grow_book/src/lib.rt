@@ -24,7 +24,7 @@ ghost use Rattle.grow_rules.specs.Growth.{grow};
 ghost use Rattle.grow_state.specs.Held.{PlanIn, Driving, SomeDrive, SameDrive, listsAtEntry, listsAtExit, lists};
 ghost use Rattle.grow_origins.specs.Origins.{startState, SomeOrigins, OnlyStart};
 ghost use Rattle.net_node.specs.Lent.{tableAtEntry, tableAtExit};
-ghost use Rattle.grow_book.specs.Answers.{SomeClosing, GrownAs, TakesNext, Drives, Closes, GrowsFirst};
+ghost use Rattle.grow_book.specs.Answers.{SomeClosing, GrownAs, TakesNext, Drives, Closes, GrowsFirst, afterAll};
 
 // The counts of a network that has grown, or the number of a refusal.
 pub enum GrownBook {
@@ -38,6 +38,17 @@ fn is_done(g: State) -> bool
 {
     let front = g.front;
     !front.moves & (g.top == 0)
+}
+
+// What is answered once each leg has had its turn: no run is left then. 0 is no row's number and never answered
+// (`drive`, grow_rules' specs/Growth.antt).
+fn after_all(g: State) -> GrowthAnswer
+    ensures { λ r. ⌜ r ≡ afterAll (not (g .front .moves) && eqb (g .top) 0) g ⌝ }
+{
+    if is_done(g) {
+        return GrowthAnswer::On(g);
+    }
+    GrowthAnswer::Refused(0)
 }
 
 // The state with a run at the front: where there is none, the run that was saved last is taken up.
@@ -148,7 +159,7 @@ fn drive(
         state = next;
         turn += 1;
     }
-    GrowthAnswer::On(state)
+    after_all(state)
 }
 
 // The end Fakes and the last node.

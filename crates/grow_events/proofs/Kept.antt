@@ -11,7 +11,7 @@ use Rattle.net_event_map.specs.declared.Layout.{Layout}
 use Rattle.net_strands.specs.declared.EstJoinPath.{EstJoinPath}
 use Rattle.net_strands.specs.Entries.{Valid}
 use Rattle.grow_path.specs.Kept.{PathIn}
-use Rattle.grow_rules.specs.Run.{Net, Run, After, goesOn, Arc, memberOf}
+use Rattle.grow_rules.specs.Run.{Net, Run, After, EndedRun, goesOn, Arc, memberOf}
 use Rattle.grow_rules.specs.Run.{Outcome as Became, Ended as Left, On as Goes}
 use mathlib.Core.Logic.{_≢_}
 use Rattle.net_node.specs.Table.{nodeAt}
@@ -46,16 +46,16 @@ pub record InCells (w : Layout) (start : List ℕ) (fs : List Float) (us cells :
   pub ended : (i : ℕ) → i < w .places → flagged cells (endsAt w) i ≡ memberOf is i
   pub elsewhere : (q : ℕ) → q < w .«links_at» → ((i k : ℕ) → i < w .places → k < 3 → q ≢ w .«nodes_at» + i * 8 + k) → getD cells q 0 ≡ getD start q 0
 
--- the network, all of which but its ends and arcs is as it was, and its counts
-abbrev pub netWith : Net → List ℕ → List Arc → Net
-netWith net is arcs = record { table = net .table; nodes = net .nodes; ends = is; added = net .added; splits = net .splits; joined = net .joined; noted = arcs }
+-- the network, all of which but its ends, arcs and ended runs is as it was, and its counts
+abbrev pub netWith : Net → List ℕ → List Arc → List EndedRun → Net
+netWith net is arcs runs = record { table = net .table; nodes = net .nodes; ends = is; added = net .added; splits = net .splits; joined = net .joined; noted = arcs; runs = runs }
 
 abbrev pub countsWith : Counts → ℕ → Counts
 countsWith c last = record { nodes = c .nodes; added = c .added; splits = c .splits; joined = c .joined; «last_end» = last }
 
 module _ {w : Layout} {start : List ℕ} {fs : List Float} {us cells : List ℕ} {c : Counts} {net : Net} (v : NetIn w start fs us cells c net) where
-  pub net-anew : (arcs : List Arc) {start′ cells′ : List ℕ} {last : ℕ} {is : List ℕ} → InCells w start′ fs us cells′ (c .nodes) last is → NetIn w start′ fs us cells′ (countsWith c last) (netWith net is arcs)
-  net-anew arcs h = record {
+  pub net-anew : (arcs : List Arc) (runs : List EndedRun) {start′ cells′ : List ℕ} {last : ℕ} {is : List ℕ} → InCells w start′ fs us cells′ (c .nodes) last is → NetIn w start′ fs us cells′ (countsWith c last) (netWith net is arcs runs)
+  net-anew arcs runs h = record {
     table = v .table;
     nodes = v .nodes;
     added = v .added;
@@ -74,13 +74,13 @@ module _ {w : Layout} {start : List ℕ} {fs : List Float} {us cells : List ℕ}
   }
 
   -- what is held says nothing of the arcs
-  pub net-noted : (arcs : List Arc) → NetIn w start fs us cells c (netWith net (net .ends) arcs)
-  net-noted arcs = net-anew arcs (record { apart = v .apart; mapped = v .mapped; ends = v .ends; ends-below = v .ends-below; ended = v .ended; elsewhere = v .elsewhere })
+  pub net-noted : (arcs : List Arc) → NetIn w start fs us cells c (netWith net (net .ends) arcs (net .runs))
+  net-noted arcs = net-anew arcs (net .runs) (record { apart = v .apart; mapped = v .mapped; ends = v .ends; ends-below = v .ends-below; ended = v .ended; elsewhere = v .elsewhere })
 
   -- in cells with the map and the marks of the ends, which may be taken as the start
   pub net-same : (cells′ : List ℕ) → length cells′ ≡ length cells → Mapped cells′ w (nodeAt fs us) (c .nodes)
       → ((i : ℕ) → i < w .places → getD cells′ (endsAt w + i * 8) 0 ≡ getD cells (endsAt w + i * 8) 0) → NetIn w cells′ fs us cells′ c net
-  net-same cells′ l m h = net-anew (net .noted) (record {
+  net-same cells′ l m h = net-anew (net .noted) (net .runs) (record {
     apart = apart-same l (v .apart);
     mapped = m;
     ends = ends-same cells (endsAt w) cells′ (c .«last_end») (c .nodes) (net .ends) (v .ends-below) (λ i k. h i (omega (arith, v .within))) (v .ends);

@@ -77,7 +77,7 @@ module _ {w : Layout} {start : List ℕ} {fs : List Float} {us cells : List ℕ}
 
       pub net-finished : NetIn w cells′ fs us cells′ ended (finishedAt net run)
       unfolding finishedAt
-      net-finished = net-anew v (arcToEnd (run .place) ∷ net .noted) (record {
+      net-finished = net-anew v (arcToEnd (run .place) ∷ net .noted) (record { leg = run .leg; nodes = run .nodes } ∷ net .runs) (record {
         apart = apart-same marked-long (v .apart);
         mapped = map-left;
         ends = subst (λ (k : ℕ). EndsIn cells′ (endsAt w) k (run .place .«idx_prev» ∷ net .ends)) (ap (λ (q : Place). q .«idx_prev») same) (done .chained);

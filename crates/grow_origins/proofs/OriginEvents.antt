@@ -38,7 +38,7 @@ use Rattle.grow_origins.specs.Origins.{originAnswer, placeOn, LeadsFrom,
 
 -- the run of the definition, but on node i
 abbrev runAt : Float → ℕ → Run
-runAt time i = record { place = placeOn time (ofBits binary64 0) i; leg = 0; «has_split» = false; joins = [] }
+runAt time i = record { place = placeOn time (ofBits binary64 0) i; leg = 0; «has_split» = false; joins = []; nodes = [] }
 
 pub real-event : (e : TimedEvent) (time : Float) (link : ℕ) (kind : EstType) (offset : Float) (links : ℕ) → e ≡ eventAtRest time link kind offset → RealKind kind → link < links → Real (e .«link_event») links
 real-event e time link kind offset links d k h = subst (λ (x : TimedEvent). Real (x .«link_event») links) (sym d) (k, h)

@@ -24,7 +24,8 @@ use Rattle.net_insertion.specs.declared.Place.{Place}
 use Rattle.net_strands.specs.declared.EstJoinPath.{EstJoinPath}
 use Rattle.grow_path.specs.Path.{linkOf, legCourse, legEvents}
 use Rattle.net_node.specs.Left.{Network}
-use Rattle.grow_rules.specs.Run.{Arc, Net, Run, After, Outcome, Ended, On, arcToEnd, memberOf, insertEvent}
+use Rattle.grow_rules.specs.Run.{Arc, EndedRun, Net, Run, After, Outcome, Ended, On, arcToEnd, memberOf}
+use Rattle.grow_rules.specs.Run.{insertEvent}
 use Rattle.grow_rules.specs.Run.{runEvents}
 
 -- the book's J
@@ -59,6 +60,7 @@ firstNodes b t = record {
   splits = 0;
   joined = 0;
   noted = [];
+  runs = [];
 }
 
 -- ---- origins
@@ -87,12 +89,23 @@ originRun b = record {
   leg = 0;
   «has_split» = false;
   joins = [];
+  nodes = [];
+}
+
+-- a run with another leg, and whether it has added
+abbrev pub withLeg : Run → ℕ → Bool → Run
+withLeg run j added = record {
+  place = run .place;
+  leg = j;
+  «has_split» = added;
+  joins = run .joins;
+  nodes = run .nodes;
 }
 
 -- a run that takes the leg of this number, 0 being none: it has not added since
 abbrev pub takes : Run → ℕ → Answer Run
 takes run zero = refused 10
-takes run (suc j) = given (record { place = run .place; leg = suc j; «has_split» = false; joins = run .joins })
+takes run (suc j) = given (withLeg run (suc j) false)
 
 -- "The leg is found or the book is refused with 10": the leg with this parent and link
 unfoldable pub seekLeg : List ℕ → Run → ℕ → ℕ → Answer Run
@@ -126,7 +139,7 @@ badFinish net run =
     || not (eqb (at (net .table) last .«idx_next») 0)
     || memberOf (net .ends) last
 
--- the run's place is an end, and "A finish notes (place, end) with zeros."
+-- the run's place is an end, and "A finish notes (place, end) with zeros." The run ends there.
 unfoldable pub finishedAt : Net → Run → Net
 finishedAt net run = record {
   table = net .table;
@@ -136,6 +149,7 @@ finishedAt net run = record {
   splits = net .splits;
   joined = net .joined;
   noted = arcToEnd (run .place) ∷ net .noted;
+  runs = record { leg = run .leg; nodes = run .nodes } ∷ net .runs;
 }
 
 -- by whether the finish is bad: row 13
@@ -150,16 +164,12 @@ unfoldable pub waiting : List Run → ℕ
 waiting [] = 0
 waiting (run ∷ runs) = length (run .joins) + waiting runs
 
--- a run that took a leg, with the flag that it had before
-abbrev pub onwards : Run → Bool → Run
-onwards r added = record { place = r .place; leg = r .leg; «has_split» = added; joins = r .joins }
-
--- the run goes on over a link: it is the next to be taken up
+-- the run goes on over a link, with the flag that it had before: it is the next to be taken up
 unfoldable pub onOver : List ℕ → Net → Run → ℕ → List Run → Answer Growth
 unfolding seekLeg
 onOver b net run link saved =
     andThen (seekLeg b run (run .leg) link)
-    (λ (r : Run). given (record { net = net; saved = onwards r (run .«has_split») ∷ saved }))
+    (λ (r : Run). given (record { net = net; saved = withLeg r (r .leg) (run .«has_split») ∷ saved }))
 
 -- Row 12: "entries of all waiting runs beyond the table's places"
 abbrev pub fitsIn : Bool → List Run → Answer (List Run)
@@ -223,10 +233,13 @@ takeLeg b places net run saved = legAs (row11 (legCourse b (run .leg))) b places
 
 -- ---- all runs
 
--- The loop, a leg to a turn. A leg is taken at most once, so as many turns as there are legs are enough.
+-- The loop, a leg to a turn, until no run waits. A leg is taken at most once, so as many turns as there are legs are
+-- enough: 0, which is no row's number, stands for turns that ran out, and no book that was read gets it (`drives` and
+-- `grow-numbered` in crates/arcs_growth/proofs).
 unfoldable pub drive : ℕ → List ℕ → ℕ → Net → List Run → Answer Net
 unfolding takeLeg
-drive zero b places net saved = given net
+drive zero b places net [] = given net
+drive zero b places net (run ∷ saved) = refused 0
 drive (suc k) b places net [] = given net
 drive (suc k) b places net (run ∷ saved) =
     andThen (takeLeg b places net run saved) (λ (g : Growth). drive k b places (g .net) (g .saved))
@@ -264,7 +277,7 @@ lastNode places t =
 
 -- ---- growth
 
--- what growth gives: the network with its ends, and the arcs noted
+-- what growth gives: the network with its ends, the counts of the report, the arcs noted, and the runs as they ended
 pub record Grown : Type 0 where
   pub table : Table
   pub nodes : ℕ
@@ -273,13 +286,14 @@ pub record Grown : Type 0 where
   pub joined : ℕ
   pub finished : ℕ
   pub noted : List Arc
+  pub runs : List EndedRun
 
 -- Row 12: by whether there are places for nodes 0 and 1
 abbrev pub startAs : Bool → Net → Answer Growth
 startAs true net = given (record { net = net; saved = [] })
 startAs false net = refused 12
 
--- the network with its ends, the counts of the report, and the arcs noted
+-- the network with its ends, its counts and its lists
 unfoldable pub grownWith : Net → Network → Grown
 grownWith net t = record {
   table = t .table;
@@ -289,6 +303,7 @@ grownWith net t = record {
   joined = net .joined;
   finished = length (net .ends);
   noted = net .noted;
+  runs = net .runs;
 }
 
 -- growth of a book on a table of so many places, from the table as it is lent

@@ -1,7 +1,7 @@
 -- One event of a run: joins, then insertion, with what the growth rule notes. Document 01 under "Arcs": "The growth
 -- rule is a definition over the book alone: the growth above on a table of its own, beside it a list, empty at first."
 use mathlib.Core.Bool.{Bool, true, false, _||_}
-use mathlib.Core.List.{List, [], _∷_}
+use mathlib.Core.List.{List, [], _∷_, _++_}
 use Prim.Native.Nat.{ℕ, zero, suc, _+_}
 use lib.Dec.{eqb}
 use lib.Ieee.{Float, binary64, sub, ofBits}
@@ -23,8 +23,14 @@ pub record Arc : Type 0 where
   pub time : Float
   pub distance : Float
 
+-- A run that has ended, by a join or by a finish: the leg in which it did, and the nodes of its events up to there, in
+-- their order: "Its place is the node it last added or moved to", and for a join the target at last.
+pub record EndedRun : Type 0 where
+  pub leg : ℕ
+  pub nodes : List ℕ
+
 -- The network under growth: its table and how many nodes it has, the finished runs' events (the latest first), the
--- report's counts, and the arcs noted (the latest first).
+-- report's counts, the arcs noted and the runs that have ended (both the latest first).
 pub record Net : Type 0 where
   pub table : Table
   pub nodes : ℕ
@@ -33,14 +39,17 @@ pub record Net : Type 0 where
   pub splits : ℕ
   pub joined : ℕ
   pub noted : List Arc
+  pub runs : List EndedRun
 
 -- A run: "Its place is the node it last added or moved to", with its own event's time and offset there; its leg;
--- whether it "has added since its pop"; and its list of join entries.
+-- whether it "has added since its pop"; its list of join entries; and the nodes of its events so far, in their order,
+-- which nothing reads but what is said of arcs.
 pub record Run : Type 0 where
   pub place : Place
   pub leg : ℕ
   pub «has_split» : Bool
   pub joins : List EstJoinPath
+  pub nodes : List ℕ
 
 -- "both with the time and offset of the run's own event minus those of its event before, never a node's"
 unfoldable pub arcTo : Place → ℕ → TimedEvent → Arc
@@ -77,11 +86,22 @@ addedTo net t q split arc = record {
   splits = countIf split (net .splits);
   joined = net .joined;
   noted = arc ∷ net .noted;
+  runs = net .runs;
 }
+
+-- a node more behind those of a run's events
+abbrev pub nodesTo : Run → ℕ → List ℕ
+nodesTo run i = run .nodes ++ (i ∷ [])
 
 -- the run at its new place, and whether it has added since its pop
 unfoldable pub movedTo : Run → Place → Bool → Run
-movedTo run q added = record { place = q; leg = run .leg; «has_split» = added; joins = run .joins }
+movedTo run q added = record {
+  place = q;
+  leg = run .leg;
+  «has_split» = added;
+  joins = run .joins;
+  nodes = nodesTo run (q .«idx_prev»);
+}
 
 -- what became of the network and of a run at an event
 pub record After : Type 0 where
@@ -105,7 +125,7 @@ insertEvent places join net run e =
 
 -- ---- joins
 
--- "a join (place, target)". The run ends there.
+-- "a join (place, target)". The run ends there, on the target.
 unfoldable pub joinedTo : Net → Run → TimedEvent → ℕ → Net
 unfolding arcTo
 joinedTo net run e target = record {
@@ -116,6 +136,7 @@ joinedTo net run e target = record {
   splits = net .splits;
   joined = suc (net .joined);
   noted = arcTo (run .place) target e ∷ net .noted;
+  runs = record { leg = run .leg; nodes = nodesTo run target } ∷ net .runs;
 }
 
 -- what an event makes of a run: it has ended by a join, or goes on
@@ -130,7 +151,13 @@ goesOn (given a) = given (On a)
 
 -- a run with another list of join entries
 unfoldable pub withJoins : Run → List EstJoinPath → Run
-withJoins run es = record { place = run .place; leg = run .leg; «has_split» = run .«has_split»; joins = es }
+withJoins run es = record {
+  place = run .place;
+  leg = run .leg;
+  «has_split» = run .«has_split»;
+  joins = es;
+  nodes = run .nodes;
+}
 
 -- by what becomes of the run's joins: row 12, the join, or insertion with the list then
 abbrev pub joinedAs : ℕ → Float → Net → Run → TimedEvent → JoinStep → Answer Outcome

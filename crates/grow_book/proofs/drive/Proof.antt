@@ -98,28 +98,28 @@ loop-again c =
     turning-on _ _ _ _ _ _ _ _ _ _ _ _ _ _ _ _ _ _ _ (c .before .before .before .before .before .before .before .before .before .before .before .before .before .before .before .before .before .before .before .before .before .before .before .before .before .before .before .before .before .loop .inv) (legs-left (c .before .before .before .before .before .before .before .before .before .before .before .before .before .before .before .before .before .before .before .before .before .before .before .before .before .before .before .before .before .before .before .before .before .before .before .before .before .before .before .before .pre .0) _ (c .before .before .before .before .before .before .before .before .before .before .before .before .before .before .before .before .before .before .before .before .before .before .before .before .before .before .before .if1 .taken) .0) _ _ _ _ _ (t .result) (t .ensures) _ (c .before .turned .given .1) _ _ (omega (arith, k)) (omega (arith, k)) (omega (arith, k)) (omega (arith, k)) (omega (arith, k)) (omega (arith, k)) (omega (arith, k))
 
 same-length-15 : tie.Need-same-length-15 Inv-loop μ-loop
-same-length-15 c = c .before .before .loop .inv .floats
+same-length-15 c = c .before .before .before .loop .inv .floats
 
 same-length-16 : tie.Need-same-length-16 Inv-loop μ-loop
-same-length-16 c = c .before .before .loop .inv .numbers
+same-length-16 c = c .before .before .before .loop .inv .numbers
 
 same-length-17 : tie.Need-same-length-17 Inv-loop μ-loop
-same-length-17 c = c .before .before .loop .inv .reals-long
+same-length-17 c = c .before .before .before .loop .inv .reals-long
 
 same-length-18 : tie.Need-same-length-18 Inv-loop μ-loop
-same-length-18 c = c .before .before .loop .inv .cells-long
+same-length-18 c = c .before .before .before .loop .inv .cells-long
 
 same-length-19 : tie.Need-same-length-19 Inv-loop μ-loop
-same-length-19 c = c .before .before .loop .inv .joins-long
+same-length-19 c = c .before .before .before .loop .inv .joins-long
 
 same-length-20 : tie.Need-same-length-20 Inv-loop μ-loop
-same-length-20 c = c .before .before .loop .inv .scratch-long
+same-length-20 c = c .before .before .before .loop .inv .scratch-long
 
 same-length-21 : tie.Need-same-length-21 Inv-loop μ-loop
-same-length-21 c = c .before .before .loop .inv .stack-long
+same-length-21 c = c .before .before .before .loop .inv .stack-long
 
 returns-3 : tie.Need-returns-3 Inv-loop μ-loop
-returns-3 c = λ path net runs d. turning-over _ _ _ _ _ _ _ _ _ _ _ _ _ _ _ _ _ _ _ (c .before .before .loop .inv) (legs-over (c .before .before .before .before .before .before .before .before .before .before .before .before .before .pre .0) _ (c .if1 .left)) path net runs d
+returns-3 c = λ path net runs d. turning-over _ _ _ _ _ _ _ _ _ _ _ _ _ _ _ _ _ _ _ (c .before .before .before .loop .inv) (legs-over (c .before .before .before .before .before .before .before .before .before .before .before .before .before .before .pre .0) _ (c .before .if1 .left)) _ (c .after-all .ensures) path net runs d
 
 pub drive-spec : {M : Type 1} → statement M
 drive-spec =
