@@ -30,7 +30,7 @@ use Rattle.arcs_growth.proofs.Writes.{put-agree, put-more}
 
 -- the same network in another table
 abbrev pub withTable : Net → Table → Net
-withTable net t = record { table = t; nodes = net .nodes; ends = net .ends; added = net .added; splits = net .splits; joined = net .joined; noted = net .noted }
+withTable net t = record { table = t; nodes = net .nodes; ends = net .ends; added = net .added; splits = net .splits; joined = net .joined; noted = net .noted; runs = net .runs }
 
 pub record Alike (others : ℕ) (net other : Net) : Type 0 where
   pub table : Table

@@ -16,7 +16,7 @@ use Rattle.event_walk.specs.Walk.{row11}
 use Rattle.net_node.specs.declared.EstTime.{EstTime}
 use Rattle.grow_path.specs.Path.{linkOf, legCourse, legEvents}
 use Rattle.grow_rules.specs.Run.{Net, Run, After, memberOf, insertEvent, Outcome, Ended, On, runEvents}
-use Rattle.grow_rules.specs.Growth.{Growth, joinGap, originRun, takes, seekLeg, saves, growOrigin, growOrigins, badFinish, finishedAt, finishAs, waiting, onOver, fitsIn, saveOver, onAs, goOn, finishes, legEndAs, legDone, legAs, takeLeg, drive}
+use Rattle.grow_rules.specs.Growth.{withLeg, Growth, joinGap, originRun, takes, seekLeg, saves, growOrigin, growOrigins, badFinish, finishedAt, finishAs, waiting, onOver, fitsIn, saveOver, onAs, goOn, finishes, legEndAs, legDone, legAs, takeLeg, drive}
 use Rattle.arcs_growth.specs.Read.{Read}
 use Rattle.laws.proofs.Members.{All}
 use Rattle.book_options.proofs.Apart.{Other, Apart}
@@ -60,8 +60,8 @@ module _ (b : List ℕ) (places others : ℕ) (net : Net) (run : Run) (u : Table
   unfolding onOver seekLeg
   over-alike link saved = go (legBelow b (legs b) (run .leg) link)
     where
-      go : (j : ℕ) → Both (AlikeGrowth others) (andThen (takes run j) (λ (r : Run). given (record { net = net; saved = record { place = r .place; leg = r .leg; «has_split» = run .«has_split»; joins = r .joins } ∷ saved })))
-          (andThen (takes run j) (λ (r : Run). given (record { net = other; saved = record { place = r .place; leg = r .leg; «has_split» = run .«has_split»; joins = r .joins } ∷ saved })))
+      go : (j : ℕ) → Both (AlikeGrowth others) (andThen (takes run j) (λ (r : Run). given (record { net = net; saved = withLeg r (r .leg) (run .«has_split») ∷ saved })))
+          (andThen (takes run j) (λ (r : Run). given (record { net = other; saved = withLeg r (r .leg) (run .«has_split») ∷ saved })))
       go zero = tt
       go (suc i) = (here, refl)
 
@@ -77,7 +77,7 @@ module _ (b : List ℕ) (places others : ℕ) (net : Net) (run : Run) (u : Table
       go : (j : ℕ) → Both (λ (x y : List Run). y ≡ x) (andThen (takes run j) (λ (r : Run). fitsIn (ltb places (waiting (r ∷ saved))) (r ∷ saved))) (andThen (takes run j) (λ (r : Run). fitsIn (ltb others (waiting (r ∷ saved))) (r ∷ saved)))
       go zero = tt
       go (suc i) =
-          let r : Run = record { place = run .place; leg = suc i; «has_split» = false; joins = run .joins } in
+          let r : Run = withLeg run (suc i) false in
           fits (ltb places (waiting (r ∷ saved))) (ltb others (waiting (r ∷ saved))) (r ∷ saved)
 
   on-alike : (saved : List Run) → Both (AlikeGrowth others) (goOn b places net run saved) (goOn b others other run saved)
@@ -120,7 +120,7 @@ unfolding takeLeg
 take-alike {b} {places} others net run saved d u ag room = go (row11 (legCourse b (run .leg)))
   where
     running : Running b places net run saved (legEvents b (run .leg))
-    running = record { labels = d .labels; grows = d .grows; waits = d .waits; at-event = d .at-event .0; others = d .at-event .1; notes = d .notes }
+    running = record { labels = d .labels; grows = d .grows; waits = d .waits; at-event = d .at-event .0; others = d .at-event .1; notes = d .notes; taken = d .taken }
 
     go : (t : Bool) → Both (AlikeGrowth others) (legAs t b places net run saved) (legAs t b others (withTable net u) run saved)
     go true = tt
@@ -128,8 +128,8 @@ take-alike {b} {places} others net run saved d u ag room = go (row11 (legCourse 
         both-then (λ (o p : Outcome). Came b places (run .leg) saved [] o × AlikeOutcome others o p) (AlikeGrowth others)
         (runEvents places (joinGap b) (legEvents b (run .leg)) (record { net = net; run = run })) (runEvents others (joinGap b) (legEvents b (run .leg)) (record { net = withTable net u; run = run })) (legDone b places saved) (legDone b others saved)
         (both-with (Came b places (run .leg) saved []) (AlikeOutcome others) (runEvents places (joinGap b) (legEvents b (run .leg)) (record { net = net; run = run })) (runEvents others (joinGap b) (legEvents b (run .leg)) (record { net = withTable net u; run = run }))
-        (events-run (legEvents b (run .leg)) (record { net = net; run = run }) running (events-real b (run .leg)) (joinGap b))
-        (events-alike others (legEvents b (run .leg)) (record { net = net; run = run }) running (events-real b (run .leg)) (joinGap b) u ag room))
+        (events-run (legEvents b (run .leg)) (record { net = net; run = run }) running (events-real b (run .leg)))
+        (events-alike others (legEvents b (run .leg)) (record { net = net; run = run }) running (events-real b (run .leg)) u ag room))
         (λ o p h. leg-done-alike b places others saved (run .leg) o p (h .0) (h .1))
 
 -- ---- all runs
@@ -137,7 +137,8 @@ take-alike {b} {places} others net run saved d u ag room = go (row11 (legCourse 
 pub drive-alike : {b : List ℕ} → Read b → {places : ℕ} (others k : ℕ) (net : Net) (saved : List Run) → Driven b places net saved → All (LegIn b) saved → (u : Table) → Agree (net .nodes) (at (net .table)) (at u) → RoomIn u others
     → Both (Alike others) (drive k b places net saved) (drive k b others (withTable net u) saved)
 unfolding drive
-drive-alike r others zero net saved d ls u ag room = record { table = u; is = refl; agree = ag; room = room }
+drive-alike r others zero net [] d ls u ag room = record { table = u; is = refl; agree = ag; room = room }
+drive-alike r others zero net (run ∷ saved) d ls u ag room = tt
 drive-alike r others (suc k) net [] d ls u ag room = record { table = u; is = refl; agree = ag; room = room }
 drive-alike {b} r {places} others (suc k) net (run ∷ saved) d ls u ag room =
     both-then (λ (g h : Growth). Turned r places run saved g × AlikeGrowth others g h) (Alike others) (takeLeg b places net run saved) (takeLeg b others (withTable net u) run saved)
@@ -152,11 +153,11 @@ origin-alike : {b : List ℕ} → Read b → (places others : ℕ) (idx : ℕ) �
     → Both (AlikeGrowth others) (growOrigin b places (originLink b idx) g) (growOrigin b others (originLink b idx) (record { net = withTable (g .net) u; saved = g .saved }))
 unfolding growOrigin seekLeg
 origin-alike {b} r places others idx kept g d idxs unused other u ag room =
-    both-then (λ (a c : After). Inserts (d .labels) places (g .net) (originRun b) (g .saved) (arrive b link) a × AlikeAfter others a c) (AlikeGrowth others)
+    both-then (λ (a c : After). Inserts (d .labels) places (g .net) (originRun b) (g .saved) (joinGap b) (arrive b link) a × AlikeAfter others a c) (AlikeGrowth others)
     (insertEvent places (joinGap b) (g .net) (originRun b) (arrive b link)) (insertEvent others (joinGap b) (withTable (g .net) u) (originRun b) (arrive b link))
     (λ (a : After). andThen (insertEvent places (joinGap b) (a .net) (a .run) (clear b link)) (λ (c : After). andThen (seekLeg b (c .run) 0 link) (λ (run : Run). given (saves g (c .net) run))))
     (λ (a : After). andThen (insertEvent others (joinGap b) (a .net) (a .run) (clear b link)) (λ (c : After). andThen (seekLeg b (c .run) 0 link) (λ (run : Run). given (saves h (c .net) run))))
-    (both-with (Inserts (d .labels) places (g .net) (originRun b) (g .saved) (arrive b link)) (AlikeAfter others)
+    (both-with (Inserts (d .labels) places (g .net) (originRun b) (g .saved) (joinGap b) (arrive b link)) (AlikeAfter others)
     (insertEvent places (joinGap b) (g .net) (originRun b) (arrive b link)) (insertEvent others (joinGap b) (withTable (g .net) u) (originRun b) (arrive b link))
     (arrive-keeps r places idx kept g d idxs unused other) (insert-alike others (d .grows) (originRun b) (d .waits .stand .0) u ag room (joinGap b) (arrive b link)))
     (λ a c q. after-is a c (q .1)

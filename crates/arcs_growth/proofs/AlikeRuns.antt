@@ -17,6 +17,7 @@ use Rattle.net_strands.specs.declared.EstJoinPath.{EstJoinPath}
 use Rattle.net_joins.specs.declared.SpeedJoin.{SpeedJoin}
 use Rattle.net_joins.specs.Joins as Joins
 use Rattle.net_joins.specs.Joins.{chainEndAs, chainEnd, joinAt, joinedTable, closest, closestOf, appended, rebuilt, chosenAs, chosen, joinStep}
+use Rattle.grow_rules.specs.Growth.{joinGap}
 use Rattle.grow_rules.specs.Run.{Net, Run, After, insertEvent, joinedTo, Outcome, Ended, On, goesOn, withJoins, joinedAs, eventAs, runEvent, nextEvent, runEvents}
 use Rattle.laws.proofs.Members.{All, all-so}
 use Rattle.arcs_growth.proofs.Labels.{Labels}
@@ -73,9 +74,9 @@ module _ {L : Labels} {places : ℕ} {net : Net} (others : ℕ) (g : Grows L pla
   relisted es l = record { within = s .within; self = s .self; holds = s .holds; listed = l }
 
   -- by what is chosen, which is the same for both but for the room
-  chosen-alike : (a r q : Bool) (target : ℕ) (list : Option (List EstJoinPath)) → ltb n others ≡ q → Stepped (at t) n places (e .«link_event») (chosenAs a r target list)
+  chosen-alike : (a r q : Bool) (target : ℕ) (list : Option (List EstJoinPath)) → ltb n others ≡ q → Stepped (at t) n places limit e (chosenAs a r target list)
       → Both (AlikeOutcome others) (joinedAs places limit net run e (chosenAs a r target list)) (joinedAs others limit (withTable net u) run e (chosenAs a q target list))
-  chosen-alike true true true target list p h = join-alike target (h .0) (h .1 .1) (ltb-true n others p)
+  chosen-alike true true true target list p h = join-alike target (h .0) (h .1 .1 .0) (ltb-true n others p)
   chosen-alike true true false target list p h = tt
   chosen-alike true false q target list p h = tt
   chosen-alike false r q target none p h = tt
@@ -89,7 +90,7 @@ module _ {L : Labels} {places : ℕ} {net : Net} (others : ℕ) (g : Grows L pla
       (sym (rebuilt-same (at t) (at u) n ag (g .body .indexed) (e .«link_event») (run .joins) (s .listed)))
       (go (rebuilt (at t) n (e .«link_event») (run .joins)) (rebuilt-good (at t) n (e .«link_event») (g .body .indexed) (run .joins) (s .listed)) (step-right (at t) n places limit e (run .joins) (g .body .indexed) (s .listed)))
     where
-      go : (x : Option (List EstJoinPath)) → Given (GoodAll (at t) n (e .«link_event»)) x → Stepped (at t) n places (e .«link_event») (chosen (at t) n places limit e x)
+      go : (x : Option (List EstJoinPath)) → Given (GoodAll (at t) n (e .«link_event»)) x → Stepped (at t) n places limit e (chosen (at t) n places limit e x)
           → Both (AlikeOutcome others) (joinedAs places limit net run e (chosen (at t) n places limit e x)) (joinedAs others limit (withTable net u) run e (chosen (at u) n others limit e x))
       go none h k = tt
       go (some es) h k =
@@ -114,22 +115,22 @@ module _ {L : Labels} {places : ℕ} {net : Net} (others : ℕ) (g : Grows L pla
 pub after-is : {others : ℕ} (a other : After) → AlikeAfter others a other → (P : After → Type 0) → ((u : Table) → Agree (a .net .nodes) (at (a .net .table)) (at u) → RoomIn u others → P (record { net = withTable (a .net) u; run = a .run })) → P other
 after-is a other (l, q) P f = subst P (λ k. record { net = sym (l .is) k; run = sym q k }) (f (l .table) (l .agree) (l .room))
 
-pub events-alike : {b : List ℕ} {places : ℕ} (others : ℕ) {saved : List Run} (es : List TimedEvent) (a : After) → Running b places (a .net) (a .run) saved es → All Real es → (limit : Float)
+pub events-alike : {b : List ℕ} {places : ℕ} (others : ℕ) {saved : List Run} (es : List TimedEvent) (a : After) → Running b places (a .net) (a .run) saved es → All Real es
     → (u : Table) → Agree (a .net .nodes) (at (a .net .table)) (at u) → RoomIn u others
-    → Both (AlikeOutcome others) (runEvents places limit es a) (runEvents others limit es (record { net = withTable (a .net) u; run = a .run }))
+    → Both (AlikeOutcome others) (runEvents places (joinGap b) es a) (runEvents others (joinGap b) es (record { net = withTable (a .net) u; run = a .run }))
 unfolding runEvents
-events-alike others [] a d real limit u ag room = (record { table = u; is = refl; agree = ag; room = room }, refl)
-events-alike {b} {places} others {saved} (e ∷ es) a d real limit u ag room =
-    both-then (λ (o p : Outcome). Came b places (a .run .leg) saved es o × AlikeOutcome others o p) (AlikeOutcome others) (runEvent places limit (a .net) (a .run) e) (runEvent others limit (withTable (a .net) u) (a .run) e)
-    (nextEvent (runEvents places limit es)) (nextEvent (runEvents others limit es))
-    (both-with (Came b places (a .run .leg) saved es) (AlikeOutcome others) (runEvent places limit (a .net) (a .run) e) (runEvent others limit (withTable (a .net) u) (a .run) e)
-    (event-runs d (real .0) limit) (event-alike others (d .grows) (a .run) (d .waits .stand .0) u ag room limit e))
-    (go (λ c f v h q. events-alike others es c f (real .1) limit v h q))
+events-alike others [] a d real u ag room = (record { table = u; is = refl; agree = ag; room = room }, refl)
+events-alike {b} {places} others {saved} (e ∷ es) a d real u ag room =
+    both-then (λ (o p : Outcome). Came b places (a .run .leg) saved es o × AlikeOutcome others o p) (AlikeOutcome others) (runEvent places (joinGap b) (a .net) (a .run) e) (runEvent others (joinGap b) (withTable (a .net) u) (a .run) e)
+    (nextEvent (runEvents places (joinGap b) es)) (nextEvent (runEvents others (joinGap b) es))
+    (both-with (Came b places (a .run .leg) saved es) (AlikeOutcome others) (runEvent places (joinGap b) (a .net) (a .run) e) (runEvent others (joinGap b) (withTable (a .net) u) (a .run) e)
+    (event-runs d (real .0)) (event-alike others (d .grows) (a .run) (d .waits .stand .0) u ag room (joinGap b) e))
+    (go (λ c f v h q. events-alike others es c f (real .1) v h q))
   where
     go : ((c : After) → Running b places (c .net) (c .run) saved es → (v : Table) → Agree (c .net .nodes) (at (c .net .table)) (at v) → RoomIn v others
-        → Both (AlikeOutcome others) (runEvents places limit es c) (runEvents others limit es (record { net = withTable (c .net) v; run = c .run })))
-        → (o p : Outcome) → Came b places (a .run .leg) saved es o × AlikeOutcome others o p → Both (AlikeOutcome others) (nextEvent (runEvents places limit es) o) (nextEvent (runEvents others limit es) p)
+        → Both (AlikeOutcome others) (runEvents places (joinGap b) es c) (runEvents others (joinGap b) es (record { net = withTable (c .net) v; run = c .run })))
+        → (o p : Outcome) → Came b places (a .run .leg) saved es o × AlikeOutcome others o p → Both (AlikeOutcome others) (nextEvent (runEvents places (joinGap b) es) o) (nextEvent (runEvents others (joinGap b) es) p)
     go ih (Ended net) (Ended other) h = h .1
     go ih (Ended net) (On c) h = absurd (h .1)
     go ih (On c) (Ended other) h = absurd (h .1)
-    go ih (On c) (On other) h = after-is c other (h .1) (λ (z : After). Both (AlikeOutcome others) (runEvents places limit es c) (runEvents others limit es z)) (λ v x y. ih c (h .0 .0) v x y)
+    go ih (On c) (On other) h = after-is c other (h .1) (λ (z : After). Both (AlikeOutcome others) (runEvents places (joinGap b) es c) (runEvents others (joinGap b) es z)) (λ v x y. ih c (h .0 .0) v x y)

@@ -10,13 +10,14 @@ use Rattle.net_node.specs.declared.EstTime.{EstTime}
 use Rattle.net_node.specs.declared.TimedEvent.{TimedEvent}
 use Rattle.grow_path.specs.Path.{legEvents}
 use Rattle.grow_rules.specs.Run.{Arc, EndedRun, Net, Run, arcTo, nodesTo}
-use Rattle.arcs_growth.specs.Runs.{Taken, runEventsTo, HasEvent, Visits, AllTaken, Between, LeadsOn}
+use Rattle.arcs_growth.specs.Runs.{Taken, runEventsTo, HasEvent, Visits, AllTaken, LastAt, Between, LeadsOn}
 use Rattle.arcs_growth.specs.Noted.{LeadsOut, Starts, Follows, Ends}
 use Rattle.laws.proofs.Members.{All, all-so}
 use Rattle.arcs_growth.proofs.Labels.{Labels, Extends}
+use Rattle.arcs_growth.proofs.NewNodes.{EventsKept}
 use Rattle.arcs_growth.proofs.Invariant.{Grows, Waits}
 use Rattle.arcs_growth.proofs.Paths.{Real}
-use Rattle.arcs_growth.proofs.Visits.{EventsKept, has-more, ends-more, starts-more, has-real, Paired, paired-more, paired-on, leads-paired, allRuns, Covers, starts-covered, follows-covered}
+use Rattle.arcs_growth.proofs.Visits.{has-more, ends-more, starts-more, has-real, Paired, paired-more, paired-on, visits-paired, last-paired, leads-paired, allRuns, Covers, starts-covered, follows-covered}
 
 -- the run stands on the node of its last event, with that event's own numbers, each event before it has a node, and it has es to come; its place is no origin's Arrive
 pub record AtEvent (b : List ℕ) (L : Labels) (node : ℕ → EstTime) (n : ℕ) (run : Run) (es : List TimedEvent) : Type 0 where
@@ -91,7 +92,7 @@ module _ {b : List ℕ} {L : Labels} {node : ℕ → EstTime} {n : ℕ} {run : R
   leads-next i =
       subst (λ (xs : List TimedEvent). LeadsOn xs (nodesTo run i) (arcTo (run .place) i e)) (sym (d .events))
       (subst (λ (is : List ℕ). LeadsOn (d .past ++ (d .last ∷ e ∷ es)) is (arcTo (run .place) i e)) (sym nodes-are)
-      (leads-paired (d .past) (d .front) (d .paired) (d .last) e (run .place .«idx_prev») i (arcTo (run .place) i e)
+      (leads-paired b node n (d .past) (d .front) (d .paired) (d .last) e (run .place .«idx_prev») i (arcTo (run .place) i e)
       (record { from = refl; to = refl; time = ap (sub binary64 (e .time)) (d .time); distance = ap (sub binary64 (e .offset)) (d .distance) }) es))
     where
       nodes-are : nodesTo run i ≡ d .front ++ (run .place .«idx_prev» ∷ i ∷ [])
@@ -105,6 +106,13 @@ module _ {b : List ℕ} {L : Labels} {node : ℕ → EstTime} {n : ℕ} {run : R
     to = inr (has-real b after m e i q real);
   }
 
+  -- the nodes of its events, the next among them
+  pub visits-next : (i : ℕ) → HasEvent b node n e i → Visits b node n (runEventsTo b (run .leg)) (nodesTo run i)
+  visits-next i h =
+      subst (λ (xs : List TimedEvent). Visits b node n xs (nodesTo run i)) (sym (d .events ∙ sym (append-assoc (d .past) (d .last ∷ []) (e ∷ es))))
+      (visits-paired b node n (d .past ++ (d .last ∷ [])) (run .nodes)
+      (subst (Paired b node n (d .past ++ (d .last ∷ []))) (sym (d .nodes)) (paired-on b node n (d .past) (d .front) (d .paired) (d .last) (run .place .«idx_prev») (d .here))) e i h es)
+
   -- the run has gone on to its next event
   pub at-event-on : {M : Labels} {after : ℕ → EstTime} {m : ℕ} {next : Run} → n ≤ m → EventsKept n node after → 2 ≤ M .depth (next .place .«idx_prev») → next .leg ≡ run .leg
       → next .nodes ≡ nodesTo run (next .place .«idx_prev») → HasEvent b after m e (next .place .«idx_prev») → Real e → next .place .«time_to_next» ≡ e .time → next .place .«dist_to_next» ≡ e .offset → AtEvent b M after m next es
@@ -117,12 +125,26 @@ module _ {b : List ℕ} {L : Labels} {node : ℕ → EstTime} {n : ℕ} {run : R
     front = run .nodes;
     nodes = q;
     paired = subst (Paired b after m (d .past ++ (d .last ∷ []))) (sym (d .nodes))
-        (paired-on (d .past) (d .front) (paired-more b node after h f (d .past) (d .front) (d .paired)) (d .last) (run .place .«idx_prev») (has-more b node after h f (d .last) (run .place .«idx_prev») (d .here)));
+        (paired-on b after m (d .past) (d .front) (paired-more b node after h f (d .past) (d .front) (d .paired)) (d .last) (run .place .«idx_prev») (has-more b node after h f (d .last) (run .place .«idx_prev») (d .here)));
     here = p;
     real = real;
     time = t;
     distance = o;
   }
+
+-- ---- at the end of a leg
+
+module _ {b : List ℕ} {L : Labels} {node : ℕ → EstTime} {n : ℕ} {run : Run} (d : AtEvent b L node n run []) where
+  -- the run stands on the node of its last event
+  pub last-here : LastAt (runEventsTo b (run .leg)) (run .nodes) (run .place .«idx_prev»)
+  last-here =
+      subst (λ (xs : List TimedEvent). LastAt xs (run .nodes) (run .place .«idx_prev»)) (sym (d .events))
+      (subst (λ (is : List ℕ). LastAt (d .past ++ (d .last ∷ [])) is (run .place .«idx_prev»)) (sym (d .nodes)) (last-paired b node n (d .past) (d .front) (d .paired) (d .last) (run .place .«idx_prev»)))
+
+  pub visits-here : Visits b node n (runEventsTo b (run .leg)) (run .nodes)
+  visits-here =
+      subst (λ (xs : List TimedEvent). Visits b node n xs (run .nodes)) (sym (d .events))
+      (subst (Visits b node n (d .past ++ (d .last ∷ []))) (sym (d .nodes)) (visits-paired b node n (d .past) (d .front) (d .paired) (d .last) (run .place .«idx_prev») (d .here) []))
 
 -- ---- the driver's invariant: the runs that wait
 

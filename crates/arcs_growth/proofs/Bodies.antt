@@ -88,7 +88,7 @@ module _ {L : Labels} {places : ℕ} {t : Table} {n : ℕ} {ends : List ℕ} {ar
     other = λ j l d. ap (λ (x : EstTime). x .«idx_next») (other j l d);
     alt = column (λ (x : EstTime). x .«idx_next_alt») refl;
     prev = column (λ (x : EstTime). x .«idx_prev») refl;
-    happens = column (λ (x : EstTime). x .«link_event») refl;
+    kept = record { event = column (λ (x : EstTime). x .«link_event») refl; speed = column (λ (x : EstTime). x .speed) refl };
     prev-alt = λ j l. inl (column (λ (x : EstTime). x .«idx_prev_alt») refl j l);
     new-alt = ap (λ (x : EstTime). x .«idx_next_alt») added;
     new-prev = ap (λ (x : EstTime). x .«idx_prev») added;
@@ -100,6 +100,10 @@ module _ {L : Labels} {places : ℕ} {t : Table} {n : ℕ} {ends : List ℕ} {ar
   pub add-event : at (addBehind t i n e) n .«link_event» ≡ e .«link_event»
   unfolding eventNode
   add-event = ap (λ (x : EstTime). x .«link_event») added
+
+  pub add-speed : at (addBehind t i n e) n .speed ≡ e .speed
+  unfolding eventNode
+  add-speed = ap (λ (x : EstTime). x .speed) added
 
   pub add-empty : at (addBehind t i n e) n .«idx_next» ≡ 0
   unfolding eventNode

@@ -2,11 +2,13 @@
 use mathlib.Core.Path.{_≡_, refl, sym, ap, _∙_, subst}
 use mathlib.Core.Logic.{inl, inr}
 use mathlib.Core.Bool.{Bool, true, false}
-use mathlib.Core.List.{List, [], _∷_, _++_, append-assoc}
+use mathlib.Core.List.{List, [], _∷_, _++_, append-nil, append-assoc}
 use Prim.Native.Nat.{ℕ, zero, suc, _+_, _-_, _<_, _≤_}
 use native.Mathlib.Omega.{arith}
 use borrow.Author.Tests.{eqb-true, eqb-false}
 use lib.Dec.{eqb, ltb}
+use lib.ListN.{length}
+use Rattle.net_node.specs.Table.{at}
 use Rattle.laws.proofs.Answers.{Holds, holds-then, holds-so}
 use Rattle.laws.specs.Answer.{given, andThen}
 use Rattle.book_format.specs.Format.{legs, linkNext, linkNextAlt, legLink, legParent}
@@ -17,9 +19,9 @@ use Rattle.net_node.specs.declared.EstTime.{EstTime}
 use Rattle.net_node.specs.declared.TimedEvent.{TimedEvent}
 use Rattle.grow_path.specs.Path.{linkOf, legCourse, legEvents}
 use Rattle.grow_rules.specs.Run.{Net, Run, arcToEnd, Outcome, Ended, On, runEvents}
-use Rattle.grow_rules.specs.Growth.{Growth, joinGap, takes, seekLeg, badFinish, finishedAt, finishAs, waiting, onOver, fitsIn, saveOver, onAs, goOn, finishes, legEndAs, legDone, legAs, takeLeg, drive}
+use Rattle.grow_rules.specs.Growth.{Growth, joinGap, withLeg, takes, seekLeg, badFinish, finishedAt, finishAs, waiting, onOver, fitsIn, saveOver, onAs, goOn, finishes, legEndAs, legDone, legAs, takeLeg, drive}
 use Rattle.arcs_growth.specs.Arcs.{one}
-use Rattle.arcs_growth.specs.Runs.{runEventsTo}
+use Rattle.arcs_growth.specs.Runs.{Taken, later, runEventsTo}
 use Rattle.arcs_growth.specs.Read.{Read}
 use Rattle.laws.proofs.Members.{All}
 use Rattle.book_legs.proofs.Found.{LegOf, leg-found}
@@ -27,13 +29,10 @@ use Rattle.arcs_growth.proofs.Labels.{Labels}
 use Rattle.arcs_growth.proofs.Invariant.{Stands, Waits, Owned}
 use Rattle.arcs_growth.proofs.Finishing.{finish-tip, finish-keeps}
 use Rattle.arcs_growth.proofs.Paths.{run-events-more, events-real}
-use Rattle.arcs_growth.proofs.AtEvents.{AtEvent, Driven, Running}
+use Rattle.arcs_growth.proofs.Visits.{has-real, soFar, Further, no-further, covers-first, covers-second, covers-end, allRuns}
+use Rattle.arcs_growth.proofs.AtEvents.{AtEvent, notes-on, out-more, last-here, visits-here, Driven, Running}
 use Rattle.arcs_growth.proofs.Running.{Came, events-run}
 use Rattle.arcs_growth.proofs.Loads.{legCount, load, load-same, Kids, load-less}
-
--- a run with another leg, and whether it has added
-abbrev pub withLeg : Run → ℕ → Bool → Run
-withLeg run j flag = record { place = run .place; leg = j; «has_split» = flag; joins = run .joins }
 
 -- the number of a leg
 abbrev pub LegIn : List ℕ → Run → Type 0
@@ -67,22 +66,31 @@ waits-saved {L} {net} {run} {saved} u j = record {
 
 module _ {b : List ℕ} (r : Read b) where
   -- a run at the end of its leg takes one of the leg's children
-  at-event-leg : {L : Labels} {node : ℕ → EstTime} {n : ℕ} {run : Run} → AtEvent b L node n run [] → LegIn b run → {link : ℕ} (i : ℕ) → LegOf b (legs b) (run .leg) link i → (flag : Bool)
+  leg-events : (run : Run) → LegIn b run → {link : ℕ} (i : ℕ) → LegOf b (legs b) (run .leg) link i → runEventsTo b (suc i) ≡ runEventsTo b (run .leg) ++ legEvents b (suc i)
+  leg-events run l i o =
+      let is : run .leg ≡ suc (run .leg - 1) = omega (arith, l .0) in
+      run-events-more r i (run .leg - 1) (o .within) (o .parent ∙ is) ∙ ap (λ (j : ℕ). runEventsTo b j ++ legEvents b (suc i)) (sym is)
+
+  at-event-leg : {L : Labels} {node : ℕ → EstTime} {n : ℕ} {run : Run} → AtEvent b L node n run [] → LegIn b run → {link : ℕ} (i : ℕ) → LegOf b (legs b) (run .leg) link i → Taken b (suc i) → (flag : Bool)
       → AtEvent b L node n (withLeg run (suc i) flag) (legEvents b (suc i))
-  at-event-leg {run = run} f l i o flag = record {
-    within = f .within;
+  at-event-leg {run = run} f l i o t flag = record {
     deep = f .deep;
+    taken = t;
     past = f .past;
     last = f .last;
-    events = run-events-more r i (run .leg - 1) (o .within) (o .parent ∙ is) ∙ ap (λ (j : ℕ). runEventsTo b j ++ legEvents b (suc i)) (sym is)
-        ∙ ap (λ (xs : List TimedEvent). xs ++ legEvents b (suc i)) (f .events) ∙ append-assoc (f .past) (f .last ∷ []) (legEvents b (suc i));
+    events = leg-events run l i o ∙ ap (λ (xs : List TimedEvent). xs ++ legEvents b (suc i)) (f .events) ∙ append-assoc (f .past) (f .last ∷ []) (legEvents b (suc i));
+    front = f .front;
+    nodes = f .nodes;
+    paired = f .paired;
     here = f .here;
+    real = f .real;
     time = f .time;
     distance = f .distance;
   }
-    where
-      is : run .leg ≡ suc (run .leg - 1)
-      is = omega (arith, l .0)
+
+  -- the run of the leg goes on as that of the child
+  leg-further : (run : Run) → LegIn b run → {link : ℕ} (i : ℕ) → LegOf b (legs b) (run .leg) link i → (flag : Bool) → Further b (soFar run) (soFar (withLeg run (suc i) flag))
+  leg-further run l i o flag = record { events = legEvents b (suc i); nodes = []; more-events = leg-events run l i o; more-nodes = sym (append-nil (run .nodes)) }
 
   -- what waits after a turn
   pub record Turned (places : ℕ) (run : Run) (saved : List Run) (g : Growth) : Type 0 where
@@ -92,7 +100,7 @@ module _ {b : List ℕ} (r : Read b) where
 
   -- ---- the way on
 
-  module _ (places : ℕ) (net : Net) (run : Run) (saved : List Run) (in-here : LegIn b run) (link : ℕ) where
+  module _ (places : ℕ) (net : Net) (run : Run) (saved : List Run) (in-here : LegIn b run) (link : ℕ) (way : (i : ℕ) → legBelow b (legs b) (run .leg) link ≡ suc i → Taken b (suc i)) where
     -- the children counted so far stay apart from one over this link
     on-over : {rest : List Run} → Running b places net run rest [] → All (LegIn b) rest → (c : ℕ → ℕ) → ((x : ℕ) → legCount rest x ≡ c x + legCount saved x)
         → ((i : ℕ) → LegOf b (legs b) (run .leg) link i → Kids b (run .leg) (λ (x : ℕ). one (eqb (suc i) x) + c x)) → Holds (Turned places run saved) (onOver b net run link rest)
@@ -100,12 +108,20 @@ module _ {b : List ℕ} (r : Read b) where
     on-over {rest} d ls c counts kids = go (legBelow b (legs b) (run .leg) link) refl
       where
         go : (j : ℕ) → legBelow b (legs b) (run .leg) link ≡ j
-            → Holds (Turned places run saved) (andThen (takes run j) (λ (q : Run). given (record { net = net; saved = record { place = q .place; leg = q .leg; «has_split» = run .«has_split»; joins = q .joins } ∷ rest })))
+            → Holds (Turned places run saved) (andThen (takes run j) (λ (q : Run). given (record { net = net; saved = withLeg q (q .leg) (run .«has_split») ∷ rest })))
         go zero e = tt
         go (suc i) e =
             let o = leg-found b (legs b) (run .leg) link i e in
             record {
-              driven = record { labels = d .labels; grows = d .grows; waits = waits-leg (d .waits) (suc i); at-event = (at-event-leg (d .at-event) in-here i o (run .«has_split»), d .others); notes = d .notes };
+              driven = record {
+                labels = d .labels;
+                grows = d .grows;
+                waits = waits-leg (d .waits) (suc i);
+                at-event = (at-event-leg (d .at-event) in-here i o (way i e) (run .«has_split»), d .others);
+                notes = notes-on b (at (net .table)) (net .nodes) (run ∷ rest) (withLeg run (suc i) (run .«has_split») ∷ rest) (net .runs) (net .runs) (λ arc z. z)
+                    (covers-first b (soFar run) (soFar (withLeg run (suc i) (run .«has_split»))) (allRuns rest (net .runs)) (leg-further run in-here i o (run .«has_split»))) (net .noted) (d .notes);
+                taken = d .taken;
+              };
               legs-in = ((omega arith, omega (arith, o .within)), ls);
               less = load-less r run saved (withLeg run (suc i) (run .«has_split») ∷ rest) (λ (x : ℕ). one (eqb (suc i) x) + c x) (in-here .0) (in-here .1) (kids i o) (λ x. let q = counts x in omega arith);
             }
@@ -131,7 +147,16 @@ module _ {b : List ℕ} (r : Read b) where
         go (suc i) e =
             let o = leg-found b (legs b) (run .leg) link i e in
             fits (ltb places (waiting (withLeg run (suc i) false ∷ saved))) (withLeg run (suc i) false ∷ saved) (record {
-              running = record { labels = d .labels; grows = d .grows; waits = waits-saved (d .waits) (suc i); at-event = d .at-event; others = (at-event-leg (d .at-event) in-here i o false, d .others); notes = d .notes };
+              running = record {
+                labels = d .labels;
+                grows = d .grows;
+                waits = waits-saved (d .waits) (suc i);
+                at-event = d .at-event;
+                others = (at-event-leg (d .at-event) in-here i o (way i e) false, d .others);
+                notes = notes-on b (at (net .table)) (net .nodes) (run ∷ saved) (run ∷ withLeg run (suc i) false ∷ saved) (net .runs) (net .runs) (λ arc z. z)
+                    (covers-second b (soFar run) (soFar (withLeg run (suc i) false)) (allRuns saved (net .runs))) (net .noted) (d .notes);
+                taken = d .taken;
+              };
               legs-in = ((omega arith, omega (arith, o .within)), ls);
               child = i;
               is-child = o;
@@ -168,10 +193,10 @@ module _ {b : List ℕ} (r : Read b) where
       same j false true e f q = ap (legParent b) (is k j f) ∙ m .parent
       same j false false e f q = absurd (omega arith)
 
-  goes-on : {places : ℕ} {net : Net} {run : Run} {saved : List Run} → Running b places net run saved [] → LegIn b run → All (LegIn b) saved → Holds (Turned places run saved) (goOn b places net run saved)
+  goes-on : {places : ℕ} {net : Net} {run : Run} {saved : List Run} → Running b places net run saved [] → LegIn b run → All (LegIn b) saved → finishes b (run .leg) ≡ false → Holds (Turned places run saved) (goOn b places net run saved)
   unfolding goOn linkOf
-  goes-on {places} {net} {run} {saved} d in-here ls =
-      go (eqb next 0) (inSet b next) (inSet b alt) refl
+  goes-on {places} {net} {run} {saved} d in-here ls fin =
+      go (eqb next 0) (inSet b next) (inSet b alt) refl refl refl
     where
       next : ℕ
       next = linkNext b (linkOf b (run .leg))
@@ -182,35 +207,47 @@ module _ {b : List ℕ} (r : Read b) where
       differ : eqb next 0 ≡ false → next ≡ alt → ⊥
       differ e q = eqb-false next 0 e (r .forks (run .leg - 1) (omega (arith, in-here .0, in-here .1)) q)
 
-      single : (link : ℕ) → Holds (Turned places run saved) (onOver b net run link saved)
-      single link = on-over places net run saved in-here link d ls (λ (x : ℕ). 0) (λ x. omega arith) (λ i o. one-kid (run .leg) i link o)
+      over-next : inSet b next ≡ true → (i : ℕ) → legBelow b (legs b) (run .leg) next ≡ suc i → Taken b (suc i)
+      over-next s i e = later (run .leg) i next (d .at-event .taken) fin (inl refl) s e
 
-      go : (x y z : Bool) → eqb next 0 ≡ x → Holds (Turned places run saved) (onAs x y z b places net run next alt saved)
-      go true y z e = tt
-      go false false false e = tt
-      go false true false e = single next
-      go false false true e = single alt
-      go false true true e =
-          holds-then (Saved places net run saved in-here alt) (Turned places run saved) (saveOver b places run alt saved) (onOver b net run next) (save-over places net run saved in-here alt d ls)
-          (λ rest s. on-over places net run saved in-here next (s .running) (s .legs-in) (λ (x : ℕ). one (eqb (suc (s .child)) x)) (s .counts) (λ i o. two-kids (run .leg) i (s .child) next alt o (s .is-child) (differ e)))
+      over-alt : inSet b alt ≡ true → (i : ℕ) → legBelow b (legs b) (run .leg) alt ≡ suc i → Taken b (suc i)
+      over-alt s i e = later (run .leg) i alt (d .at-event .taken) fin (inr refl) s e
+
+      single : (link : ℕ) → ((i : ℕ) → legBelow b (legs b) (run .leg) link ≡ suc i → Taken b (suc i)) → Holds (Turned places run saved) (onOver b net run link saved)
+      single link way = on-over places net run saved in-here link way d ls (λ (x : ℕ). 0) (λ x. omega arith) (λ i o. one-kid (run .leg) i link o)
+
+      go : (x y z : Bool) → eqb next 0 ≡ x → inSet b next ≡ y → inSet b alt ≡ z → Holds (Turned places run saved) (onAs x y z b places net run next alt saved)
+      go true y z e p q = tt
+      go false false false e p q = tt
+      go false true false e p q = single next (over-next p)
+      go false false true e p q = single alt (over-alt q)
+      go false true true e p q =
+          holds-then (Saved places net run saved in-here alt (over-alt q)) (Turned places run saved) (saveOver b places run alt saved) (onOver b net run next) (save-over places net run saved in-here alt (over-alt q) d ls)
+          (λ rest s. on-over places net run saved in-here next (over-next p) (s .running) (s .legs-in) (λ (x : ℕ). one (eqb (suc (s .child)) x)) (s .counts) (λ i o. two-kids (run .leg) i (s .child) next alt o (s .is-child) (differ e)))
 
   -- ---- one leg
 
-  finishes-here : {places : ℕ} {net : Net} {run : Run} {saved : List Run} → Running b places net run saved [] → LegIn b run → All (LegIn b) saved → (t : Bool) → badFinish net run ≡ t
+  finishes-here : {places : ℕ} {net : Net} {run : Run} {saved : List Run} → Running b places net run saved [] → LegIn b run → All (LegIn b) saved → finishes b (run .leg) ≡ true → (t : Bool) → badFinish net run ≡ t
       → Holds (Turned places run saved) (finishAs t net run saved)
   unfolding finishedAt arcToEnd
-  finishes-here d l ls true e = tt
-  finishes-here {places} {net} {run} {saved} d l ls false e =
+  finishes-here d l ls fin true e = tt
+  finishes-here {places} {net} {run} {saved} d l ls fin false e =
       let v = d .grows .body .graph .laid .two in
       let tip = finish-tip net run (omega arith) e in
       let f = finish-keeps (d .grows) (d .waits) tip in
+      let a = d .at-event in
       record {
         driven = record {
           labels = d .labels;
           grows = f .grows;
           waits = f .waits;
           at-event = d .others;
-          notes = ((d .at-event .within, (omega arith, inl (record { to = refl; time = refl; distance = refl }))), d .notes);
+          notes = (
+            (record { from = inr (has-real b (at (net .table)) (net .nodes) (a .last) (run .place .«idx_prev») (a .here) (a .real)); to = inl refl },
+            inl (record { run = inl (fin, last-here a); to = refl; time = refl; distance = refl })),
+            notes-on b (at (net .table)) (net .nodes) (run ∷ saved) saved (net .runs) (soFar run ∷ net .runs) (out-more b (soFar run) (net .runs)) (covers-end b (soFar run) (soFar run) (no-further b (soFar run)) saved (net .runs)) (net .noted) (d .notes),
+          );
+          taken = (record { taken = a .taken; visits = visits-here a }, d .taken);
         };
         legs-in = ls;
         less = load-less r run saved saved (λ (x : ℕ). 0) (l .0) (l .1) (record { once = λ i h. omega arith; parent = λ i h q. absurd (omega arith) }) (λ x. omega arith);
@@ -223,7 +260,7 @@ module _ {b : List ℕ} (r : Read b) where
     less = load-less r run saved saved (λ (x : ℕ). 0) (l .0) (l .1) (record { once = λ i h. omega arith; parent = λ i h q. absurd (omega arith) }) (λ x. omega arith);
   }
   leg-done places run saved (On a) d l ls =
-      holds-so (Turned places (a .run) saved) (Turned places run saved) (legEndAs (finishes b (a .run .leg)) b places a saved) (go (finishes b (a .run .leg)))
+      holds-so (Turned places (a .run) saved) (Turned places run saved) (legEndAs (finishes b (a .run .leg)) b places a saved) (go (finishes b (a .run .leg)) refl)
       (λ g t. record { driven = t .driven; legs-in = t .legs-in; less = subst (λ (k : ℕ). load b (g .saved) + 1 ≤ k) same (t .less) })
     where
       in-here : LegIn b (a .run)
@@ -232,22 +269,22 @@ module _ {b : List ℕ} (r : Read b) where
       same : load b (a .run ∷ saved) ≡ load b (run ∷ saved)
       same = load-same b (legCount (a .run ∷ saved)) (legCount (run ∷ saved)) (λ x. ap (λ (k : ℕ). one (eqb k x) + legCount saved x) (d .1))
 
-      go : (t : Bool) → Holds (Turned places (a .run) saved) (legEndAs t b places a saved)
-      go true = finishes-here (d .0) in-here ls (badFinish (a .net) (a .run)) refl
-      go false = goes-on (d .0) in-here ls
+      go : (t : Bool) → finishes b (a .run .leg) ≡ t → Holds (Turned places (a .run) saved) (legEndAs t b places a saved)
+      go true fin = finishes-here (d .0) in-here ls fin (badFinish (a .net) (a .run)) refl
+      go false fin = goes-on (d .0) in-here ls fin
 
   pub takes-leg : {places : ℕ} {net : Net} {run : Run} {saved : List Run} → Driven b places net (run ∷ saved) → All (LegIn b) (run ∷ saved) → Holds (Turned places run saved) (takeLeg b places net run saved)
   unfolding takeLeg
   takes-leg {places} {net} {run} {saved} d ls = go (row11 (legCourse b (run .leg)))
     where
       running : Running b places net run saved (legEvents b (run .leg))
-      running = record { labels = d .labels; grows = d .grows; waits = d .waits; at-event = d .at-event .0; others = d .at-event .1; notes = d .notes }
+      running = record { labels = d .labels; grows = d .grows; waits = d .waits; at-event = d .at-event .0; others = d .at-event .1; notes = d .notes; taken = d .taken }
 
       go : (t : Bool) → Holds (Turned places run saved) (legAs t b places net run saved)
       go true = tt
       go false =
           holds-then (Came b places (run .leg) saved []) (Turned places run saved) (runEvents places (joinGap b) (legEvents b (run .leg)) (record { net = net; run = run })) (legDone b places saved)
-          (events-run (legEvents b (run .leg)) (record { net = net; run = run }) running (events-real b (run .leg)) (joinGap b))
+          (events-run (legEvents b (run .leg)) (record { net = net; run = run }) running (events-real b (run .leg)))
           (λ o c. leg-done places run saved o c (ls .0) (ls .1))
 
   -- ---- all runs
@@ -260,7 +297,11 @@ module _ {b : List ℕ} (r : Read b) where
 
   pub drives : {places : ℕ} (k : ℕ) (net : Net) (saved : List Run) → Driven b places net saved → All (LegIn b) saved → load b saved ≤ k → Holds (λ (n : Net). Driven b places n []) (drive k b places net saved)
   unfolding drive
-  drives {places} zero net saved d ls h = subst (Driven b places net) (nobody saved ls h) d
+  drives zero net [] d ls h = d
+  drives zero net (run ∷ saved) d ls h = absurd (some (nobody (run ∷ saved) ls h))
+    where
+      some : (run ∷ saved) ≡ [] → ⊥
+      some e = let q : suc (length saved) ≡ 0 = ap length e in omega arith
   drives (suc k) net [] d ls h = d
   drives {places} (suc k) net (run ∷ saved) d ls h =
       holds-then (Turned places run saved) (λ (n : Net). Driven b places n []) (takeLeg b places net run saved) (λ (g : Growth). drive k b places (g .net) (g .saved)) (takes-leg d ls)

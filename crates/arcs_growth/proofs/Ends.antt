@@ -14,7 +14,7 @@ use Rattle.laws.proofs.Answers.{Holds, holds-then}
 use Rattle.laws.proofs.Below.{or-right, below}
 use Rattle.net_node.specs.declared.EstTime.{EstTime}
 use Rattle.net_node.specs.Table.{blank, noLinkEvent, Table, put, at, isFake}
-use Rattle.grow_rules.specs.Run.{Arc, memberOf}
+use Rattle.grow_rules.specs.Run.{Arc, EndedRun, memberOf}
 use Rattle.grow_rules.specs.Growth.{fakeNode, leadsToEnd, roomFor, endFakes}
 use Rattle.net_node.specs.Left.{Network}
 use Rattle.laws.proofs.Members.{All}
@@ -24,6 +24,8 @@ use Rattle.arcs_growth.proofs.Weights.{arcThere, arcOut}
 use Rattle.arcs_growth.proofs.Graphs.{Graph, Timed, stop-graph}
 use Rattle.arcs_growth.proofs.Bodies.{EndAt, self-base}
 use Rattle.arcs_growth.proofs.Invariant.{Distinct}
+use Rattle.arcs_growth.specs.Runs.{AllTaken}
+use Rattle.arcs_growth.proofs.Visits.{taken-more}
 use Rattle.arcs_growth.proofs.AtEvents.{Notes, notes-more}
 
 -- every index of the first n nodes names one of them, a next one of the first m
@@ -34,14 +36,15 @@ pub record Linked (node : ℕ → EstTime) (n m : ℕ) : Type 0 where
   pub prev-alt : (i : ℕ) → i < n → node i .«idx_prev_alt» < n
 
 -- the network with these ends left; the last end Fake's next is the node to come
-pub record Ending (b : List ℕ) (places : ℕ) (arcs : List Arc) (k : ℕ) (is : List ℕ) (alt : ℕ) (t : Network) : Type 0 where
+pub record Ending (b : List ℕ) (places : ℕ) (runs : List EndedRun) (arcs : List Arc) (k : ℕ) (is : List ℕ) (alt : ℕ) (t : Network) : Type 0 where
   pub labels : Labels
   pub room : RoomIn (t .table) places
   pub graph : Graph labels (at (t .table)) (t .nodes) is arcs k
   pub ended : (i : ℕ) → memberOf is i ≡ true → EndAt labels (at (t .table)) (t .nodes) i
   pub distinct : Distinct is
   pub closed : (i : ℕ) → i < t .nodes → baseRole (labels .role i) ≡ true → at (t .table) i .«idx_next» ≡ 0 → memberOf is i ≡ true
-  pub notes : All (Notes b (at (t .table)) (t .nodes)) arcs
+  pub notes : All (Notes b (at (t .table)) (t .nodes) [] runs) arcs
+  pub taken : AllTaken b (at (t .table)) (t .nodes) runs
   pub before : 0 < alt → (alt < t .nodes) × (receives (labels .role alt) ≡ true)
   pub linked : Linked (at (t .table)) (t .nodes) (suc (t .nodes))
 
@@ -51,7 +54,7 @@ endTable i alt t =
     put (put (t .table) (t .nodes) (fakeNode (suc (t .nodes)) i alt (ofBits binary64 0))) i
     (leadsToEnd (at (put (t .table) (t .nodes) (fakeNode (suc (t .nodes)) i alt (ofBits binary64 0))) i) (t .nodes))
 
-module _ {b : List ℕ} {places : ℕ} {arcs : List Arc} {k : ℕ} (i : ℕ) (is : List ℕ) (alt : ℕ) (t : Network) (d : Ending b places arcs k (i ∷ is) alt t) (more : t .nodes < places) where
+module _ {b : List ℕ} {places : ℕ} {runs : List EndedRun} {arcs : List Arc} {k : ℕ} (i : ℕ) (is : List ℕ) (alt : ℕ) (t : Network) (d : Ending b places runs arcs k (i ∷ is) alt t) (more : t .nodes < places) where
   abbrev n : ℕ
   n = t .nodes
 
@@ -116,7 +119,7 @@ module _ {b : List ℕ} {places : ℕ} {arcs : List Arc} {k : ℕ} (i : ℕ) (is
     other = λ j h q. ap (λ (z : EstTime). z .«idx_next») (at-other j h q);
     alt = column (λ (z : EstTime). z .«idx_next_alt») refl;
     prev = column (λ (z : EstTime). z .«idx_prev») refl;
-    happens = column (λ (z : EstTime). z .«link_event») refl;
+    kept = record { event = column (λ (z : EstTime). z .«link_event») refl; speed = column (λ (z : EstTime). z .speed) refl };
     prev-alt = λ j h. inl (column (λ (z : EstTime). z .«idx_prev_alt») refl j h);
     new-alt = ap (λ (z : EstTime). z .«idx_next_alt») at-new;
     new-prev = ap (λ (z : EstTime). z .«idx_prev») at-new;
@@ -179,7 +182,7 @@ module _ {b : List ℕ} {places : ℕ} {arcs : List Arc} {k : ℕ} (i : ℕ) (is
       prev-alt j (inr e) (inr z) = let c : at two j .«idx_prev_alt» ≡ alt = ap (λ (m : ℕ). at two m .«idx_prev_alt») e ∙ named in let l : alt < n = d .before (omega arith) .0 in omega arith
       prev-alt j (inl h) z = let c : at two j .«idx_prev_alt» ≡ node j .«idx_prev_alt» = column (λ (y : EstTime). y .«idx_prev_alt») alt-stays j h in let l = d .linked .prev-alt j h in omega arith
 
-  end-keeps : Ending b places arcs k is n (record { table = two; nodes = suc n })
+  end-keeps : Ending b places runs arcs k is n (record { table = two; nodes = suc n })
   end-keeps = record {
     labels = M;
     room = put-room one i (leadsToEnd (at one i) n) places one-room;
@@ -187,7 +190,8 @@ module _ {b : List ℕ} {places : ℕ} {arcs : List Arc} {k : ℕ} (i : ℕ) (is
     ended = λ j m. ended j m (equal-or-not j i);
     distinct = d .distinct .1;
     closed = λ j h p z. closed j p z (below j n h) (equal-or-not j i);
-    notes = notes-more b node (at two) x (omega arith) (attached .happens) arcs (d .notes);
+    notes = notes-more b node (at two) (omega (arith, inside)) (omega arith) (attached .kept) [] runs arcs (d .notes);
+    taken = taken-more b node (at two) (omega arith) (attached .kept) runs (d .taken);
     before = λ p. (omega arith, ap receives (new-role L n stop 0 0 0));
     linked = more-linked;
   }
@@ -205,17 +209,17 @@ module _ {b : List ℕ} {places : ℕ} {arcs : List Arc} {k : ℕ} (i : ℕ) (is
       closed j p z (inl h) (inr q) = rest j q ∙ d .closed j h (ap baseRole (sym (x .role j h)) ∙ p) (sym (attached .other j h q) ∙ z)
 
 -- no end is left
-pub record Ended (b : List ℕ) (places : ℕ) (arcs : List Arc) (k : ℕ) (t : Network) : Type 0 where
+pub record Ended (b : List ℕ) (places : ℕ) (runs : List EndedRun) (arcs : List Arc) (k : ℕ) (t : Network) : Type 0 where
   pub alt : ℕ
-  pub ending : Ending b places arcs k [] alt t
+  pub ending : Ending b places runs arcs k [] alt t
 
-pub ends-keep : {b : List ℕ} {places : ℕ} {arcs : List Arc} {k : ℕ} (is : List ℕ) (alt : ℕ) (t : Network) → Ending b places arcs k is alt t → Holds (Ended b places arcs k) (endFakes places is alt t)
+pub ends-keep : {b : List ℕ} {places : ℕ} {runs : List EndedRun} {arcs : List Arc} {k : ℕ} (is : List ℕ) (alt : ℕ) (t : Network) → Ending b places runs arcs k is alt t → Holds (Ended b places runs arcs k) (endFakes places is alt t)
 unfolding endFakes
 ends-keep [] alt t d = record { alt = alt; ending = d }
-ends-keep {b} {places} {arcs} {k} (i ∷ is) alt t d =
-    holds-then (Ending b places arcs k is (t .nodes)) (Ended b places arcs k)
+ends-keep {b} {places} {runs} {arcs} {k} (i ∷ is) alt t d =
+    holds-then (Ending b places runs arcs k is (t .nodes)) (Ended b places runs arcs k)
     (roomFor (ltb (t .nodes) places) (record { table = endTable i alt t; nodes = suc (t .nodes) })) (endFakes places is (t .nodes)) (go (ltb (t .nodes) places) refl) (λ u e. ends-keep is (t .nodes) u e)
   where
-    go : (r : Bool) → ltb (t .nodes) places ≡ r → Holds (Ending b places arcs k is (t .nodes)) (roomFor r (record { table = endTable i alt t; nodes = suc (t .nodes) }))
+    go : (r : Bool) → ltb (t .nodes) places ≡ r → Holds (Ending b places runs arcs k is (t .nodes)) (roomFor r (record { table = endTable i alt t; nodes = suc (t .nodes) }))
     go true e = end-keeps i is alt t d (ltb-true (t .nodes) places e)
     go false e = tt

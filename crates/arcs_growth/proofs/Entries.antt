@@ -154,17 +154,18 @@ module _ (node : ℕ → EstTime) (n : ℕ) (e : LinkEvent) where
   -- ---- the closest
 
   -- the best so far is the one that the source begins with, or has the event
-  abbrev Best : Float → SpeedJoin → Type 0
-  Best limit c = (c .«speed_diff_join» ≡ limit) ⊎ ((c .«est_idx_join» < n) × (sameEvent (node (c .«est_idx_join») .«link_event») e ≡ true))
+  abbrev Best : Float → Float → SpeedJoin → Type 0
+  Best limit speed c = (c .«speed_diff_join» ≡ limit)
+      ⊎ ((c .«est_idx_join» < n) × ((sameEvent (node (c .«est_idx_join») .«link_event») e ≡ true) × (c .«speed_diff_join» ≡ gap (node (c .«est_idx_join») .speed) speed)))
 
-  closest-of : (limit speed : Float) (c : SpeedJoin) (es : List EstJoinPath) → Best limit c → GoodAll es → Best limit (closestOf node speed c es)
+  closest-of : (limit speed : Float) (c : SpeedJoin) (es : List EstJoinPath) → Best limit speed c → GoodAll es → Best limit speed (closestOf node speed c es)
   unfolding closestOf closer
   closest-of limit speed c [] b g = b
   closest-of limit speed c (x ∷ es) b g =
       closest-of limit speed (closer node speed c x) es (go (eqb (x .«link_idx_match») 0) (lt (gap (node (x .«est_idx_next») .speed) speed) (c .«speed_diff_join»)) refl) (g .1)
     where
-      go : (p q : Bool) → eqb (x .«link_idx_match») 0 ≡ p → Best limit (closerAs (p && q) c (gap (node (x .«est_idx_next») .speed) speed) (x .«est_idx_next»))
-      go true true r = inr (g .0 .0, g .0 .1 (eqb-true (x .«link_idx_match») 0 r))
+      go : (p q : Bool) → eqb (x .«link_idx_match») 0 ≡ p → Best limit speed (closerAs (p && q) c (gap (node (x .«est_idx_next») .speed) speed) (x .«est_idx_next»))
+      go true true r = inr (g .0 .0, (g .0 .1 (eqb-true (x .«link_idx_match») 0 r), refl))
       go true false r = b
       go false q r = b
 
@@ -202,33 +203,33 @@ module _ (node : ℕ → EstTime) (n : ℕ) (e : LinkEvent) where
 
 -- ---- the three together
 
--- the target has the event, and there is room; or the list names nodes
-abbrev pub Stepped : (ℕ → EstTime) → ℕ → ℕ → LinkEvent → JoinStep → Type 0
-Stepped node n places e (JoinsTo target) = (target < n) × ((sameEvent (node target .«link_event») e ≡ true) × (n < places))
-Stepped node n places e (GoesOn es) = Listed n es
-Stepped node n places e Beyond = Unit
+-- the target has the event and a speed near enough, and there is room; or the list names nodes
+abbrev pub Stepped : (ℕ → EstTime) → ℕ → ℕ → Float → TimedEvent → JoinStep → Type 0
+Stepped node n places limit e (JoinsTo target) = (target < n) × ((sameEvent (node target .«link_event») (e .«link_event») ≡ true) × ((n < places) × (lt (gap (node target .speed) (e .speed)) limit ≡ true)))
+Stepped node n places limit e (GoesOn es) = Listed n es
+Stepped node n places limit e Beyond = Unit
 
-pub step-right : (node : ℕ → EstTime) (n places : ℕ) (limit : Float) (e : TimedEvent) (old : List EstJoinPath) → Indexed node n → Listed n old → Stepped node n places (e .«link_event») (joinStep node n places limit e old)
+pub step-right : (node : ℕ → EstTime) (n places : ℕ) (limit : Float) (e : TimedEvent) (old : List EstJoinPath) → Indexed node n → Listed n old → Stepped node n places limit e (joinStep node n places limit e old)
 unfolding joinStep closest
 step-right node n places limit e old w l = go (rebuilt node n (e .«link_event») old) (rebuilt-good node n (e .«link_event») w old l)
   where
     good : (x : EstJoinPath) → Good node n (e .«link_event») x → x .«est_idx_next» < n
     good x g = g .0
 
-    list : (x : Option (List EstJoinPath)) → Given (Listed n) x → Stepped node n places (e .«link_event») (stepWith x)
+    list : (x : Option (List EstJoinPath)) → Given (Listed n) x → Stepped node n places limit e (stepWith x)
     list none h = tt
     list (some es) h = h
 
-    choose : (es : List EstJoinPath) → GoodAll node n (e .«link_event») es → (c : SpeedJoin) → Best node n (e .«link_event») limit c → (a b : Bool) → lt (c .«speed_diff_join») limit ≡ a → ltb n places ≡ b
-        → Stepped node n places (e .«link_event») (chosenAs a b (c .«est_idx_join») (appended node n (e .«link_event») es))
+    choose : (es : List EstJoinPath) → GoodAll node n (e .«link_event») es → (c : SpeedJoin) → Best node n (e .«link_event») limit (e .speed) c → (a b : Bool) → lt (c .«speed_diff_join») limit ≡ a → ltb n places ≡ b
+        → Stepped node n places limit e (chosenAs a b (c .«est_idx_join») (appended node n (e .«link_event») es))
     choose es g c (inl q) true b r s =
         let z : lt limit limit ≡ true = ap (λ (x : Float). lt x limit) (sym q) ∙ r in
         not-both z (lt-asym limit limit z)
-    choose es g c (inr q) true true r s = (q .0, (q .1, ltb-true n places s))
+    choose es g c (inr q) true true r s = (q .0, (q .1 .0, (ltb-true n places s, ap (λ (x : Float). lt x limit) (sym (q .1 .1)) ∙ r)))
     choose es g c (inr q) true false r s = tt
     choose es g c d false b r s = list (appended node n (e .«link_event») es) (appended-listed node n (e .«link_event») es (all-so (Good node n (e .«link_event»)) (λ (x : EstJoinPath). x .«est_idx_next» < n) good es g))
 
-    go : (x : Option (List EstJoinPath)) → Given (GoodAll node n (e .«link_event»)) x → Stepped node n places (e .«link_event») (chosen node n places limit e x)
+    go : (x : Option (List EstJoinPath)) → Given (GoodAll node n (e .«link_event»)) x → Stepped node n places limit e (chosen node n places limit e x)
     go none h = tt
     go (some es) h =
         choose es h (closestOf node (e .speed) (record { «speed_diff_join» = limit; «est_idx_join» = 0 }) es) (closest-of node n (e .«link_event») limit (e .speed) (record { «speed_diff_join» = limit; «est_idx_join» = 0 }) es (inl refl) h)

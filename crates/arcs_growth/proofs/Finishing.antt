@@ -105,6 +105,7 @@ module _ {L : Labels} {places : ℕ} {net : Net} {run : Run} {saved : List Run} 
       };
       within = g .within;
       count = let k = g .count in omega arith;
+      ended = let k = g .ended in omega arith;
       distinct = (tip .no-end, g .distinct);
     };
     waits = record {

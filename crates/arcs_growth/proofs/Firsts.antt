@@ -160,6 +160,7 @@ module _ (b : List ℕ) (t : Table) (places : ℕ) (room : RoomIn t places) (mor
     };
     within = more;
     count = refl;
+    ended = refl;
     distinct = tt;
   }
 

@@ -22,14 +22,14 @@ use Rattle.net_insertion.specs.declared.Place.{Place}
 use Rattle.net_insertion.specs.declared.Inserted.{Inserted}
 use Rattle.net_insertion.specs.declared.Inserted.the-variants.{Added, Moved, Refused}
 use Rattle.net_insertion.specs.Insertion.{matches, placeAt, addBehind, splitAt, inserted, insertedTable}
-use Rattle.grow_rules.specs.Run.{Net, Run, After, arcTo, addedTo, movedTo, memberOf, insertedRun, insertEvent}
+use Rattle.grow_rules.specs.Run.{Net, Run, After, arcTo, addedTo, nodesTo, movedTo, memberOf, insertedRun, insertEvent}
 use Rattle.laws.proofs.Members.{some-all}
 use Rattle.arcs_growth.proofs.Labels.{Role, nought, start, event, split, join, stop, fakeRole, baseRole, itself, Labels, Extends, labelled, labelled-old, new-role, new-owner, new-depth}
 use Rattle.arcs_growth.proofs.Laid.{EventOf, NextOf, Laid}
-use Rattle.arcs_growth.proofs.NewNodes.{Attached}
+use Rattle.arcs_growth.proofs.NewNodes.{EventsKept, Attached}
 use Rattle.arcs_growth.proofs.Graphs.{Timed}
 use Rattle.arcs_growth.proofs.Seeks.{Reached, Came, insertion-came}
-use Rattle.arcs_growth.proofs.Bodies.{Body, self-base, new-end, event-body, split-body, add-attached, add-timed, add-event, add-empty, add-held, split-column, split-empty, split-held}
+use Rattle.arcs_growth.proofs.Bodies.{Body, self-base, new-end, event-body, split-body, add-attached, add-timed, add-event, add-speed, add-empty, add-held, split-column, split-empty, split-held}
 use Rattle.arcs_growth.proofs.Invariant.{Grows, Stands, Owned, Tip, Waits, Later, listed-more, waits-added}
 
 -- ---- events that are equal
@@ -46,6 +46,10 @@ pub match-event : (limit : Float) (e : TimedEvent) (x : EstTime) → matches lim
 unfolding matches
 match-event limit e x h = same-event (x .«link_event») (e .«link_event») (and-left (sameEvent (x .«link_event») (e .«link_event»)) (lt (gap (e .speed) (x .speed)) limit) h)
 
+pub match-near : (limit : Float) (e : TimedEvent) (x : EstTime) → matches limit e x ≡ true → lt (gap (e .speed) (x .speed)) limit ≡ true
+unfolding matches
+match-near limit e x h = and-right (sameEvent (x .«link_event») (e .«link_event»)) (lt (gap (e .speed) (x .speed)) limit) h
+
 pub real-event : (r : Role) → fakeRole r ≡ false → r ≡ event
 real-event nought e = not-both refl e
 real-event start e = not-both refl e
@@ -56,14 +60,17 @@ real-event stop e = not-both refl e
 
 -- ---- what holds after it
 
-pub record Inserts (L : Labels) (places : ℕ) (net : Net) (run : Run) (saved : List Run) (e : TimedEvent) (a : After) : Type 0 where
+pub record Inserts (L : Labels) (places : ℕ) (net : Net) (run : Run) (saved : List Run) (limit : Float) (e : TimedEvent) (a : After) : Type 0 where
   pub labels : Labels
   pub later : Later L labels net (a .net)
   pub grows : Grows labels places (a .net)
   pub waits : Waits labels (a .net) (a .run ∷ saved)
   pub closes : 0 < at (a .net .table) (run .place .«idx_prev») .«idx_next»
-  pub happens : (i : ℕ) → i < net .nodes → at (a .net .table) i .«link_event» ≡ at (net .table) i .«link_event»
+  pub kept : EventsKept (net .nodes) (at (net .table)) (at (a .net .table))
   pub here : at (a .net .table) (a .run .place .«idx_prev») .«link_event» ≡ e .«link_event»
+  pub near : (at (a .net .table) (a .run .place .«idx_prev») .speed ≡ e .speed) ⊎ (lt (gap (e .speed) (at (a .net .table) (a .run .place .«idx_prev») .speed)) limit ≡ true)
+  pub nodes : a .run .nodes ≡ nodesTo run (a .run .place .«idx_prev»)
+  pub runs : a .net .runs ≡ net .runs
   pub time : a .run .place .«time_to_next» ≡ e .time
   pub distance : a .run .place .«dist_to_next» ≡ e .offset
   pub leg : a .run .leg ≡ run .leg
@@ -116,7 +123,7 @@ module _ {L : Labels} {places : ℕ} {net : Net} {run : Run} {saved : List Run} 
   -- ---- the run moves
 
   moved : Safe L net p limit e → (from : ℕ) → Reached L (at t) n p from → 0 < at t from .«idx_next» → 0 < at t p .«idx_next» → matches limit e (at t (at t from .«idx_next»)) ≡ true
-      → Inserts L places net run saved e (record { net = net; run = movedTo run (placeAt (at t from .«idx_next») e) (run .«has_split») })
+      → Inserts L places net run saved limit e (record { net = net; run = movedTo run (placeAt (at t from .«idx_next») e) (run .«has_split») })
   unfolding movedTo placeAt
   moved safe from r some first same =
       let y : ℕ = at t from .«idx_next» in
@@ -134,8 +141,11 @@ module _ {L : Labels} {places : ℕ} {net : Net} {run : Run} {saved : List Run} 
           last = (λ w. absurd (tipped (u .last .0 w)), u .last .1);
         };
         closes = first;
-        happens = λ i h. refl;
+        kept = record { event = λ i h. refl; speed = λ i h. refl };
         here = c;
+        near = inr (match-near limit e (at t y) same);
+        nodes = refl;
+        runs = refl;
         time = refl;
         distance = refl;
         leg = refl;
@@ -153,7 +163,7 @@ module _ {L : Labels} {places : ℕ} {net : Net} {run : Run} {saved : List Run} 
   -- ---- the event is added behind the run's place
 
   opened : (i : ℕ) → Reached L (at t) n p i → at t i .«idx_next» ≡ 0 → ends i ≡ false → n < places
-      → Inserts L places net run saved e (record { net = addedTo net (addBehind t i n e) (placeAt n e) false (arcTo (run .place) n e); run = movedTo run (placeAt n e) true })
+      → Inserts L places net run saved limit e (record { net = addedTo net (addBehind t i n e) (placeAt n e) false (arcTo (run .place) n e); run = movedTo run (placeAt n e) true })
   unfolding addedTo movedTo placeAt arcTo
   opened i r z o room = record {
     labels = M;
@@ -163,14 +173,18 @@ module _ {L : Labels} {places : ℕ} {net : Net} {run : Run} {saved : List Run} 
           (event-body (g .body) i h room e (r .base) z o real (arcTo (run .place) n e) (sym (r .owner ∙ p-own)) refl (ap (sub binary64 (e .time)) (sym (held .0))) (ap (sub binary64 (e .offset)) (sym (held .1))));
       within = omega arith;
       count = let c = g .count in omega arith;
+      ended = g .ended;
       distinct = g .distinct;
     };
     waits = waits-added run saved u more later next which
         (record { within = omega arith; self = ap itself m; holds = λ a b. add-held (g .body) i h room e; listed = listed-more n (suc n) (omega arith) (run .joins) (s .listed) })
         (record { last = refl; empty = add-empty (g .body) i h room e; no-end = new-end (g .body) n (omega arith) });
     closes = subst (λ (k : ℕ). 0 < k) (sym (ap (λ (k : ℕ). at (addBehind t i n e) k .«idx_next») (sym is-place) ∙ a .here)) (omega (arith, v .two));
-    happens = a .happens;
+    kept = a .kept;
     here = add-event (g .body) i h room e;
+    near = inl (add-speed (g .body) i h room e);
+    nodes = refl;
+    runs = refl;
     time = refl;
     distance = refl;
     leg = refl;
@@ -235,9 +249,9 @@ module _ {L : Labels} {places : ℕ} {net : Net} {run : Run} {saved : List Run} 
   -- ---- the event is added behind a new split's Fake
 
   divided : (i : ℕ) → Reached L (at t) n p i → 0 < at t p .«idx_next» → at t i .«idx_next_alt» ≡ 0 → n + 1 < places
-      → Inserts L places net run saved e (record { net = addedTo net (addBehind (splitAt t i n (run .place)) n (n + 1) e) (placeAt (n + 1) e) true (arcTo (run .place) (n + 1) e); run = movedTo run (placeAt (n + 1) e) true })
+      → Inserts L places net run saved limit e (record { net = addedTo net (addBehind (splitAt t i n (run .place)) n (n + 1) e) (placeAt (n + 1) e) true (arcTo (run .place) (n + 1) e); run = movedTo run (placeAt (n + 1) e) true })
   unfolding addedTo movedTo placeAt arcTo
-  divided i r first no-alt room = subst (λ (k : ℕ). Inserts L places net run saved e (record { net = addedTo net (addBehind (splitAt t i n (run .place)) n k e) (placeAt k e) true (arcTo (run .place) k e); run = movedTo run (placeAt k e) true })) (sym (add-one n)) (record {
+  divided i r first no-alt room = subst (λ (k : ℕ). Inserts L places net run saved limit e (record { net = addedTo net (addBehind (splitAt t i n (run .place)) n k e) (placeAt k e) true (arcTo (run .place) k e); run = movedTo run (placeAt k e) true })) (sym (add-one n)) (record {
     labels = M;
     later = later;
     grows = record {
@@ -246,14 +260,21 @@ module _ {L : Labels} {places : ℕ} {net : Net} {run : Run} {saved : List Run} 
           (sym n-owner) refl (ap (sub binary64 (e .time)) (sym (held .0))) (ap (sub binary64 (e .offset)) (sym (held .1))));
       within = omega arith;
       count = let c = g .count in omega arith;
+      ended = g .ended;
       distinct = g .distinct;
     };
     waits = waits-added run saved u more later next which
         (record { within = omega arith; self = ap itself m; holds = λ c b. add-held mid n n-in room′ e; listed = listed-more n (suc (suc n)) (omega arith) (run .joins) (s .listed) })
         (record { last = refl; empty = add-empty mid n n-in room′ e; no-end = new-end (g .body) (suc n) (omega arith) });
     closes = subst (λ (k : ℕ). 0 < k) (sym (old p (s .within))) first;
-    happens = λ j l. a .happens j (omega arith) ∙ split-column (g .body) i h here (run .place) (λ (y : EstTime). y .«link_event») same-link j l;
+    kept = record {
+      event = λ j l. a .kept .event j (omega arith) ∙ split-column (g .body) i h here (run .place) (λ (y : EstTime). y .«link_event») same-link j l;
+      speed = λ j l. a .kept .speed j (omega arith) ∙ split-column (g .body) i h here (run .place) (λ (y : EstTime). y .speed) same-speed j l;
+    };
     here = add-event mid n n-in room′ e;
+    near = inl (add-speed mid n n-in room′ e);
+    nodes = refl;
+    runs = refl;
     time = refl;
     distance = refl;
     leg = refl;
@@ -332,6 +353,9 @@ module _ {L : Labels} {places : ℕ} {net : Net} {run : Run} {saved : List Run} 
       same-link : withNextAlt (at t i) n .«link_event» ≡ at t i .«link_event»
       same-link = refl
 
+      same-speed : withNextAlt (at t i) n .speed ≡ at t i .speed
+      same-speed = refl
+
       next-same : (j : ℕ) → j < n → at half j .«idx_next» ≡ at t j .«idx_next»
       next-same = split-column (g .body) i h here (run .place) (λ (y : EstTime). y .«idx_next») refl
 
@@ -365,19 +389,19 @@ module _ {L : Labels} {places : ℕ} {net : Net} {run : Run} {saved : List Run} 
 
   -- ---- whichever it is
 
-  pub insert-keeps : Safe L net p limit e → Holds (Inserts L places net run saved e) (insertEvent places limit net run e)
+  pub insert-keeps : Safe L net p limit e → Holds (Inserts L places net run saved limit e) (insertEvent places limit net run e)
   unfolding insertEvent placeAt
   insert-keeps safe = go (insertedTable t n limit (run .place) e) (inserted t n places ends limit (run .place) e) (insertion-came t n places ends limit (run .place) e v (s .within) p-base)
     where
-      go : (after : Table) (a : Inserted) → Came L t n places ends limit (run .place) e after a → Holds (Inserts L places net run saved e) (insertedRun net run e after a)
+      go : (after : Table) (a : Inserted) → Came L t n places ends limit (run .place) e after a → Holds (Inserts L places net run saved limit e) (insertedRun net run e after a)
       go after (Refused r) c = tt
       go after (Moved q) c =
-          subst (λ (z : Place). Inserts L places net run saved e (record { net = net; run = movedTo run z (run .«has_split») })) (sym (c .place)) (moved safe (c .from) (c .reached) (c .some) (c .first-some) (c .same))
+          subst (λ (z : Place). Inserts L places net run saved limit e (record { net = net; run = movedTo run z (run .«has_split») })) (sym (c .place)) (moved safe (c .from) (c .reached) (c .some) (c .first-some) (c .same))
       go after (Added q false) c =
-          subst (λ (z : Place). Inserts L places net run saved e (record { net = addedTo net after z false (arcTo (run .place) (z .«idx_prev») e); run = movedTo run z true })) (sym (c .place))
-          (subst (λ (z : Table). Inserts L places net run saved e (record { net = addedTo net z (placeAt n e) false (arcTo (run .place) (placeAt n e .«idx_prev») e); run = movedTo run (placeAt n e) true })) (sym (c .table))
+          subst (λ (z : Place). Inserts L places net run saved limit e (record { net = addedTo net after z false (arcTo (run .place) (z .«idx_prev») e); run = movedTo run z true })) (sym (c .place))
+          (subst (λ (z : Table). Inserts L places net run saved limit e (record { net = addedTo net z (placeAt n e) false (arcTo (run .place) (placeAt n e .«idx_prev») e); run = movedTo run (placeAt n e) true })) (sym (c .table))
           (opened (c .from) (c .reached) (c .empty) (c .no-end) (c .room)))
       go after (Added q true) c =
-          subst (λ (z : Place). Inserts L places net run saved e (record { net = addedTo net after z true (arcTo (run .place) (z .«idx_prev») e); run = movedTo run z true })) (sym (c .place))
-          (subst (λ (z : Table). Inserts L places net run saved e (record { net = addedTo net z (placeAt (n + 1) e) true (arcTo (run .place) (placeAt (n + 1) e .«idx_prev») e); run = movedTo run (placeAt (n + 1) e) true })) (sym (c .table))
+          subst (λ (z : Place). Inserts L places net run saved limit e (record { net = addedTo net after z true (arcTo (run .place) (z .«idx_prev») e); run = movedTo run z true })) (sym (c .place))
+          (subst (λ (z : Table). Inserts L places net run saved limit e (record { net = addedTo net z (placeAt (n + 1) e) true (arcTo (run .place) (placeAt (n + 1) e .«idx_prev») e); run = movedTo run (placeAt (n + 1) e) true })) (sym (c .table))
           (divided (c .from) (c .reached) (c .first-some) (c .no-alt) (c .room)))

@@ -23,6 +23,7 @@ pub record Grows (L : Labels) (places : ℕ) (net : Net) : Type 0 where
   pub body : Body L places (net .table) (net .nodes) (net .ends) (net .noted) (1 + net .added + net .splits)
   pub within : net .nodes ≤ places
   pub count : length (net .noted) ≡ net .added + net .joined + length (net .ends)
+  pub ended : length (net .runs) ≡ net .joined + length (net .ends)
   pub distinct : Distinct (net .ends)
 
 abbrev pub Listed : ℕ → List EstJoinPath → Type 0

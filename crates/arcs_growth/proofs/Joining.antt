@@ -19,7 +19,7 @@ use Rattle.grow_rules.specs.Run.{Net, Run, arcTo, memberOf, joinedTo}
 use Rattle.laws.proofs.Members.{All, all-so}
 use Rattle.arcs_growth.proofs.Labels.{event, join, stop, baseRole, lands, itself, Labels, Extends, labelled, labelled-old, new-role, new-goal}
 use Rattle.arcs_growth.proofs.Laid.{Laid}
-use Rattle.arcs_growth.proofs.NewNodes.{Attached, apart}
+use Rattle.arcs_growth.proofs.NewNodes.{EventsKept, Attached, apart}
 use Rattle.arcs_growth.proofs.Weights.{arcThere}
 use Rattle.arcs_growth.proofs.Graphs.{Graph, Timed, join-graph}
 use Rattle.arcs_growth.proofs.Bodies.{Chains, EndAt, self-base}
@@ -120,7 +120,7 @@ module _ (t : Table) (n places c : ℕ) (e : TimedEvent) (room : RoomIn t places
     other = next-column (λ (x : EstTime). x .«idx_next») refl;
     alt = three-column (λ (x : EstTime). x .«idx_next_alt») refl refl;
     prev = three-column (λ (x : EstTime). x .«idx_prev») refl refl;
-    happens = three-column (λ (x : EstTime). x .«link_event») refl refl;
+    kept = record { event = three-column (λ (x : EstTime). x .«link_event») refl refl; speed = three-column (λ (x : EstTime). x .speed) refl refl };
     prev-alt = λ j l. chained j l (equal-or-not j c);
     new-alt = ap (λ (x : EstTime). x .«idx_next_alt») three-new;
     new-prev = ap (λ (x : EstTime). x .«idx_prev») three-new;
@@ -200,7 +200,7 @@ pub record Joins (L : Labels) (places : ℕ) (net : Net) (saved : List Run) (mor
   pub later : Later L labels net more
   pub grows : Grows labels places more
   pub waits : Waits labels more saved
-  pub happens : (i : ℕ) → i < net .nodes → at (more .table) i .«link_event» ≡ at (net .table) i .«link_event»
+  pub kept : EventsKept (net .nodes) (at (net .table)) (at (more .table))
 
 pub owned-with : {L M : Labels} {n i : ℕ} → Extends L M n → i < n → (runs : List Run) → Owned L i runs → Owned M i runs
 owned-with x h [] o = o
@@ -335,6 +335,7 @@ module _ {L : Labels} {places : ℕ} {net : Net} {run : Run} {saved : List Run} 
       };
       within = omega arith;
       count = let k = g .count in omega arith;
+      ended = let k = g .ended in omega arith;
       distinct = g .distinct;
     };
     waits = record {
@@ -342,7 +343,7 @@ module _ {L : Labels} {places : ℕ} {net : Net} {run : Run} {saved : List Run} 
       stand = all-so (Stands L net) (Stands M more) (stands-more later) saved (u .stand .1);
       last = last-popped more saved (u .last .1);
     };
-    happens = attached .happens;
+    kept = attached .kept;
   }
     where
       more : Net

@@ -13,6 +13,7 @@ pub mod Writes
 pub mod Joining
 pub mod Finishing
 pub mod Paths
+pub mod Visits
 pub mod AtEvents
 pub mod Running
 pub mod Loads

@@ -30,6 +30,11 @@ isStop stop = true
 pub apart : {X : Type 0} (P : Role → Bool) {m r s : Role} → m ≡ r → m ≡ s → P r ≡ true → P s ≡ false → X
 apart P e f p q = not-both (ap P e ∙ p) (ap P f ∙ q)
 
+-- the first n nodes keep their events and speeds
+pub record EventsKept (n : ℕ) (node after : ℕ → EstTime) : Type 0 where
+  pub event : (i : ℕ) → i < n → after i .«link_event» ≡ node i .«link_event»
+  pub speed : (i : ℕ) → i < n → after i .speed ≡ node i .speed
+
 -- node n is new, behind base b
 pub record Attached (node after : ℕ → EstTime) (n b : ℕ) : Type 0 where
   pub within : b < n
@@ -37,7 +42,7 @@ pub record Attached (node after : ℕ → EstTime) (n b : ℕ) : Type 0 where
   pub other : (i : ℕ) → i < n → (i ≡ b → ⊥) → after i .«idx_next» ≡ node i .«idx_next»
   pub alt : (i : ℕ) → i < n → after i .«idx_next_alt» ≡ node i .«idx_next_alt»
   pub prev : (i : ℕ) → i < n → after i .«idx_prev» ≡ node i .«idx_prev»
-  pub happens : (i : ℕ) → i < n → after i .«link_event» ≡ node i .«link_event»
+  pub kept : EventsKept n node after
   pub prev-alt : (i : ℕ) → i < n → (after i .«idx_prev_alt» ≡ node i .«idx_prev_alt») ⊎ (after i .«idx_prev_alt» ≡ n)
   pub new-alt : after n .«idx_next_alt» ≡ 0
   pub new-prev : after n .«idx_prev» ≡ b
@@ -69,7 +74,7 @@ module _ {L : Labels} {node after : ℕ → EstTime} {n b : ℕ} (v : Laid L nod
   attached-step M x r s = record {
     labels = x;
     prev = a .prev;
-    happens = a .happens;
+    happens = a .kept .event;
     next = λ i h. next i h (equal-or-not i b);
     alt = λ i h. inl (a .alt i h);
     prev-alt = λ i h. prev-alt i h (a .prev-alt i h);

@@ -123,7 +123,7 @@ tail-alike {b} {places} {others} net other d l =
     (λ (u : Network). andThen (lastNode places u) (λ (v : Network). given (grownWith net v))) (λ (u : Network). andThen (lastNode others u) (λ (v : Network). given (grownWith (withTable net (l .table)) v)))
     (ends-alike places others (net .ends) 0 (record { table = net .table; nodes = net .nodes }) (l .table) (all-ends (net .ends) (net .nodes) (λ i m. d .grows .body .ended i m .within)) (l .agree) (d .grows .body .room) (l .room))
     (λ u w e. both-then (AlikeTail places others) SameGrowth (lastNode places u) (lastNode others w) (λ (v : Network). given (grownWith net v)) (λ (v : Network). given (grownWith (withTable net (l .table)) v)) (last-alike places others u w e)
-    (λ v x f. record { nodes = f .nodes; added = refl; splits = refl; joined = refl; finished = refl; noted = refl; table = f .agree })))
+    (λ v x f. record { nodes = f .nodes; added = refl; splits = refl; joined = refl; finished = refl; noted = refl; runs = refl; table = f .agree })))
 
 module _ (b : List ℕ) (places others : ℕ) (t u : Table) (r : Read b) (room : RoomIn t places) (room-other : RoomIn u others) where
   -- what follows the first nodes

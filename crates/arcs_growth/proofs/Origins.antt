@@ -2,7 +2,7 @@
 use mathlib.Core.Path.{_≡_, refl, sym, ap, _∙_, subst}
 use mathlib.Core.Logic.{_⊎_, inl, inr}
 use mathlib.Core.Bool.{Bool, true, false, _||_}
-use mathlib.Core.List.{List, [], _∷_}
+use mathlib.Core.List.{List, [], _∷_, _++_}
 use Prim.Native.Nat.{ℕ, zero, suc, _+_, _-_, _<_, _≤_}
 use native.Mathlib.Omega.{arith}
 use borrow.Author.Tests.{eqb-true, eq-eqb}
@@ -19,10 +19,11 @@ use Rattle.book_options.specs.Options.{keptOrigins}
 use Rattle.net_node.specs.declared.EstType.the-variants.{Arrive, Clear}
 use Rattle.net_node.specs.declared.TimedEvent.{TimedEvent}
 use Rattle.grow_path.specs.Path.{legEvents}
-use Rattle.grow_rules.specs.Run.{Net, Run, After, arcTo, memberOf, insertEvent}
-use Rattle.grow_rules.specs.Growth.{Growth, joinGap, departure, firstNodes, originEvent, originRun, takes, seekLeg, saves, growOrigin, growOrigins}
+use Rattle.grow_rules.specs.Run.{Arc, EndedRun, Net, Run, After, arcTo, memberOf, insertEvent}
+use Rattle.grow_rules.specs.Growth.{Growth, joinGap, departure, firstNodes, originEvent, originRun, withLeg, takes, seekLeg, saves, growOrigin, growOrigins}
 use Rattle.arcs_growth.specs.Arcs.{one}
-use Rattle.arcs_growth.specs.Runs.{runEventsTo, NextTo, Follows}
+use Rattle.arcs_growth.specs.Runs.{Taken, first, runEventsTo, HasEvent, AllTaken, SomeRun, FirstAt, LeadsOn}
+use Rattle.arcs_growth.specs.Noted.{LeadsOut, Ends}
 use Rattle.arcs_growth.specs.Read.{SomeKept, Read}
 use Rattle.laws.proofs.Below.{or-right}
 use Rattle.laws.proofs.Members.{All, Some, all-so}
@@ -34,10 +35,11 @@ use Rattle.arcs_growth.proofs.Invariant.{Grows, Stands, Owned, Waits, s
 use Rattle.arcs_growth.proofs.Insertions.{Inserts, Safe, insert-keeps}
 use Rattle.arcs_growth.proofs.Joining.{last-popped}
 use Rattle.arcs_growth.proofs.Paths.{run-events-first}
-use Rattle.arcs_growth.proofs.AtEvents.{AtEvent, Notes, waiting-more, notes-more, Driven}
+use Rattle.arcs_growth.proofs.Visits.{near-move, has-more, has-real, taken-more, soFar, allRuns, covers-more}
+use Rattle.arcs_growth.proofs.AtEvents.{AtEvent, Notes, waiting-more, notes-more, notes-on, Driven}
 use Rattle.arcs_growth.proofs.Running.{next-deeper}
 use Rattle.arcs_growth.proofs.Firsts.{firstLabels, first-grows, first-waits}
-use Rattle.arcs_growth.proofs.Driving.{withLeg, LegIn}
+use Rattle.arcs_growth.proofs.Driving.{LegIn}
 use Rattle.arcs_growth.proofs.Loads.{legCount, load, Kids, firsts-load}
 
 -- where a train that waits at its origin ends
@@ -56,7 +58,8 @@ pub record Rooted (b : List ℕ) (places : ℕ) (g : Growth) : Type 0 where
   pub grows : Grows labels places (g .net)
   pub waits : Waits labels (g .net) (originRun b ∷ g .saved)
   pub at-event : All (λ (s : Run). AtEvent b labels (at (g .net .table)) (g .net .nodes) s (legEvents b (s .leg))) (g .saved)
-  pub notes : All (Notes b (at (g .net .table)) (g .net .nodes)) (g .net .noted)
+  pub notes : All (Notes b (at (g .net .table)) (g .net .nodes) (g .saved) (g .net .runs)) (g .net .noted)
+  pub taken : AllTaken b (at (g .net .table)) (g .net .nodes) (g .net .runs)
   pub numbers : All (λ (s : Run). (s .place .«time_to_next» ≡ departure b) × (s .place .«dist_to_next» ≡ trainEnd b)) (g .saved)
   pub legs-in : All (LegIn b) (g .saved)
   pub firsts : Kids b 0 (legCount (g .saved))
@@ -94,11 +97,11 @@ module _ {b : List ℕ} (r : Read b) (places : ℕ) (idx : ℕ) (kept : memberOf
       go y m k (inl e) = apart fakeRole (ap (d .labels .role) e ∙ d .grows .body .graph .laid .first) m refl refl
       go y m k (inr e) = let w = d .grows .body .bottom in let c = e .0 in omega arith
 
-  pub arrive-keeps : Holds (Inserts (d .labels) places net (originRun b) saved (arrive b link)) (insertEvent places (joinGap b) net (originRun b) (arrive b link))
+  pub arrive-keeps : Holds (Inserts (d .labels) places net (originRun b) saved (joinGap b) (arrive b link)) (insertEvent places (joinGap b) net (originRun b) (arrive b link))
   unfolding originRun originEvent
   arrive-keeps = insert-keeps (d .grows) (d .waits) (joinGap b) (arrive b link) refl safe-arrive
 
-  module _ (a : After) (i : Inserts (d .labels) places net (originRun b) saved (arrive b link) a) where
+  module _ (a : After) (i : Inserts (d .labels) places net (originRun b) saved (joinGap b) (arrive b link) a) where
     deep-one : i .labels .depth (a .run .place .«idx_prev») ≡ 1
     unfolding originRun
     deep-one = i .deeper ∙ ap suc (d .grows .body .bottom)
@@ -125,7 +128,7 @@ module _ {b : List ℕ} (r : Read b) (places : ℕ) (idx : ℕ) (kept : memberOf
                 (ap (λ (k : ℕ). at (a .net .table) k .«time_to_next») e ∙ h .0 ∙ n .0 .0, ap (λ (k : ℕ). at (a .net .table) k .«dist_to_next») e ∙ h .1 ∙ n .0 .1)
             here (s ∷ runs) (inr t) f n = here runs t (f .1) (n .1)
 
-    module _ (c : After) (j : Inserts (i .labels) places (a .net) (a .run) saved (clear b link) c) where
+    module _ (c : After) (j : Inserts (i .labels) places (a .net) (a .run) saved (joinGap b) (clear b link) c) where
       deep-two : j .labels .depth (c .run .place .«idx_prev») ≡ 2
       deep-two = j .deeper ∙ ap suc deep-one
 
@@ -144,57 +147,99 @@ module _ {b : List ℕ} (r : Read b) (places : ℕ) (idx : ℕ) (kept : memberOf
           go x (inl e) = inr (ap (j .labels .depth) e ∙ deep-two, inl e)
           go x (inr e) = inr (e .0, inr (e .1))
 
-      module _ (k : ℕ) (o : LegOf b (legs b) 0 link k) where
+      module _ (k : ℕ) (o : LegOf b (legs b) 0 link k) (by : legBelow b (legs b) 0 link ≡ suc k) where
         events-are : runEventsTo b (suc k) ≡ arrive b link ∷ clear b link ∷ legEvents b (suc k)
         events-are = run-events-first r k (o .within) (o .parent) ∙ ap (λ (l : ℕ). arrive b l ∷ clear b l ∷ legEvents b (suc k)) (o .link)
 
-        origin-at-event : AtEvent b (j .labels) (at (c .net .table)) (c .net .nodes) (withLeg (c .run) (suc k) false) (legEvents b (suc k))
+        abbrev run : Run
+        run = withLeg (c .run) (suc k) false
+
+        -- the nodes of its Arrive and Clear
+        abbrev x : ℕ
+        x = a .run .place .«idx_prev»
+
+        abbrev y : ℕ
+        y = c .run .place .«idx_prev»
+
+        nodes-are : c .run .nodes ≡ x ∷ y ∷ []
+        unfolding originRun
+        nodes-are = j .nodes ∙ ap (λ (is : List ℕ). is ++ (y ∷ [])) (i .nodes)
+
+        has-arrive : HasEvent b (at (a .net .table)) (a .net .nodes) (arrive b link) x
+        has-arrive = record { inside = i .waits .stand .0 .within; event = i .here; speed = near-move b (arrive b link) (at (a .net .table) x) (i .near) }
+
+        has-clear : HasEvent b (at (c .net .table)) (c .net .nodes) (clear b link) y
+        has-clear = record { inside = j .waits .stand .0 .within; event = j .here; speed = near-move b (clear b link) (at (c .net .table) y) (j .near) }
+
+        has-arrive-then : HasEvent b (at (c .net .table)) (c .net .nodes) (arrive b link) x
+        has-arrive-then = has-more b (at (a .net .table)) (at (c .net .table)) (j .later .nodes) (j .kept) (arrive b link) x has-arrive
+
+        origin-at-event : AtEvent b (j .labels) (at (c .net .table)) (c .net .nodes) run (legEvents b (suc k))
+        unfolding originEvent
         origin-at-event = record {
-          within = j .waits .stand .0 .within;
           deep = subst (λ (l : ℕ). 2 ≤ l) (sym deep-two) (omega arith);
+          taken = first idx k kept by;
           past = arrive b link ∷ [];
           last = clear b link;
           events = events-are;
-          here = j .here;
+          front = x ∷ [];
+          nodes = nodes-are;
+          paired = (has-arrive-then, tt);
+          here = has-clear;
+          real = refl;
           time = j .time;
           distance = j .distance;
         }
 
-        -- what was noted of the Arrive, and of the Clear
-        arrive-notes : All (Notes b (at (a .net .table)) (a .net .nodes)) (a .net .noted)
+        -- ---- what was noted of the Arrive, and of the Clear
+
+        abbrev Noted : Arc → Type 0
+        Noted = Notes b (at (c .net .table)) (c .net .nodes) (run ∷ saved) (c .net .runs)
+
+        runs-same : c .net .runs ≡ net .runs
+        runs-same = j .runs ∙ i .runs
+
+        -- of those before
+        old-notes : All Noted (net .noted)
+        old-notes = subst (λ (xs : List EndedRun). All (Notes b (at (c .net .table)) (c .net .nodes) (run ∷ saved) xs) (net .noted)) (sym runs-same)
+            (notes-on b (at (c .net .table)) (c .net .nodes) saved (run ∷ saved) (net .runs) (net .runs) (λ arc z. z) (covers-more b (soFar run) (allRuns saved (net .runs))) (net .noted)
+            (notes-more b (at (a .net .table)) (at (c .net .table)) (omega (arith, d .grows .body .graph .laid .two, i .later .nodes)) (j .later .nodes) (j .kept) saved (net .runs) (net .noted)
+            (notes-more b (at (net .table)) (at (a .net .table)) (omega (arith, d .grows .body .graph .laid .two)) (i .later .nodes) (i .kept) saved (net .runs) (net .noted) (d .notes))))
+
+        first-here : FirstAt (c .run .nodes) x
+        first-here = subst (λ (is : List ℕ). FirstAt is x) (sym nodes-are) refl
+
+        arrive-notes : All Noted (a .net .noted)
         unfolding originRun originEvent arcTo
         arrive-notes = go (i .noted)
           where
-            old : All (Notes b (at (a .net .table)) (a .net .nodes)) (net .noted)
-            old = notes-more b (at (net .table)) (at (a .net .table)) (i .later .labels) (i .later .nodes) (i .happens) (net .noted) (d .notes)
+            go : (a .net .noted ≡ net .noted) ⊎ (a .net .noted ≡ arcTo (originRun b .place) x (arrive b link) ∷ net .noted) → All Noted (a .net .noted)
+            go (inl e) = subst (All Noted) (sym e) old-notes
+            go (inr e) = subst (All Noted) (sym e) ((
+              record { from = inl refl; to = inr (has-real b (at (c .net .table)) (c .net .nodes) (arrive b link) x has-arrive-then refl) },
+              inr (inl (record { idx = idx; kept = kept; run = inl first-here; from = refl; to-event = has-arrive-then .event; time = refl; distance = refl })),
+            ), old-notes)
 
-            go : (a .net .noted ≡ net .noted) ⊎ (a .net .noted ≡ arcTo (originRun b .place) (a .run .place .«idx_prev») (arrive b link) ∷ net .noted) → All (Notes b (at (a .net .table)) (a .net .nodes)) (a .net .noted)
-            go (inl e) = subst (All (Notes b (at (a .net .table)) (a .net .nodes))) (sym e) old
-            go (inr e) = subst (All (Notes b (at (a .net .table)) (a .net .nodes))) (sym e)
-                ((omega (arith, d .grows .body .graph .laid .two, i .later .nodes), (i .waits .stand .0 .within, inr (inl (record { idx = idx; kept = kept; from = refl; to-event = i .here; time = refl; distance = refl })))), old)
-
-        clear-notes : All (Notes b (at (c .net .table)) (c .net .nodes)) (c .net .noted)
+        leads-here : LeadsOn (runEventsTo b (suc k)) (c .run .nodes) (arcTo (a .run .place) y (clear b link))
         unfolding arcTo
+        leads-here =
+            subst (λ (xs : List TimedEvent). LeadsOn xs (c .run .nodes) (arcTo (a .run .place) y (clear b link))) (sym events-are)
+            (subst (λ (is : List ℕ). LeadsOn (arrive b link ∷ clear b link ∷ legEvents b (suc k)) is (arcTo (a .run .place) y (clear b link))) (sym nodes-are)
+            (inl (record { from = refl; to = refl; time = ap (sub binary64 (clear b link .time)) (i .time); distance = ap (sub binary64 (clear b link .offset)) (i .distance) })))
+
+        clear-notes : All Noted (c .net .noted)
+        unfolding arcTo originEvent
         clear-notes = go (j .noted)
           where
-            old : All (Notes b (at (c .net .table)) (c .net .nodes)) (a .net .noted)
-            old = notes-more b (at (a .net .table)) (at (c .net .table)) (j .later .labels) (j .later .nodes) (j .happens) (a .net .noted) arrive-notes
-
-            follows : Follows b (at (c .net .table)) (arcTo (a .run .place) (c .run .place .«idx_prev») (clear b link))
-            follows = record {
-              leg = suc k;
-              before = arrive b link;
-              after = clear b link;
-              neighbours = subst (λ (xs : List TimedEvent). NextTo xs (arrive b link) (clear b link)) (sym events-are) (inl (refl, refl));
-              from-event = j .happens (a .run .place .«idx_prev») (i .waits .stand .0 .within) ∙ i .here;
-              to-event = j .here;
-              time = ap (sub binary64 (clear b link .time)) (i .time);
-              distance = ap (sub binary64 (clear b link .offset)) (i .distance);
-            }
-
-            go : (c .net .noted ≡ a .net .noted) ⊎ (c .net .noted ≡ arcTo (a .run .place) (c .run .place .«idx_prev») (clear b link) ∷ a .net .noted) → All (Notes b (at (c .net .table)) (c .net .nodes)) (c .net .noted)
-            go (inl e) = subst (All (Notes b (at (c .net .table)) (c .net .nodes))) (sym e) old
-            go (inr e) = subst (All (Notes b (at (c .net .table)) (c .net .nodes))) (sym e) ((omega (arith, i .waits .stand .0 .within, j .later .nodes), (j .waits .stand .0 .within, inr (inr follows))), old)
+            go : (c .net .noted ≡ a .net .noted) ⊎ (c .net .noted ≡ arcTo (a .run .place) y (clear b link) ∷ a .net .noted) → All Noted (c .net .noted)
+            go (inl e) = subst (All Noted) (sym e) arrive-notes
+            go (inr e) = subst (All Noted) (sym e) ((
+              record {
+                from = inr (has-real b (at (c .net .table)) (c .net .nodes) (arrive b link) x has-arrive-then refl);
+                to = inr (has-real b (at (c .net .table)) (c .net .nodes) (clear b link) y has-clear refl);
+              },
+              inr (inr (inl leads-here)),
+            ), arrive-notes)
 
         -- the leg is new among the saved runs', as its link is
         origin-kids : Kids b 0 (legCount (withLeg (c .run) (suc k) false ∷ saved))
@@ -229,10 +274,12 @@ module _ {b : List ℕ} (r : Read b) (places : ℕ) (idx : ℕ) (kept : memberOf
           waits = origin-waits (suc k);
           at-event = (
             origin-at-event,
-            waiting-more b (at (a .net .table)) (at (c .net .table)) (j .later .labels) (j .later .nodes) (j .happens) saved
-                (waiting-more b (at (net .table)) (at (a .net .table)) (i .later .labels) (i .later .nodes) (i .happens) saved (d .at-event)),
+            waiting-more b (at (a .net .table)) (at (c .net .table)) (j .later .labels) (j .later .nodes) (j .kept) saved
+                (waiting-more b (at (net .table)) (at (a .net .table)) (i .later .labels) (i .later .nodes) (i .kept) saved (d .at-event)),
           );
           notes = clear-notes;
+          taken = subst (AllTaken b (at (c .net .table)) (c .net .nodes)) (sym runs-same)
+              (taken-more b (at (a .net .table)) (at (c .net .table)) (j .later .nodes) (j .kept) (net .runs) (taken-more b (at (net .table)) (at (a .net .table)) (i .later .nodes) (i .kept) (net .runs) (d .taken)));
           numbers = ((j .time, j .distance), d .numbers);
           legs-in = ((omega arith, omega (arith, o .within)), d .legs-in);
           firsts = origin-kids;
@@ -256,20 +303,20 @@ module _ {b : List ℕ} (r : Read b) (places : ℕ) (idx : ℕ) (kept : memberOf
   pub origin-keeps : Holds (RootedWith b places idxs) (growOrigin b places link g)
   unfolding growOrigin seekLeg originRun originEvent
   origin-keeps =
-      holds-then (Inserts (d .labels) places net (originRun b) saved (arrive b link)) (RootedWith b places idxs) (insertEvent places (joinGap b) net (originRun b) (arrive b link))
+      holds-then (Inserts (d .labels) places net (originRun b) saved (joinGap b) (arrive b link)) (RootedWith b places idxs) (insertEvent places (joinGap b) net (originRun b) (arrive b link))
       (λ (a : After). andThen (insertEvent places (joinGap b) (a .net) (a .run) (clear b link)) (λ (c : After). andThen (seekLeg b (c .run) 0 link) (λ (run : Run). given (saves g (c .net) run))))
       arrive-keeps
-      (λ a i. holds-then (Inserts (i .labels) places (a .net) (a .run) saved (clear b link)) (RootedWith b places idxs) (insertEvent places (joinGap b) (a .net) (a .run) (clear b link))
+      (λ a i. holds-then (Inserts (i .labels) places (a .net) (a .run) saved (joinGap b) (clear b link)) (RootedWith b places idxs) (insertEvent places (joinGap b) (a .net) (a .run) (clear b link))
       (λ (c : After). andThen (seekLeg b (c .run) 0 link) (λ (run : Run). given (saves g (c .net) run)))
       (insert-keeps (i .grows) (i .waits) (joinGap b) (clear b link) refl (safe-clear a i))
       (λ c j. go a i c j (legBelow b (legs b) 0 link) refl))
     where
-      go : (a : After) (i : Inserts (d .labels) places net (originRun b) saved (arrive b link) a) (c : After) (j : Inserts (i .labels) places (a .net) (a .run) saved (clear b link) c) (x : ℕ) → legBelow b (legs b) 0 link ≡ x
+      go : (a : After) (i : Inserts (d .labels) places net (originRun b) saved (joinGap b) (arrive b link) a) (c : After) (j : Inserts (i .labels) places (a .net) (a .run) saved (joinGap b) (clear b link) c) (x : ℕ) → legBelow b (legs b) 0 link ≡ x
           → Holds (RootedWith b places idxs) (andThen (takes (c .run) x) (λ (run : Run). given (saves g (c .net) run)))
       go a i c j zero e = tt
       go a i c j (suc k) e =
           let o = leg-found b (legs b) 0 link k e in
-          record { rooted = origin-rooted a i c j k o; closed = closed (equal-or-not (at (c .net .table) 1 .«idx_next») 0); unused = still-unused a i c j k o }
+          record { rooted = origin-rooted a i c j k o e; closed = closed (equal-or-not (at (c .net .table) 1 .«idx_next») 0); unused = still-unused a i c j k o e }
         where
           closed : (at (c .net .table) 1 .«idx_next» ≡ 0) ⊎ (at (c .net .table) 1 .«idx_next» ≡ 0 → ⊥) → 0 < at (c .net .table) 1 .«idx_next»
           closed (inl z) = let w = j .later .still 1 (omega (arith, d .grows .body .graph .laid .two, i .later .nodes)) z .0 in let f = i .closes in absurd (omega arith)
@@ -323,6 +370,7 @@ rooted-ready {b} r places g d =
         };
         at-event = o .at-event;
         notes = o .notes;
+        taken = o .taken;
       };
       legs-in = o .legs-in;
       light = firsts-load r (legCount (g .saved)) (o .firsts);
@@ -336,6 +384,7 @@ first-rooted b places t room more = record {
   waits = first-waits b t places room more;
   at-event = tt;
   notes = tt;
+  taken = tt;
   numbers = tt;
   legs-in = tt;
   firsts = record { once = λ i h. omega arith; parent = λ i h p. absurd (omega arith) };

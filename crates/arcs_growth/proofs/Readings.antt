@@ -64,3 +64,20 @@ module _ {L : Labels} {node : ℕ → EstTime} {n : ℕ} {arcs : List Arc} {k : 
       go : (i : ℕ) → i < n → (c : Bool) → baseRole (L .role i) ≡ c → weigh L node [] (λ (x : Arc). 1) i ≡ one (baseRole (L .role i))
       go i h true e = weigh-next L node [] (λ (x : Arc). 1) i e (v .closed i h e) ∙ ap one (sym e)
       go i h false e = weigh-none L node [] (λ (x : Arc). 1) i e ∙ ap one (sym e)
+
+  -- as many are read off as there are bases
+  below-many : (m : ℕ) → m ≤ n → length (arcsBelow node (suc n) m) ≡ sumBelow m (baseCount L)
+  unfolding arcsBelow sumBelow
+  below-many zero h = refl
+  below-many (suc m) h =
+      ap (λ (c : Bool). length (cond c (arcOf node (suc n) m ∷ arcsBelow node (suc n) m) (arcsBelow node (suc n) m))) (base-is v m (omega arith)) ∙ go (baseRole (L .role m)) (below-many m (omega arith))
+    where
+      go : (c : Bool) → length (arcsBelow node (suc n) m) ≡ sumBelow m (baseCount L) → length (cond c (arcOf node (suc n) m ∷ arcsBelow node (suc n) m) (arcsBelow node (suc n) m)) ≡ sumBelow m (baseCount L) + one c
+      go true q = omega arith
+      go false q = omega arith
+
+  pub read-many : length (arcsRead node (suc n)) ≡ length arcs
+  unfolding arcsRead arcsBelow
+  read-many =
+      ap (λ (c : Bool). length (cond c (arcOf node (suc n) n ∷ arcsBelow node (suc n) n) (arcsBelow node (suc n) n))) (last-no-base v)
+      ∙ below-many n (omega arith) ∙ v .bases ∙ sym length-bases

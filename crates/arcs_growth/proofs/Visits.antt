@@ -16,14 +16,10 @@ use Rattle.grow_rules.specs.Growth.{joinGap}
 use Rattle.arcs_growth.specs.Runs.{runEventsTo, HasEvent, Visits, RunTaken, AllTaken, SomeRun, FirstAt, LastAt, Between, LeadsOn}
 use Rattle.arcs_growth.specs.Noted.{LeadsOut, Starts, Follows, EventAt, Ends}
 use Rattle.laws.proofs.Members.{All, all-so}
+use Rattle.arcs_growth.proofs.NewNodes.{EventsKept}
 use Rattle.arcs_growth.proofs.Paths.{Real}
 
 -- ---- nodes keep their events
-
--- the first n nodes keep their events and speeds
-pub record EventsKept (n : ℕ) (node after : ℕ → EstTime) : Type 0 where
-  pub event : (i : ℕ) → i < n → after i .«link_event» ≡ node i .«link_event»
-  pub speed : (i : ℕ) → i < n → after i .speed ≡ node i .speed
 
 module _ (b : List ℕ) {n m : ℕ} (node after : ℕ → EstTime) (h : n ≤ m) (k : EventsKept n node after) where
   pub has-more : (e : TimedEvent) (i : ℕ) → HasEvent b node n e i → HasEvent b after m e i
@@ -78,6 +74,12 @@ module _ (b : List ℕ) {n m : ℕ} (node after : ℕ → EstTime) (h : n ≤ m)
       inside (inl q) = omega arith
       inside (inr q) = q .inside
 
+-- a speed near an event's, where the run moved or added
+pub near-move : (b : List ℕ) (e : TimedEvent) (x : EstTime) → (x .speed ≡ e .speed) ⊎ (lt (gap (e .speed) (x .speed)) (joinGap b) ≡ true)
+    → (x .speed ≡ e .speed) ⊎ ((lt (gap (e .speed) (x .speed)) (joinGap b) ≡ true) ⊎ (lt (gap (x .speed) (e .speed)) (joinGap b) ≡ true))
+near-move b e x (inl q) = inl q
+near-move b e x (inr q) = inr (inl q)
+
 -- a node that has a real event
 pub has-real : (b : List ℕ) (node : ℕ → EstTime) (n : ℕ) (e : TimedEvent) (i : ℕ) → HasEvent b node n e i → Real e → EventAt node n i
 has-real b node n e i d real = record { inside = d .inside; real = ap (λ (z : LinkEvent). fakeKind (z .«est_type»)) (d .event) ∙ real }
@@ -96,7 +98,7 @@ paired-more b node after h k [] (i ∷ is) p = absurd p
 paired-more b node after h k (e ∷ es) [] p = absurd p
 paired-more b node after h k (e ∷ es) (i ∷ is) p = (has-more b node after h k e i (p .0), paired-more b node after h k es is (p .1))
 
-module _ {b : List ℕ} {node : ℕ → EstTime} {n : ℕ} where
+module _ (b : List ℕ) (node : ℕ → EstTime) (n : ℕ) where
   -- one pair more
   pub paired-on : (es : List TimedEvent) (is : List ℕ) → Paired b node n es is → (e : TimedEvent) (i : ℕ) → HasEvent b node n e i → Paired b node n (es ++ (e ∷ [])) (is ++ (i ∷ []))
   paired-on [] [] p e i h = (h, tt)
@@ -208,7 +210,7 @@ pub covers-second : (b : List ℕ) (r s : EndedRun) (rs : List EndedRun) → Cov
 covers-second b r s rs = (inl (no-further b r), covers-add b r rs (s ∷ rs) (covers-more b s rs))
 
 -- the runs that wait, and those that have ended
-pub allRuns : List Run → List EndedRun → List EndedRun
+abbrev pub allRuns : List Run → List EndedRun → List EndedRun
 allRuns [] ended = ended
 allRuns (run ∷ runs) ended = soFar run ∷ allRuns runs ended
 
@@ -218,6 +220,11 @@ covers-end b r s f [] ended = covers-first b r s ended f
 covers-end b r s f (run ∷ runs) ended =
     let c = covers-end b r s f runs ended in
     (inr (c .0), (inl (no-further b (soFar run)), covers-add b (soFar run) (allRuns runs ended) (allRuns runs (s ∷ ended)) (c .1)))
+
+-- the run that has just ended
+pub some-ended : (P : EndedRun → Type 0) (runs : List Run) (ended : List EndedRun) (r : EndedRun) → P r → SomeRun P (allRuns runs (r ∷ ended))
+some-ended P [] ended r p = inl p
+some-ended P (run ∷ runs) ended r p = inr (some-ended P runs ended r p)
 
 pub starts-covered : (b : List ℕ) (node : ℕ → EstTime) (rs ss : List EndedRun) → Covers b rs ss → (arc : Arc) → Starts b node rs arc → Starts b node ss arc
 starts-covered b node rs ss c arc s = record {

@@ -15,7 +15,7 @@ use Rattle.laws.proofs.Answers.{Holds}
 use Rattle.laws.specs.Below.{sumBelow}
 use Rattle.net_node.specs.declared.EstTime.{EstTime}
 use Rattle.net_node.specs.Table.{blank, noLinkEvent, Table, put, at, isFake}
-use Rattle.grow_rules.specs.Run.{Arc}
+use Rattle.grow_rules.specs.Run.{Arc, EndedRun}
 use Rattle.grow_rules.specs.Growth.{fakeNode, roomFor, lastNode}
 use Rattle.net_node.specs.Left.{Network}
 use Rattle.laws.proofs.Members.{All}
@@ -24,6 +24,9 @@ use Rattle.arcs_growth.proofs.Labels.{baseRole, Labels, Extends}
 use Rattle.arcs_growth.proofs.Laid.{Each, Laid}
 use Rattle.arcs_growth.proofs.Weights.{weigh, weigh-same}
 use Rattle.arcs_growth.proofs.Graphs.{baseCount, next-within}
+use Rattle.arcs_growth.specs.Runs.{AllTaken}
+use Rattle.arcs_growth.proofs.NewNodes.{EventsKept}
+use Rattle.arcs_growth.proofs.Visits.{taken-more}
 use Rattle.arcs_growth.proofs.AtEvents.{Notes, notes-more}
 use Rattle.arcs_growth.proofs.Ends.{Linked, Ending}
 
@@ -70,19 +73,20 @@ pub record Whole (L : Labels) (node : ℕ → EstTime) (n : ℕ) (arcs : List Ar
   pub last-prev : node n .«idx_prev» ≡ n - 1
   pub last-prev-alt : node n .«idx_prev_alt» ≡ 0
 
-pub record Finished (b : List ℕ) (places : ℕ) (arcs : List Arc) (k : ℕ) (t : Network) : Type 0 where
+pub record Finished (b : List ℕ) (places : ℕ) (runs : List EndedRun) (arcs : List Arc) (k : ℕ) (t : Network) : Type 0 where
   pub room : RoomIn (t .table) places
   pub inside : t .nodes ≤ places
   pub labels : Labels
   pub before : ℕ
   pub nodes : t .nodes ≡ suc before
   pub whole : Whole labels (at (t .table)) before arcs k
-  pub notes : All (Notes b (at (t .table)) (t .nodes)) arcs
+  pub notes : All (Notes b (at (t .table)) (t .nodes) [] runs) arcs
+  pub taken : AllTaken b (at (t .table)) (t .nodes) runs
   pub linked : Linked (at (t .table)) (t .nodes) (t .nodes)
 
-pub last-keeps : {b : List ℕ} {places : ℕ} {arcs : List Arc} {k : ℕ} (alt : ℕ) (t : Network) → Ending b places arcs k [] alt t → Holds (Finished b places arcs k) (lastNode places t)
+pub last-keeps : {b : List ℕ} {places : ℕ} {runs : List EndedRun} {arcs : List Arc} {k : ℕ} (alt : ℕ) (t : Network) → Ending b places runs arcs k [] alt t → Holds (Finished b places runs arcs k) (lastNode places t)
 unfolding lastNode fakeNode blank noLinkEvent
-last-keeps {b} {places} {arcs} {k} alt t d = go (ltb (t .nodes) places) refl
+last-keeps {b} {places} {runs} {arcs} {k} alt t d = go (ltb (t .nodes) places) refl
   where
     n : ℕ
     n = t .nodes
@@ -96,6 +100,9 @@ last-keeps {b} {places} {arcs} {k} alt t d = go (ltb (t .nodes) places) refl
     same : (i : ℕ) → i < n → at after i ≡ at (t .table) i
     same i h = put-other (t .table) n last i (λ (q : i ≡ n). omega arith)
 
+    kept : EventsKept n (at (t .table)) (at after)
+    kept = record { event = λ i h. ap (λ (y : EstTime). y .«link_event») (same i h); speed = λ i h. ap (λ (y : EstTime). y .speed) (same i h) }
+
     x : Extends (d .labels) (d .labels) n
     x = record { role = λ i h. refl; owner = λ i h. refl; goal = λ i h. refl; depth = λ i h. refl }
 
@@ -103,7 +110,7 @@ last-keeps {b} {places} {arcs} {k} alt t d = go (ltb (t .nodes) places) refl
     closed i h p (inl z) = not-both (d .closed i h p (sym (ap (λ (y : EstTime). y .«idx_next») (same i h)) ∙ z)) refl
     closed i h p (inr z) = omega arith
 
-    go : (r : Bool) → ltb (t .nodes) places ≡ r → Holds (Finished b places arcs k) (roomFor r (record { table = put (t .table) (t .nodes) (fakeNode 0 (t .nodes - 1) 0 (ofBits binary64 0)); nodes = suc (t .nodes) }))
+    go : (r : Bool) → ltb (t .nodes) places ≡ r → Holds (Finished b places runs arcs k) (roomFor r (record { table = put (t .table) (t .nodes) (fakeNode 0 (t .nodes - 1) 0 (ofBits binary64 0)); nodes = suc (t .nodes) }))
     go false e = tt
     go true e = record {
       room = put-room (t .table) (t .nodes) last places (d .room);
@@ -122,7 +129,8 @@ last-keeps {b} {places} {arcs} {k} alt t d = go (ltb (t .nodes) places) refl
         last-prev = ap (λ (y : EstTime). y .«idx_prev») there;
         last-prev-alt = ap (λ (y : EstTime). y .«idx_prev_alt») there;
       };
-      notes = notes-more b (at (t .table)) (at after) x (omega arith) (λ i h. ap (λ (y : EstTime). y .«link_event») (same i h)) arcs (d .notes);
+      notes = notes-more b (at (t .table)) (at after) (omega (arith, d .graph .laid .two)) (omega arith) kept [] runs arcs (d .notes);
+      taken = taken-more b (at (t .table)) (at after) (omega arith) kept runs (d .taken);
       linked = record {
         next = λ i h. next i (below i n h);
         next-alt = λ i h. next-alt i (below i n h);

@@ -8,7 +8,7 @@ returns : tie.Need-returns
 returns c = after-done _ _ (c .before .is-done .ensures) (c .if1 .taken)
 
 returns-2 : tie.Need-returns-2
-returns-2 c = after-left _ _ (c .before .is-done .ensures) (c .if1 .left)
+returns-2 c = after-left (c .before .before .args .g) _ (c .before .is-done .ensures) (c .if1 .left)
 
 pub after-all-spec : {M : Type 1} → statement M
 after-all-spec = tie.close (tie.spec (λ c κs. search needs) returns returns-2)

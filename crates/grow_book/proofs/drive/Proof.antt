@@ -151,6 +151,7 @@ drive-spec =
     add-turn
     loop-less
     loop-again
+    (λ c κs. search needs)
     same-length-15
     same-length-16
     same-length-17
