@@ -22,6 +22,7 @@ pub mod Firsts
 pub mod Origins
 pub mod Ends
 pub mod Wholes
+pub mod Owners
 pub mod Sheets
 pub mod Readings
 pub mod Theorems

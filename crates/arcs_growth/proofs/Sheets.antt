@@ -5,20 +5,21 @@ use mathlib.Core.Bool.{Bool, true, false, not, _&&_, _||_, cond}
 use mathlib.Core.List.{List}
 use Prim.Native.Nat.{ℕ, zero, suc, _+_, _-_, _<_, _≤_}
 use native.Mathlib.Omega.{arith}
-use borrow.Author.Tests.{eqb-true, eqb-false, eq-eqb, ne-eqb, ltb-true, ltb-false, lt-ltb}
+use borrow.Author.Tests.{eqb-true, eqb-false, eq-eqb, ne-eqb, ltb-true, lt-ltb}
 use lib.Dec.{eqb, ltb}
-use Rattle.laws.proofs.Truth.{not-both, equal-or-not, both}
+use Rattle.laws.proofs.Truth.{not-both, equal-or-not}
 use Rattle.net_node.specs.Table.{isFake}
 use Rattle.laws.specs.Below.{someBelow}
 use Rattle.laws.proofs.Below.{some-at, or-right, below}
 use Rattle.net_node.specs.declared.EstTime.{EstTime}
 use Rattle.grow_rules.specs.Run.{Arc}
-use Rattle.arcs_growth.specs.Arcs.{one, isAlternative, isBase, alternativeOf, owners, isOwned, sourceOf, goalOf, arcOf}
+use Rattle.arcs_growth.specs.Arcs.{isAlternative, isBase, alternativeOf, isOwned, sourceOf, goalOf, arcOf}
 use Rattle.arcs_growth.specs.Shape.{isReceiver, Shape}
 use Rattle.arcs_growth.proofs.Labels.{Role, nought, start, event, split, join, stop, fakeRole, baseRole, receives, lands, itself, Labels}
 use Rattle.arcs_growth.proofs.Laid.{AltOf, SplitOf, StopOf, laterRole, past-first}
 use Rattle.arcs_growth.proofs.NewNodes.{apart}
 use Rattle.arcs_growth.proofs.Weights.{arcThere}
+use Rattle.arcs_growth.proofs.Owners.{owned-by}
 use Rattle.arcs_growth.proofs.Wholes.{Whole}
 
 some-found : (n : ℕ) (p : ℕ → Bool) (X : Type 0) → someBelow n p ≡ true → ((k : ℕ) → k < n → p k ≡ true → X) → X
@@ -30,20 +31,6 @@ some-found (suc n) p X e f = go (someBelow n p) refl (some-found n p X) (p n) re
     go true q ih c r s = ih q (λ k h. f k (omega arith))
     go false q ih true r s = f n (omega arith) r
     go false q ih false r s = not-both s refl
-
-not-below : (p m : ℕ) → m ≤ p → ltb p m ≡ false
-not-below p m h = go (ltb p m) refl
-  where
-    go : (t : Bool) → ltb p m ≡ t → ltb p m ≡ false
-    go true e = let l = ltb-true p m e in absurd (omega arith)
-    go false e = e
-
-same-below : (p m : ℕ) → (m ≡ p → ⊥) → ltb p m ≡ ltb p (suc m)
-same-below p m d = go (ltb p m) refl
-  where
-    go : (t : Bool) → ltb p m ≡ t → ltb p m ≡ ltb p (suc m)
-    go true e = let l = ltb-true p m e in e ∙ sym (lt-ltb p (suc m) (omega arith))
-    go false e = let l = ltb-false p m e in e ∙ sym (not-below p (suc m) (omega arith))
 
 abbrev splitRole : Role → Bool
 splitRole nought = false
@@ -270,37 +257,19 @@ module _ {L : Labels} {node : ℕ → EstTime} {n : ℕ} {arcs : List Arc} {k : 
   source-before m i q o = rw (q, o)
 
   -- a split Fake has one owner, its prev
-  owners-of : (i p : ℕ) → 0 < i → i < n → L .role i ≡ split → node i .«idx_prev» ≡ p → (m : ℕ) → m ≤ all → owners node all m i ≡ one (ltb p m)
-  unfolding owners
-  owners-of i p s h e q zero w = ap one (sym (not-below p 0 (omega arith)))
-  owners-of i p s h e q (suc m) w = go (equal-or-not m p) (owners-of i p s h e q m (omega arith))
-    where
-      there : (m < n) ⊎ (m ≡ n) → node m .«idx_next_alt» ≡ i → m ≡ p
-      there (inl k) z = sym (v .laid .each m k .alt i z s .back) ∙ q
-      there (inr k) z = let y : i ≡ 0 = sym z ∙ ap (λ (j : ℕ). node j .«idx_next_alt») k ∙ v .last-alt in absurd (omega arith)
-
-      no-more : (k : ℕ) → k + 0 ≡ k
-      no-more k = omega arith
-
-      go : (m ≡ p) ⊎ (m ≡ p → ⊥) → owners node all m i ≡ one (ltb p m) → owners node all m i + one (eqb (node m .«idx_next_alt») i) ≡ one (ltb p (suc m))
-      go (inl z) ih =
-          let before : owners node all m i ≡ 0 = ih ∙ ap one (not-below p m (omega arith)) in
-          let has : eqb (node m .«idx_next_alt») i ≡ true = eq-eqb (node m .«idx_next_alt») i (ap (λ (j : ℕ). node j .«idx_next_alt») z ∙ v .laid .each i h .splits p q e .alt) in
-          let sum : owners node all m i + one (eqb (node m .«idx_next_alt») i) ≡ 0 + one true = ap (λ (k : ℕ). k + one (eqb (node m .«idx_next_alt») i)) before ∙ ap (λ (c : Bool). 0 + one c) has in
-          sum ∙ ap one (sym (lt-ltb p (suc m) (omega arith)))
-      go (inr z) ih =
-          let none : eqb (node m .«idx_next_alt») i ≡ false = ne-eqb (node m .«idx_next_alt») i (λ (y : node m .«idx_next_alt» ≡ i). z (there (below m n w) y)) in
-          ap (λ (c : Bool). owners node all m i + one c) none ∙ no-more (owners node all m i) ∙ ih ∙ ap one (same-below p m z)
-
   owned-split : (i : ℕ) → 0 < i → i < n → L .role i ≡ split → isOwned node all i ≡ true
-  unfolding isOwned
   owned-split i s h e =
       let p : ℕ = node i .«idx_prev» in
       let o : SplitOf L node i p = v .laid .each i h .splits p refl e in
-      let few = owners-of i p s h e refl all (omega arith) ∙ ap one (lt-ltb p all (omega (arith, o .earlier))) in
-      let is = alternative-of i p s h e refl all (omega (arith, o .earlier)) (omega arith) in
-      both (eqb (owners node all all i) 1) (not (eqb (alternativeOf node all all i) 0)) (eq-eqb (owners node all all i) 1 few)
-      (ap not (ne-eqb (alternativeOf node all all i) 0 (λ (z : alternativeOf node all all i ≡ 0). apart baseRole {m = L .role p} refl (ap (L .role) (sym is ∙ z) ∙ v .laid .zeroth) (o .base) refl)))
+      owned-by node all i p (λ k l z. there k (below k n l) z) (o .alt) (omega (arith, o .earlier)) (some p (o .base) (equal-or-not p 0)) (alternative-of i p s h e refl all (omega (arith, o .earlier)) (omega arith))
+    where
+      there : (k : ℕ) → (k < n) ⊎ (k ≡ n) → node k .«idx_next_alt» ≡ i → k ≡ node i .«idx_prev»
+      there k (inl l) z = sym (v .laid .each k l .alt i z s .back)
+      there k (inr q) z = let y : i ≡ 0 = sym z ∙ ap (λ (j : ℕ). node j .«idx_next_alt») q ∙ v .last-alt in absurd (omega arith)
+
+      some : (p : ℕ) → baseRole (L .role p) ≡ true → (p ≡ 0) ⊎ (p ≡ 0 → ⊥) → 0 < p
+      some p b (inl z) = not-both b (ap (λ (k : ℕ). baseRole (L .role k)) z ∙ ap baseRole (v .laid .zeroth))
+      some p b (inr z) = omega arith
 
   source-is : (m i : ℕ) → i < n → i < m → baseRole (L .role i) ≡ true → sourceOf node all m i ≡ L .owner i
   source-is zero i h l e = absurd (omega arith)

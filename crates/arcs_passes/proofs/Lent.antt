@@ -3,7 +3,7 @@ use mathlib.Core.Path.{_≡_, refl, sym, ap, _∙_}
 use mathlib.Core.Logic.{_⊎_, inl, inr, _≢_}
 use mathlib.Core.Bool.{Bool, true, false, not, cond, _&&_, _||_}
 use mathlib.Core.List.{List, [], _∷_}
-use Prim.Native.Nat.{ℕ, zero, suc, _-_, _≤_, _<_}
+use Prim.Native.Nat.{ℕ, zero, suc, _+_, _-_, _≤_, _<_}
 use native.Mathlib.Omega.{arith}
 use lib.Dec.{eqb}
 use Rattle.laws.proofs.Truth.{true-or-false}
@@ -12,9 +12,9 @@ use Rattle.laws.specs.Below.{someBelow}
 use Rattle.laws.proofs.Below.{some-same}
 use Rattle.net_node.specs.declared.EstTime.{EstTime}
 use Rattle.grow_rules.specs.Run.{Arc}
-use Rattle.arcs_growth.specs.Arcs.{isAlternative, isBase, alternativeOf, sourceOf, goalOf, arcOf, arcsBelow, arcsRead}
+use Rattle.arcs_growth.specs.Arcs.{one, sourceAs, isAlternative, isBase, alternativeOf, owners, isOwned, sourceOf, goalOf, arcOf, arcsBelow, arcsRead}
 use Rattle.arcs_growth.specs.Shape.{Shape, isReceiver}
-use Rattle.arcs_passes.proofs.Roles.{source-itself, source-step, goal-end, goal-event, goal-fake, receiver-is, receiver-inside}
+use Rattle.arcs_passes.proofs.Roles.{goal-end, goal-event, goal-fake, receiver-is, receiver-inside}
 
 -- an arc between two ends, with a node's own time and distance to next
 abbrev arcWith : ℕ → ℕ → EstTime → Arc
@@ -44,18 +44,19 @@ module _ (node other : ℕ → EstTime) (n : ℕ) (ag : (i : ℕ) → i < n → 
       go true l = omega arith
       go false l = l
 
-  source-same : (k i : ℕ) → i < n → sourceOf other n k i ≡ sourceOf node n k i
-  unfolding sourceOf
-  source-same zero i h = refl
-  source-same (suc k) i h = go (true-or-false (eqb i 1 || not (isFake (node i)))) (source-same k (alternativeOf node n n i) (alternative-of-below n i (omega arith)))
-    where
-      itself : (eqb i 1 || not (isFake (other i))) ≡ (eqb i 1 || not (isFake (node i)))
-      itself = ap (λ (x : EstTime). eqb i 1 || not (isFake x)) (ag i h)
+  owners-same : (k i : ℕ) → k ≤ n → owners other n k i ≡ owners node n k i
+  unfolding owners
+  owners-same zero i h = refl
+  owners-same (suc k) i h = λ t. owners-same k i (omega arith) t + one (eqb (ag k (omega arith) t .«idx_next_alt») i)
 
-      go : ((eqb i 1 || not (isFake (node i))) ≡ true) ⊎ ((eqb i 1 || not (isFake (node i))) ≡ false) → sourceOf other n k (alternativeOf node n n i) ≡ sourceOf node n k (alternativeOf node n n i)
-          → sourceOf other n (suc k) i ≡ sourceOf node n (suc k) i
-      go (inl e) ih = source-itself other n k i (itself ∙ e) ∙ sym (source-itself node n k i e)
-      go (inr e) ih = source-step other n k i (itself ∙ e) ∙ ap (sourceOf other n k) (alternative-of-same n i (omega arith)) ∙ ih ∙ sym (source-step node n k i e)
+  source-same : (k i : ℕ) → i < n → sourceOf other n k i ≡ sourceOf node n k i
+  unfolding sourceOf isOwned
+  source-same zero i h = refl
+  source-same (suc k) i h =
+      let owned : isOwned other n i ≡ isOwned node n i = λ t. eqb (owners-same n i (omega arith) t) 1 && not (eqb (alternative-of-same n i (omega arith) t) 0) in
+      let before : sourceOf other n k (alternativeOf other n n i) ≡ sourceOf node n k (alternativeOf node n n i) =
+      ap (sourceOf other n k) (alternative-of-same n i (omega arith)) ∙ source-same k (alternativeOf node n n i) (alternative-of-below n i (omega arith)) in
+      λ t. sourceAs n (eqb i 1 || not (isFake (ag i h t))) (owned t) i (before t)
 
   -- a receiver or the end
   abbrev Leads : ℕ → Type 0
@@ -64,7 +65,7 @@ module _ (node other : ℕ → EstTime) (n : ℕ) (ag : (i : ℕ) → i < n → 
   goal-same : (k r : ℕ) → Leads r → goalOf other n k r ≡ goalOf node n k r
   unfolding goalOf
   goal-same zero r l = refl
-  goal-same (suc k) r (inr e) = ap (goalOf other n (suc k)) e ∙ goal-end other n (suc k) ∙ sym (ap (goalOf node n (suc k)) e ∙ goal-end node n (suc k))
+  goal-same (suc k) r (inr e) = ap (goalOf other n (suc k)) e ∙ goal-end other n k ∙ sym (ap (goalOf node n (suc k)) e ∙ goal-end node n k)
   goal-same (suc k) r (inl q) = go (true-or-false (isFake (node r))) (goal-same k (node r .«idx_next»))
     where
       fake : isFake (other r) ≡ isFake (node r)

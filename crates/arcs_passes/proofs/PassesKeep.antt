@@ -7,6 +7,7 @@ use native.Mathlib.Omega.{arith}
 use borrow.Author.Tests.{eqb-true, not-false}
 use lib.Dec.{eqb}
 use lib.Ieee.{Float}
+use lib.ListN.{length}
 use Rattle.laws.proofs.Truth.{true-or-false, equal-or-not, and-left, and-right, or-is}
 use Rattle.net_node.proofs.Tables.{RoomIn}
 use Rattle.net_node.specs.Table.{Table, at}
@@ -21,8 +22,9 @@ use Rattle.pass_rules.specs.Backward.{backward}
 use Rattle.pass_rules.specs.Passes.{someLeft, allZero, checkedAs, afterBackward, afterForward, passes}
 use Rattle.arcs_growth.specs.Arcs.{isBase, isAlternative, arcsRead, SameArcs, timesIn}
 use Rattle.arcs_growth.specs.Shape.{isReceiver, Shape}
+use Rattle.arcs_growth.proofs.NewNodes.{EventsKept}
 use Rattle.arcs_passes.proofs.Roles.{base-start, base-alternative, is-receiver, end-receives-not}
-use Rattle.arcs_passes.proofs.Frames.{event-same, receiver-same}
+use Rattle.arcs_passes.proofs.Frames.{event-same, speed-same, receiver-same, many-same}
 use Rattle.arcs_passes.proofs.ForwardRelinks.{Forth}
 use Rattle.arcs_passes.proofs.ForwardKeeps.{forward-keeps, forward-arcs}
 use Rattle.arcs_passes.proofs.BackwardRelinks.{Kept}
@@ -110,5 +112,11 @@ module _ (t : Table) (n places : ℕ) (l : n ≤ places) (r : RoomIn t places) (
   pub passes-arcs : (departure : Float) (u : Table) → passes t n departure ≡ given u → SameArcs (arcsRead (at t) n) (arcsRead (at u) n)
   passes-arcs departure u e = passes-keep departure u e .arcs
 
-  pub passes-events : (departure : Float) (u : Table) → passes t n departure ≡ given u → (i : ℕ) → at u i .«link_event» ≡ at t i .«link_event»
-  passes-events departure u e = event-same (at t) (at u) (passes-keep departure u e .frames)
+  -- as many arcs are read off
+  pub passes-many : (departure : Float) (u : Table) → passes t n departure ≡ given u → length (arcsRead (at u) n) ≡ length (arcsRead (at t) n)
+  passes-many departure u e = many-same (at t) (at u) (passes-keep departure u e .frames) n
+
+  pub passes-events : (departure : Float) (u : Table) → passes t n departure ≡ given u → EventsKept n (at t) (at u)
+  passes-events departure u e =
+      let f = passes-keep departure u e .frames in
+      record { event = λ i h. event-same (at t) (at u) f i; speed = λ i h. speed-same (at t) (at u) f i }

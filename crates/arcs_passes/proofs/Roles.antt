@@ -12,7 +12,7 @@ use Rattle.net_node.specs.Table.{isFake}
 use Rattle.laws.specs.Below.{someBelow}
 use Rattle.laws.proofs.Below.{some-at, or-left, or-right}
 use Rattle.net_node.specs.declared.EstTime.{EstTime}
-use Rattle.arcs_growth.specs.Arcs.{isAlternative, isBase, alternativeOf, sourceOf, goalOf}
+use Rattle.arcs_growth.specs.Arcs.{isAlternative, isBase, alternativeOf, isOwned, sourceOf, goalOf}
 use Rattle.arcs_growth.specs.Shape.{isReceiver}
 
 -- ---- alternatives
@@ -114,14 +114,13 @@ module _ (node : ℕ → EstTime) (n : ℕ) where
   unfolding sourceOf
   source-itself k i e = rw e
 
-  pub source-step : (k i : ℕ) → (eqb i 1 || not (isFake (node i))) ≡ false → sourceOf node n (suc k) i ≡ sourceOf node n k (alternativeOf node n n i)
+  pub source-step : (k i : ℕ) → (eqb i 1 || not (isFake (node i))) ≡ false → isOwned node n i ≡ true → sourceOf node n (suc k) i ≡ sourceOf node n k (alternativeOf node n n i)
   unfolding sourceOf
-  source-step k i e = rw e
+  source-step k i e o = rw (e, o)
 
-  pub goal-end : (k : ℕ) → goalOf node n k (n - 1) ≡ 0
+  pub goal-end : (k : ℕ) → goalOf node n (suc k) (n - 1) ≡ 0
   unfolding goalOf
-  goal-end zero = refl
-  goal-end (suc k) = rw (eq-eqb (n - 1) (n - 1) refl)
+  goal-end k = rw (eq-eqb (n - 1) (n - 1) refl)
 
   pub goal-event : (k i : ℕ) → i ≢ n - 1 → isFake (node i) ≡ false → goalOf node n (suc k) i ≡ i
   unfolding goalOf

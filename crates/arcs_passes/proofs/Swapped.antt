@@ -45,6 +45,11 @@ module _ (node node′ : ℕ → EstTime) (n a b : ℕ) (s : Shape node n) (w : 
       w .prev-other r (λ (o : r ≡ node a .«idx_next»). f (subst (λ (x : ℕ). isReceiver node n x ≡ true) (sym o) receives-a))
       (λ (o : r ≡ node b .«idx_next»). f (subst (λ (x : ℕ). isReceiver node n x ≡ true) (sym o) receives-b))
 
+  end-same : (k : ℕ) → goalOf node′ n k (n - 1) ≡ goalOf node n k (n - 1)
+  unfolding goalOf
+  end-same zero = refl
+  end-same (suc k) = goal-end node′ n k ∙ sym (goal-end node n k)
+
   -- the goal behind a receiver: the way to it leads over Fakes that are no bases
   pub goal-same : (k r : ℕ) → isReceiver node n r ≡ true → goalOf node′ n k r ≡ goalOf node n k r
   unfolding goalOf
@@ -56,7 +61,7 @@ module _ (node node′ : ℕ → EstTime) (n a b : ℕ) (s : Shape node n) (w : 
 
       on : (x : ℕ) → (isReceiver node n x ≡ true) ⊎ (x ≡ n - 1) → ((y : ℕ) → isReceiver node n y ≡ true → goalOf node′ n k y ≡ goalOf node n k y) → goalOf node′ n k x ≡ goalOf node n k x
       on x (inl c) ih = ih x c
-      on x (inr c) ih = subst (λ (y : ℕ). goalOf node′ n k y ≡ goalOf node n k y) (sym c) (goal-end node′ n k ∙ sym (goal-end node n k))
+      on x (inr c) ih = subst (λ (y : ℕ). goalOf node′ n k y ≡ goalOf node n k y) (sym c) (end-same k)
 
       go : (isFake (node r) ≡ true) ⊎ (isFake (node r) ≡ false) → ((y : ℕ) → isReceiver node n y ≡ true → goalOf node′ n k y ≡ goalOf node n k y) → goalOf node′ n (suc k) r ≡ goalOf node n (suc k) r
       go (inl f) ih =

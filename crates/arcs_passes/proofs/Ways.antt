@@ -10,8 +10,9 @@ use Rattle.laws.proofs.Truth.{equal-or-not, true-or-false, not-both}
 use Rattle.net_node.specs.Table.{isFake}
 use Rattle.laws.proofs.Below.{none-left, none-right}
 use Rattle.net_node.specs.declared.EstTime.{EstTime}
-use Rattle.arcs_growth.specs.Arcs.{isAlternative, isBase, alternativeOf, sourceOf, goalOf}
+use Rattle.arcs_growth.specs.Arcs.{isAlternative, isBase, alternativeOf, isOwned, sourceOf, goalOf}
 use Rattle.arcs_growth.specs.Shape.{isReceiver, Shape}
+use Rattle.arcs_growth.proofs.Owners.{owned-by}
 use Rattle.arcs_passes.proofs.Roles.{alternative-above, alternative-some, base-event, base-alternative, base-is, is-receiver, receiver-inside, end-receives-not, source-itself, source-step, goal-fake}
 
 module _ (node : ℕ → EstTime) (n : ℕ) (s : Shape node n) where
@@ -108,6 +109,26 @@ module _ (node : ℕ → EstTime) (n : ℕ) (s : Shape node n) where
       let o = q .beyond in
       ap (λ (b : Bool). b || not (isFake (node i))) (ne-eqb i 1 (λ (d : i ≡ 1). omega arith)) ∙ ap not (q .fake)
 
+  -- its prev is its one owner
+  split-owned : (i : ℕ) → isAlternative node n i ≡ true → isOwned node n i ≡ true
+  split-owned i e =
+      let q = split-is i e in
+      let o = alternative-some node n i e in
+      owned-by node n i (node i .«idx_prev») (λ k h z. sym (alone k h z o)) (ap (λ (k : ℕ). node k .«idx_next_alt») (sym (q .above)) ∙ alternative-above node n i e .1) (q .prev-inside)
+      (some (node i .«idx_prev») (q .base) (equal-or-not (node i .«idx_prev») 0)) (q .above)
+    where
+      alone : (k : ℕ) → k < n → node k .«idx_next_alt» ≡ i → 0 < i → node i .«idx_prev» ≡ k
+      alone k h z o = subst (λ (x : ℕ). node x .«idx_prev» ≡ k) z (s .alt-prev k h (subst (λ (x : ℕ). 0 < x) (sym z) o))
+
+      some : (p : ℕ) → isBase node n p ≡ true → (p ≡ 0) ⊎ (p ≡ 0 → ⊥) → 0 < p
+      some p b (inl z) = absurd (nought (base-is node n 0 (subst (λ (x : ℕ). isBase node n x ≡ true) z b)))
+        where
+          nought : (_≡_ {A = ℕ} 0 1) ⊎ ((isFake (node 0) ≡ false) ⊎ (isAlternative node n 0 ≡ true)) → ⊥
+          nought (inl a) = omega arith
+          nought (inr (inl a)) = not-both (s .first-fake) a
+          nought (inr (inr a)) = let o = alternative-some node n 0 a in omega arith
+      some p b (inr z) = omega arith
+
   -- a base's source takes no more steps than its number
   source-settled : (k i : ℕ) → isBase node n i ≡ true → i ≤ k → sourceOf node n (suc k) i ≡ sourceOf node n k i
   source-settled zero i e h = absurd (go (base-is node n i e))
@@ -123,14 +144,15 @@ module _ (node : ℕ → EstTime) (n : ℕ) (s : Shape node n) where
       go (inl a) ih = source-itself node n (suc k) i a ∙ sym (source-itself node n k i a)
       go (inr a) ih =
           let fake = not-false (isFake (node i)) (none-right (eqb i 1) (not (isFake (node i))) a) in
-          let q = split-is i (fake-base i e fake (eqb-false i 1 (none-left (eqb i 1) (not (isFake (node i))) a))) in
+          let c = fake-base i e fake (eqb-false i 1 (none-left (eqb i 1) (not (isFake (node i))) a)) in
+          let q = split-is i c in
           let rises = q .rises in
           let up : sourceOf node n (suc k) (alternativeOf node n n i) ≡ sourceOf node n k (alternativeOf node n n i) =
           subst (λ (x : ℕ). sourceOf node n (suc k) x ≡ sourceOf node n k x) (sym (q .above)) (ih (node i .«idx_prev») (q .base) (omega arith)) in
-          source-step node n (suc k) i a ∙ up ∙ sym (source-step node n k i a)
+          source-step node n (suc k) i a (split-owned i c) ∙ up ∙ sym (source-step node n k i a (split-owned i c))
 
   pub source-up : (i : ℕ) → isAlternative node n i ≡ true → sourceOf node n n (node i .«idx_prev») ≡ sourceOf node n n i
   source-up i e =
       let q = split-is i e in
       let inside = q .inside in
-      ap (sourceOf node n n) (sym (q .above)) ∙ sym (source-step node n n i (split-self i e)) ∙ source-settled n i (base-alternative node n i e) (omega arith)
+      ap (sourceOf node n n) (sym (q .above)) ∙ sym (source-step node n n i (split-self i e) (split-owned i e)) ∙ source-settled n i (base-alternative node n i e) (omega arith)

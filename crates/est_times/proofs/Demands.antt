@@ -11,7 +11,7 @@ use Rattle.net_node.specs.Lent.{Sizes, placesIn}
 use Rattle.net_node.proofs.Left.{kept-node}
 use Rattle.grow_rules.specs.Growth.{Grown, departure}
 use Rattle.arcs_growth.proofs.OneGrowth.{one-growth}
-use Rattle.arcs_passes.proofs.Sheet.{SheetWell, sheet-well, lent-arcs, lent-of-runs}
+use Rattle.arcs_passes.proofs.Sheet.{SheetWell, sheet-well, lent-arcs, lent-many, lent-ends, lent-taken, lent-of-runs}
 use Rattle.est_times.specs.declared.Sheet.{Sheet}
 use Rattle.est_times.specs.Network.{zeroTable, network}
 use Rattle.est_times.specs.Demand.{Noted, Demand}
@@ -21,8 +21,8 @@ use Rattle.est_times.proofs.Accepts.{places-fit}
 use Rattle.est_times.proofs.Networks.{Sound, sound, zero-room}
 use Rattle.est_times.proofs.Finished.{FinishedBy, job-finished}
 
--- the arcs that the growth rule notes
-noted-by : (b : List ℕ) (z : Sizes) (g : Grown) → Sound b z g → Noted b (g .noted)
+-- the arcs that the growth rule notes, and its runs
+noted-by : (b : List ℕ) (z : Sizes) (g : Grown) → Sound b z g → Noted b (g .noted) (g .runs)
 noted-by b z g s = record {
   places = placesIn z;
   table = zeroTable z;
@@ -30,7 +30,8 @@ noted-by b z g s = record {
   grown = g;
   grows = s .grows;
   is = refl;
-  alone = λ others other h room e. one-growth b (placesIn z) others (zeroTable z) other g h (s .read) (zero-room b z) room (s .grows) e .noted;
+  runs-are = refl;
+  alone = λ others other h room e. let o = one-growth b (placesIn z) others (zeroTable z) other g h (s .read) (zero-room b z) room (s .grows) e in (o .noted, o .runs);
 }
 
 module _ (b : List ℕ) (z : Sizes) (f : Finished) (d : FinishedBy b (network b z) f) where
@@ -43,11 +44,16 @@ module _ (b : List ℕ) (z : Sizes) (f : Finished) (d : FinishedBy b (network b 
   made : (t : Table) → ((i : ℕ) → i < f .grown .nodes → at t i ≡ at (f .timed) i) → Demand b t (reportOf (f .grown))
   made t ag = record {
     noted = f .grown .noted;
+    runs = f .grown .runs;
     rule = noted-by b z (f .grown) whole;
     arcs = lent-arcs b (placesIn z) (f .grown) (f .timed) (at t) sheet ag;
+    as-many = lent-many b (placesIn z) (f .grown) (f .timed) (at t) sheet ag;
+    ends = lent-ends b (placesIn z) (f .grown) (f .timed) (at t) sheet ag;
+    taken = lent-taken b (placesIn z) (f .grown) (f .timed) (at t) sheet ag;
     of-runs = lent-of-runs b (placesIn z) (f .grown) (f .timed) (at t) sheet ag;
     counted = sheet .counted;
     balanced = sheet .balanced;
+    ended = sheet .ended;
   }
 
 pub final-demand : (b : List ℕ) (z : Sizes) (built : Table) (r : Sheet) → BuiltAs (job b z) built r → length (built .floats) ≡ z .floats → length (built .numbers) ≡ z .numbers
