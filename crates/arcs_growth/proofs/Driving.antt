@@ -38,6 +38,9 @@ use Rattle.arcs_growth.proofs.Loads.{legCount, load, load-same, Kids, l
 abbrev pub LegIn : List ℕ → Run → Type 0
 LegIn b r = (0 < r .leg) × (r .leg ≤ legs b)
 
+pub some-run : (run : Run) (runs : List Run) → (run ∷ runs) ≡ [] → ⊥
+some-run run runs e = let q : suc (length runs) ≡ 0 = ap length e in omega arith
+
 -- ---- another leg, and a saved run
 
 pub waits-leg : {L : Labels} {net : Net} {run : Run} {saved : List Run} → Waits L net (run ∷ saved) → (j : ℕ) → Waits L net (withLeg run j (run .«has_split») ∷ saved)
@@ -289,7 +292,7 @@ module _ {b : List ℕ} (r : Read b) where
 
   -- ---- all runs
 
-  nobody : (runs : List Run) → All (LegIn b) runs → load b runs ≤ 0 → runs ≡ []
+  pub nobody : (runs : List Run) → All (LegIn b) runs → load b runs ≤ 0 → runs ≡ []
   nobody [] ls h = refl
   nobody (run ∷ runs) ls h =
       let l = load-less r run runs runs (λ (x : ℕ). 0) (ls .0 .0) (ls .0 .1) (record { once = λ i k. omega arith; parent = λ i k q. absurd (omega arith) }) (λ x. omega arith) in
@@ -298,10 +301,7 @@ module _ {b : List ℕ} (r : Read b) where
   pub drives : {places : ℕ} (k : ℕ) (net : Net) (saved : List Run) → Driven b places net saved → All (LegIn b) saved → load b saved ≤ k → Holds (λ (n : Net). Driven b places n []) (drive k b places net saved)
   unfolding drive
   drives zero net [] d ls h = d
-  drives zero net (run ∷ saved) d ls h = absurd (some (nobody (run ∷ saved) ls h))
-    where
-      some : (run ∷ saved) ≡ [] → ⊥
-      some e = let q : suc (length saved) ≡ 0 = ap length e in omega arith
+  drives zero net (run ∷ saved) d ls h = absurd (some-run run saved (nobody (run ∷ saved) ls h))
   drives (suc k) net [] d ls h = d
   drives {places} (suc k) net (run ∷ saved) d ls h =
       holds-then (Turned places run saved) (λ (n : Net). Driven b places n []) (takeLeg b places net run saved) (λ (g : Growth). drive k b places (g .net) (g .saved)) (takes-leg d ls)

@@ -31,5 +31,6 @@ pub mod Alike
 pub mod AlikeRuns
 pub mod AlikeDrives
 pub mod OneGrowth
+pub mod Numbered
 pub mod Books
 pub mod Examples

@@ -34,7 +34,7 @@ pub record Demand (b : List ℕ) (t : Table) (r : Report) : Type 0 where
   pub rule : Noted b noted runs
   -- the two lists hold the same arcs, each as often, both ends and every bit of time and distance
   pub arcs : SameArcs noted (arcsRead (at t) (r .nodes))
-  -- "where arcs is the length of either list"
+  -- as many arcs on either side
   pub as-many : length (arcsRead (at t) (r .nodes)) ≡ length noted
   -- each arc leads between the start, event nodes of the sheet and the end
   pub ends : AllEnds (at t) (r .nodes) noted

@@ -43,3 +43,19 @@ both-with P R (given a) (given b) h k = (h, k)
 
 pub both-given : {A B : Type 0} (R : A → B → Type 0) (x : Answer A) (y : Answer B) (a : A) (b : B) → Both R x y → x ≡ given a → y ≡ given b → R a b
 both-given {A} {B} R x y a b h p q = subst (λ (z : Answer B). Both R (given a) z) q (subst (λ (z : Answer A). Both R z y) p h)
+
+-- ---- the numbers of refusals
+
+-- what holds of the number of a refusal
+abbrev pub Refuses : {A : Type 0} → (ℕ → Type 0) → Answer A → Type 0
+Refuses N (refused n) = N n
+Refuses N (given a) = Unit
+
+pub refuses-then : {A B : Type 0} (N : ℕ → Type 0) (x : Answer A) (f : A → Answer B) → Refuses N x → ((a : A) → Refuses N (f a)) → Refuses N (andThen x f)
+refuses-then N (refused n) f h k = h
+refuses-then N (given a) f h k = k a
+
+-- with what holds of what is given
+pub refuses-with : {A B : Type 0} (N : ℕ → Type 0) (P : A → Type 0) (x : Answer A) (f : A → Answer B) → Holds P x → Refuses N x → ((a : A) → P a → Refuses N (f a)) → Refuses N (andThen x f)
+refuses-with N P (refused n) f p h k = h
+refuses-with N P (given a) f p h k = k a p
