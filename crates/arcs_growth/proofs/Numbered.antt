@@ -1,5 +1,6 @@
 -- A growth's refusal has a number of document 01's table, and never 0: in particular the driver's turns never run out.
 use mathlib.Core.Path.{_≡_, refl}
+use mathlib.Core.Logic.{inl, inr}
 use mathlib.Core.Bool.{Bool, true, false}
 use mathlib.Core.List.{List, [], _∷_}
 use Prim.Native.Nat.{ℕ, zero, suc, _+_, _-_, _≤_}
@@ -20,10 +21,8 @@ use Rattle.net_node.specs.Left.{Network}
 use Rattle.net_node.specs.declared.TimedEvent.{TimedEvent}
 use Rattle.net_insertion.specs.declared.Inserted.{Inserted}
 use Rattle.net_insertion.specs.declared.Inserted.the-variants.{Added, Moved, Refused}
-use Rattle.net_insertion.specs.declared.Place.{Place}
-use Rattle.net_insertion.specs.declared.Seek.{Seek}
-use Rattle.net_insertion.specs.declared.Seek.the-variants.{Open, Match, Split}
-use Rattle.net_insertion.specs.Insertion.{placeAt, addedAs, insertedAs, soughtIn, inserted, insertedTable}
+use Rattle.net_insertion.specs.Insertion.{inserted, insertedTable}
+use Rattle.net_insertion.proofs.Numbers.{RefusesAs, inserted-refuses}
 use Rattle.net_joins.specs.Joins.{JoinStep, JoinsTo, GoesOn, Beyond, joinStep}
 use Rattle.grow_path.specs.Path.{linkOf, legCourse, legEvents}
 use Rattle.grow_rules.specs.Run.{Net, Run, After, memberOf, insertedRun, insertEvent, Outcome, Ended, On, goesOn, withJoins, joinedAs, eventAs, runEvent, nextEvent, runEvents}
@@ -43,30 +42,16 @@ Grows a = Refuses OfGrowth a
 
 -- ---- one event
 
-abbrev NumberedAs : Inserted → Type 0
-NumberedAs (Refused k) = OfGrowth k
-NumberedAs (Moved q) = Unit
-NumberedAs (Added q split) = Unit
-
-added-numbered : (room ended : Bool) (q : Place) (split : Bool) → NumberedAs (addedAs room ended (Added q split))
-added-numbered false ended q split = (omega arith, omega arith)
-added-numbered true true q split = (omega arith, omega arith)
-added-numbered true false q split = tt
-
-inserted-numbered : (s : Seek) (n places : ℕ) (ended : ℕ → Bool) (e : TimedEvent) → NumberedAs (insertedAs s n places ended e)
-inserted-numbered (Match i) n places ended e = tt
-inserted-numbered (Open i) n places ended e = added-numbered (ltb n places) (ended i) (placeAt n e) false
-inserted-numbered (Split i) n places ended e = added-numbered (ltb (n + 1) places) false (placeAt (n + 1) e) true
-
 module _ (places : ℕ) (limit : Float) where
   insert-numbered : (net : Net) (run : Run) (e : TimedEvent) → Grows (insertEvent places limit net run e)
-  unfolding insertEvent inserted
+  unfolding insertEvent
   insert-numbered net run e =
-      go (insertedTable (net .table) (net .nodes) limit (run .place) e) (insertedAs (soughtIn (net .table) (net .nodes) limit (run .place) e) (net .nodes) places (memberOf (net .ends)) e)
-      (inserted-numbered (soughtIn (net .table) (net .nodes) limit (run .place) e) (net .nodes) places (memberOf (net .ends)) e)
+      go (insertedTable (net .table) (net .nodes) limit (run .place) e) (inserted (net .table) (net .nodes) places (memberOf (net .ends)) limit (run .place) e)
+      (inserted-refuses (net .table) (net .nodes) places (memberOf (net .ends)) limit (run .place) e)
     where
-      go : (t : Table) (a : Inserted) → NumberedAs a → Grows (insertedRun net run e t a)
-      go t (Refused k) h = h
+      go : (t : Table) (a : Inserted) → RefusesAs a → Grows (insertedRun net run e t a)
+      go t (Refused k) (inl q) = (omega arith, omega arith)
+      go t (Refused k) (inr q) = (omega arith, omega arith)
       go t (Moved q) h = tt
       go t (Added q split) h = tt
 

@@ -3,3 +3,4 @@ pub mod Puts
 pub mod Answers
 pub mod Kept
 pub mod Examples
+pub mod Numbers
