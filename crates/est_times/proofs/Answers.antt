@@ -12,7 +12,7 @@ use Rattle.net_node.specs.Table.{Table}
 use Rattle.net_node.specs.Left.{floatsKept, numbersKept, floatsLeft, numbersLeft}
 use Rattle.net_node.specs.Lent.{Slices, Sizes, sizesOf}
 use Rattle.est_times.specs.declared.Sheet.{Sheet}
-use Rattle.est_times.specs.Sheet.{Finished, job, answered, sheetOf, SheetMade}
+use Rattle.est_times.specs.Sheet.{Finished, job, answered, sheetOf, Numbered, SheetMade}
 use Rattle.est_times.specs.Stages.{BuiltAs, sheetNodes}
 use Rattle.est_times.proofs.Networks.{sound}
 use Rattle.est_times.proofs.Finished.{job-finished}
@@ -23,21 +23,25 @@ pub nodes-most : (b : List ℕ) (z : Sizes) (t : Table) (sheet : Sheet) → Buil
 nodes-most b z t sheet = go (job b z) refl
   where
     go : (j : Answer Finished) → job b z ≡ j → BuiltAs j t sheet → sheetNodes sheet ≤ 65535
-    go (refused k) e h = let q = ap sheetNodes h in omega arith
+    go (refused k) e h = let q = ap sheetNodes (h .0) in omega arith
     go (given f) e h = let q = ap sheetNodes (h .0) in let m = sound b z (f .grown) (job-finished b z f e .network-given) .most in omega arith
 
 -- ---- the answer and the table
 
 job-answered : (j : Answer Finished) (t : Table) (sheet : Sheet) → BuiltAs j t sheet → sheet ≡ answered j
-job-answered (refused k) t sheet h = h
+job-answered (refused k) t sheet h = h .0
 job-answered (given f) t sheet h = h .0
 
+job-numbered : (j : Answer Finished) (t : Table) (sheet : Sheet) → BuiltAs j t sheet → Numbered sheet
+job-numbered (refused k) t sheet h = subst Numbered (sym (h .0)) (h .1)
+job-numbered (given f) t sheet h = subst Numbered (sym (h .0)) tt
+
 kept-floats : (j : Answer Finished) (t : Table) (sheet : Sheet) (size : ℕ) → BuiltAs j t sheet → floatsKept (sheetNodes sheet) (t .floats) size ≡ floatsLeft (sheetOf j) size
-kept-floats (refused k) t sheet size h = ap (λ (s : Sheet). floatsKept (sheetNodes s) (t .floats) size) h ∙ ap zeroFloats (sub-zero size)
+kept-floats (refused k) t sheet size h = ap (λ (s : Sheet). floatsKept (sheetNodes s) (t .floats) size) (h .0) ∙ ap zeroFloats (sub-zero size)
 kept-floats (given f) t sheet size h = ap (λ (s : Sheet). floatsKept (sheetNodes s) (t .floats) size) (h .0) ∙ ap (λ (x : Table). floatsKept (f .grown .nodes) (x .floats) size) (h .1)
 
 kept-numbers : (j : Answer Finished) (t : Table) (sheet : Sheet) (size : ℕ) → BuiltAs j t sheet → numbersKept (sheetNodes sheet) (t .numbers) size ≡ numbersLeft (sheetOf j) size
-kept-numbers (refused k) t sheet size h = ap (λ (s : Sheet). numbersKept (sheetNodes s) (t .numbers) size) h ∙ ap zeros (sub-zero size)
+kept-numbers (refused k) t sheet size h = ap (λ (s : Sheet). numbersKept (sheetNodes s) (t .numbers) size) (h .0) ∙ ap zeros (sub-zero size)
 kept-numbers (given f) t sheet size h = ap (λ (s : Sheet). numbersKept (sheetNodes s) (t .numbers) size) (h .0) ∙ ap (λ (x : Table). numbersKept (f .grown .nodes) (x .numbers) size) (h .1)
 
 -- work space that is cleared, by the lengths that it was lent with
@@ -63,6 +67,7 @@ module _ (b : List ℕ) (lent left : Slices) (f n r c m : ℕ) (built : Table) (
       → Cleared (lent .work) (left .work) → SheetMade b lent left sheet
   sheet-made lf lu k e p q w = record {
     answer = job-answered whole built sheet moved;
+    numbered = job-numbered whole built sheet moved;
     floats = p ∙ ap (λ (x : ℕ). floatsKept x (built .floats) (length (built .floats))) e ∙ kept-floats whole built sheet (length (built .floats)) moved ∙ ap (floatsLeft (sheetOf whole)) lf;
     numbers = q ∙ ap (λ (x : ℕ). numbersKept x (built .numbers) (length (built .numbers))) e ∙ kept-numbers whole built sheet (length (built .numbers)) moved ∙ ap (numbersLeft (sheetOf whole)) lu;
     work = w;

@@ -61,7 +61,7 @@ pub final-demand : (b : List ℕ) (z : Sizes) (built : Table) (r : Sheet) → Bu
 final-demand b z built r told lf lu k e t p q = go (job b z) refl told
   where
     go : (j : Answer Finished) → job b z ≡ j → BuiltAs j built r → DemandOf b t r
-    go (refused x) d h = subst (DemandOf b t) (sym h) tt
+    go (refused x) d h = subst (DemandOf b t) (sym (h .0)) tt
     go (given f) d h = subst (DemandOf b t) (sym (h .0)) (made b z f c t agree)
       where
         c : FinishedBy b (network b z) f

@@ -5,7 +5,8 @@ use Prim.Native.Nat.{ℕ, zero, suc, _*_, _≤_}
 use native.Mathlib.Omega.{arith}
 use lib.ListN.{length}
 use lib.Ieee.{Float}
-use Rattle.laws.specs.Answer.{Answer, refused, given, unless}
+use Rattle.laws.specs.Answer.{Answer, refused, given, unless, numberOf}
+use Rattle.laws.proofs.Answers.{Refuses}
 use Rattle.space.specs.Space.{zeros, zeroFloats}
 use Rattle.space.proofs.Zeros.{zeros-length}
 use Rattle.book_reader.specs.Reader.{readNumber}
@@ -17,6 +18,7 @@ use Rattle.grow_book.specs.declared.GrownBook.{GrownBook}
 use Rattle.grow_book.specs.Answers.{GrownAs}
 use Rattle.arcs_growth.specs.Read.{Read}
 use Rattle.arcs_growth.proofs.Theorems.{GrownWell, well}
+use Rattle.arcs_growth.proofs.Numbered.{OfGrowth, grow-numbered}
 use Rattle.est_times.specs.Network.{zeroTable, network}
 use Rattle.est_times.proofs.Accepts.{Passes, passes-of, read-of, places-most, places-fit}
 
@@ -46,6 +48,22 @@ module _ (b : List ℕ) (z : Sizes) where
       go zero h = absurd (h refl)
       go (suc x) h = refl
 
+  pub zero-room : Room (zeroTable z .floats) (zeroTable z .numbers) (placesIn z)
+  unfolding zeroTable
+  zero-room =
+      let h = places-fit (z .floats) (z .numbers) in
+      record { floats = omega (arith, h .0, floats-length (z .floats)); numbers = omega (arith, h .1, zeros-length (z .numbers)); most = places-most (z .floats) (z .numbers) }
+
+  -- a refusal's number is never 0
+  pub network-numbered : (k : ℕ) → network b z ≡ refused k → k ≡ 0 → ⊥
+  network-numbered k e = go number refl (sym network-is ∙ e)
+    where
+      go : (x : ℕ) → number ≡ x → unless x (grow b (placesIn z) (zeroTable z)) ≡ refused k → k ≡ 0 → ⊥
+      go zero d q =
+          let h : OfGrowth k = subst (Refuses OfGrowth) q (grow-numbered b (placesIn z) (zeroTable z) (read-of (passes-of b (placesIn z) (z .bytes) d)) zero-room) in
+          λ (o : k ≡ 0). omega (arith, h .0)
+      go (suc x) d q = let h : suc x ≡ k = ap numberOf q in λ (o : k ≡ 0). omega arith
+
   network-grows : number ≡ 0 → network b z ≡ grow b (placesIn z) (zeroTable z)
   network-grows e = network-is ∙ ap (λ (x : ℕ). unless x (grow b (placesIn z) (zeroTable z))) e
 
@@ -56,12 +74,6 @@ module _ (b : List ℕ) (z : Sizes) where
       go : (k : ℕ) → number ≡ k → unless k (grow b (placesIn z) (zeroTable z)) ≡ given g → (number ≡ 0) × (grow b (placesIn z) (zeroTable z) ≡ given g)
       go zero d q = (d, q)
       go (suc k) d q = let o : _≡_ {A = ℕ} 0 1 = cc in absurd (omega arith)
-
-  pub zero-room : Room (zeroTable z .floats) (zeroTable z .numbers) (placesIn z)
-  unfolding zeroTable
-  zero-room =
-      let h = places-fit (z .floats) (z .numbers) in
-      record { floats = omega (arith, h .0, floats-length (z .floats)); numbers = omega (arith, h .1, zeros-length (z .numbers)); most = places-most (z .floats) (z .numbers) }
 
   pub record Sound (g : Grown) : Type 0 where
     pub passes : Passes b (placesIn z) (z .bytes)

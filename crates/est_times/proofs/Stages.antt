@@ -31,7 +31,7 @@ use Rattle.est_times.specs.Network.{network}
 use Rattle.est_times.specs.Sheet.{Finished, finishedAs, timedFrom, job, reportOf}
 use Rattle.est_times.specs.Stages.{grownNumber, BuiltAs, answerAs}
 use Rattle.est_times.proofs.Accepts.{head-there, departure-float, enough-of}
-use Rattle.est_times.proofs.Networks.{Sound, sound}
+use Rattle.est_times.proofs.Networks.{Sound, sound, network-numbered}
 
 -- ---- the small functions
 
@@ -60,7 +60,7 @@ pub built-refused : (b : List ℕ) (z : Sizes) (fs : List Float) (us : List ℕ)
     → (number : ℕ) → number ≡ grownNumber grown → (t : Table) → BuiltAs (job b z) t (Refused number)
 built-refused b z fs us grown g {k} e number d t =
     let h : network b z ≡ refused k = subst (GrownAs (network b z) fs us) e g in
-    subst (λ (j : Answer Finished). BuiltAs j t (Refused number)) (sym (job-is b z ∙ ap (λ (a : Answer Grown). andThen a (timedFrom b)) h)) (ap Refused (d ∙ ap grownNumber e))
+    subst (λ (j : Answer Finished). BuiltAs j t (Refused number)) (sym (job-is b z ∙ ap (λ (a : Answer Grown). andThen a (timedFrom b)) h)) (ap Refused (d ∙ ap grownNumber e), network-numbered b z k h)
 
 -- a network that is whole: what it is, with the counts of its report
 abbrev pub WholeOf : Answer Grown → List Float → List ℕ → Report → Type 0
@@ -131,7 +131,7 @@ module _ (n c : ℕ) (cells : List ℕ) (h : n * 2 ≤ c) (e : length cells ≡ 
 timed-built : (g : Grown) (report : Report) (left : Table) (number : ℕ) (t : Answer Table) → TimedAs t number left → report ≡ reportOf g
     → BuiltAs (andThen t (λ (x : Table). given (finishedAs g x))) left (answerAs report number)
 timed-built g report left number (refused zero) h q = absurd (h .1 refl)
-timed-built g report left number (refused (suc k)) h q = ap (answerAs report) (h .0)
+timed-built g report left number (refused (suc k)) h q = (ap (answerAs report) (h .0), h .1)
 timed-built g report left number (given t) h q = (ap (answerAs report) (h .0) ∙ ap Made q, h .1)
 
 module _ (b : List ℕ) (z : Sizes) (fs : List Float) (us : List ℕ) (report : Report) (w : WholeOf (network b z) fs us report) (time : Float) (d : time ≡ departure b) where

@@ -28,7 +28,7 @@ grownNumber (Whole r) = 0
 
 -- what is built, before the table is cleared behind the nodes
 abbrev pub BuiltAs : Answer Finished → Table → Sheet → Type 0
-BuiltAs (refused k) t r = r ≡ Refused k
+BuiltAs (refused k) t r = (r ≡ Refused k) × (k ≡ 0 → ⊥)
 BuiltAs (given f) t r = (r ≡ Made (reportOf (f .grown))) × (t ≡ f .timed)
 
 -- the answer by the number that the passes give
