@@ -34,7 +34,7 @@ searchNumber Missing = 10
 -- What the driver takes: the leg's number and where its samples begin and end, or the refusal.
 abbrev pub takenBy : List ℕ → LegSearch → Taken
 takenBy b (Found j) = taken.Leg (record { number = j; first = firstSample b (j - 1); end = firstSample b j })
-takenBy b Missing = taken.Refused 10
+takenBy b Missing = taken.Refused (searchNumber Missing)
 
 unfoldable pub takenLeg : List ℕ → ℕ → ℕ → Taken
 takenLeg b parent link = takenBy b (legSearch b parent link)

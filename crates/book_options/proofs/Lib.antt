@@ -1,6 +1,7 @@
 pub mod Laws
 pub mod Starts
 pub mod Walks
+pub mod Empties
 pub mod Ends
 pub mod Kept
 pub mod Examples

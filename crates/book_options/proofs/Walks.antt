@@ -125,7 +125,7 @@ origin-is b (suc n) l o h = go (eqb (originLink b n) l) refl h (origin-is b n l 
     go false e f ih = let r = ih f in (omega (arith, r .0), r .1)
 
 module _ (b : List ℕ) (l : ℕ) (s : List ℕ) (h : outsideSet s l ≡ 1) where
-  unseen-falls : l < links b → unseenLinks b (l ∷ s) < unseenLinks b s
+  pub unseen-falls : l < links b → unseenLinks b (l ∷ s) < unseenLinks b s
   unfolding unseenLinks
   unseen-falls g = sum-falls (links b) (outsideSet (l ∷ s)) (outsideSet s) l (λ i. outside-less l i s) g (omega (arith, outside-itself l s))
 

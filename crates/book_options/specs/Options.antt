@@ -51,7 +51,7 @@ enter b l false zero stack set kept = record { stack = pushed b l stack; set = l
 enter b l false (suc o) stack set kept = record { stack = stack; set = l ∷ set; kept = kept ++ (o ∷ []) }
 
 -- The loop over the stack, for so many pops. A link enters the set once and pushes at most two, so destinations
--- + 2 * links pops empty the stack.
+-- + 2 * links pops empty the stack: `options-whole`, proofs/Empties.antt, for every book that row 5 lets through.
 unfoldable pub search : ℕ → List ℕ → List ℕ → List ℕ → List ℕ → Search
 unfolding enter
 search zero b stack set kept = record { stack = stack; set = set; kept = kept }

@@ -8,17 +8,19 @@ use Rattle.laws.specs.Refusals.{Row, row, firstOf}
 use Rattle.space.specs.Lent.{Work, bytesIn, Cleared}
 use Rattle.book_format.specs.declared.Sections.{Sections}
 use Rattle.book_format.specs.Format.{legs}
-use Rattle.book_format.specs.Rows.{row1, row2, row3, row4, row5, row6, row7}
+use Rattle.book_format.specs.declared.Measured.the-variants.{Short, Long}
+use Rattle.book_format.specs.Rows.{row1, row2, measuredNumber, row3, row4, row5, row6, row7}
 use Rattle.book_format.specs.Chains.{Readable, Chained}
 use Rattle.book_legs.specs.Legs.{Started}
-use Rattle.book_options.specs.Options.{row8, keptOrigins, OptionsIn}
+use Rattle.book_options.specs.declared.LinkOptions.the-variants.{NoPath}
+use Rattle.book_options.specs.Options.{row8, optionsNumber, keptOrigins, OptionsIn}
 use Rattle.book_reader.specs.declared.Reading.{Reading}
 use Rattle.book_reader.specs.declared.Reading.the-variants.{Accepted, Refused}
 
 -- ---- "Of 1 to 8 the lowest wins": the rows in their order, cut where the reader's stages begin
 
 unfoldable pub rowsFrom7 : List ℕ → List Row
-rowsFrom7 b = row 7 (row7 b) ∷ row 8 (row8 b) ∷ []
+rowsFrom7 b = row 7 (row7 b) ∷ row (optionsNumber NoPath) (row8 b) ∷ []
 
 unfoldable pub rowsFrom6 : List ℕ → List Row
 unfolding rowsFrom7
@@ -31,7 +33,11 @@ rowsFrom4 b = row 4 (row4 b) ∷ row 5 (row5 b) ∷ rowsFrom6 b
 -- all of them, for a table of so many places and so many bytes of work space
 unfoldable pub readRows : List ℕ → ℕ → ℕ → List Row
 unfolding rowsFrom4
-readRows b places bytes = row 1 (row1 b) ∷ row 2 (row2 b) ∷ row 3 (row3 b places bytes) ∷ rowsFrom4 b
+readRows b places bytes =
+    row (measuredNumber Short) (row1 b)
+    ∷ row (measuredNumber Long) (row2 b)
+    ∷ row 3 (row3 b places bytes)
+    ∷ rowsFrom4 b
 
 -- the number that is given; 0 where none holds
 unfoldable pub readNumber : List ℕ → ℕ → ℕ → ℕ

@@ -105,16 +105,23 @@ falling c =
     someBelow (c .samples - 1) (λ i. sampleFalls (c .sample i) (c .sample (suc i)))
     || someBelow (c .points - 1) (λ k. lt (c .offset (suc k)) (c .offset k))
 
+-- the numbers of "any 11, then 12 for a short list"
+abbrev pub badLegNumber : ℕ
+badLegNumber = 11
+
+abbrev pub shortNumber : ℕ
+shortNumber = 12
+
 -- "3, 4, 7, any 11", by their tests
 abbrev pub rowsTo11 : Bool → Bool → Bool → Bool → List Row
-rowsTo11 three four seven eleven = row 3 three ∷ row 4 four ∷ row 7 seven ∷ row 11 eleven ∷ []
+rowsTo11 three four seven eleven = row 3 three ∷ row 4 four ∷ row 7 seven ∷ row badLegNumber eleven ∷ []
 
 -- "3, 4, 7, any 11, then 12 for a short list"
 unfoldable pub makerRows : Course → List ℕ → ℕ → List Row
 unfolding badCounts badFloats falling
 makerRows c samples places =
     rowsTo11 (badCounts c) (badFloats c samples) (falling c) (row11 c)
-    ++ row 12 (ltb places (length (pointsPassed c))) ∷ []
+    ++ row shortNumber (ltb places (length (pointsPassed c))) ∷ []
 
 -- a number's answer; "else the count"
 abbrev pub answered : ℕ → ℕ → Made

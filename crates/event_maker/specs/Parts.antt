@@ -18,7 +18,8 @@ use Rattle.event_walk.specs.Course.{Course}
 use Rattle.event_walk.specs.Walk.{pointsPassed, reachesLast, someBad}
 use Rattle.event_maker.specs.declared.Made.{Made}
 use Rattle.event_maker.specs.declared.Made.the-variants.{Listed, Refused}
-use Rattle.event_maker.specs.Maker.{badCounts, badFloats, falling, rowsTo11, floatsAs, numbersAs}
+use Rattle.event_maker.specs.Maker.{badCounts, badFloats, falling, badLegNumber, shortNumber, rowsTo11}
+use Rattle.event_maker.specs.Maker.{floatsAs, numbersAs}
 use Rattle.event_maker.specs.Maker.{EventList, placesIn, eventFloatWidth, eventNumberWidth}
 
 -- ---- the rows
@@ -52,12 +53,13 @@ fallsAt samples i = sampleFalls (sampleFrom samples (i * sampleWidth)) (sampleFr
 
 -- 12 where the list is too short
 unfoldable pub countAnswer : ℕ → ℕ → Made
-countAnswer count places = cond (ltb places count) (Refused 12) (Listed count)
+countAnswer count places = cond (ltb places count) (Refused shortNumber) (Listed count)
 
 -- what is left of the answer behind the rows
 unfoldable pub walkAnswer : Course → ℕ → Made
 unfolding countAnswer
-walkAnswer c places = cond (someBad (pointsPassed c)) (Refused 11) (countAnswer (length (pointsPassed c)) places)
+walkAnswer c places =
+    cond (someBad (pointsPassed c)) (Refused badLegNumber) (countAnswer (length (pointsPassed c)) places)
 
 -- the list with an event at place k
 unfoldable pub putEventFloats : List Float → ℕ → PassedPoint → List Float

@@ -8,12 +8,12 @@ use mathlib.Core.List.{List, [], _∷_}
 use Prim.Native.Nat.{ℕ, suc, _+_, _*_, _<_}
 use lib.ListN.{getD, set}
 use lib.Ieee.{Float, binary64, ofBits}
-use Rattle.laws.specs.Answer.{Answer, refused, given}
+use Rattle.laws.specs.Answer.{Answer, given}
 use Rattle.net_insertion.specs.declared.Place.{Place}
 use Rattle.net_insertion.specs.Insertion.{flagged}
 use Rattle.net_event_map.specs.EventMap.{headOf}
 use Rattle.grow_rules.specs.Run.{Net, Run, memberOf}
-use Rattle.grow_rules.specs.Growth.{badFinish, endFakes, fakeNode}
+use Rattle.grow_rules.specs.Growth.{badFinish, noRoom, endFakes, fakeNode}
 use Rattle.net_node.specs.Left.{Network}
 use Rattle.net_node.specs.Table.{Table, put}
 use Rattle.grow_ends.specs.declared.TailAnswer.{TailAnswer}
@@ -36,10 +36,10 @@ pub record SomeEnds (cells : List ℕ) (base last n : ℕ) : Type 0 where
   pub chained : EndsIn cells base last ends
   pub below : Below n ends
 
--- the table's lists and how many nodes there are, or refusal 12
+-- what each answer is: the table's lists and so many nodes, or row 12
 abbrev pub TailAs : Answer Network → List Float → List ℕ → TailAnswer → Type 0
 TailAs answer fs us (Nodes k) = answer ≡ given (record { table = record { floats = fs; numbers = us }; nodes = k })
-TailAs answer fs us Full = answer ≡ refused 12
+TailAs answer fs us Full = answer ≡ noRoom
 
 -- "End Fakes are pushed for the ends in reverse", of a network whose ends these cells chain
 abbrev pub PushesEnds : List ℕ → ℕ → ℕ → ℕ → Network → List Float → List ℕ → TailAnswer → Type 0

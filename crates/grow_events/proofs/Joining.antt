@@ -16,7 +16,7 @@ use Rattle.net_strands.specs.declared.EstJoinPath.{EstJoinPath}
 use Rattle.net_strands.specs.Entries.{entriesIn}
 use Rattle.net_joins.specs.declared.Step.{Step}
 use Rattle.net_joins.specs.declared.Step.the-variants.{Joined, Waits, Refused}
-use Rattle.net_joins.specs.Joins.{JoinStep, joinStep, joinedTable, StepAs, SteppedInto, CellsAs}
+use Rattle.net_joins.specs.Joins.{JoinStep, joinStep, joinedTable, StepAs, SteppedInto}
 use Rattle.net_joins.proofs.Kept.{Target, joined-target, waits-sound, stepped-table, joined-room, joined-indexed, joined-mapped}
 use Rattle.grow_rules.specs.Run.{Net, Run, joinedTo, withJoins, insertEvent, goesOn, joinedAs, eventAs, runEvent}
 use Rattle.grow_events.specs.declared.Counts.{Counts}
@@ -44,7 +44,7 @@ module _ {w : Layout} {start : List ℕ} {fs : List Float} {us cells : List ℕ}
   stepNow = joinStep (nodeAt fs us) (c .nodes) (w .places) join e (entriesIn joins (m .count))
 
   -- one that has, and what it got from `join_step`
-  module _ (h : not (m .«has_split») ≡ false) (fs′ : List Float) (us′ cells′ joins′ : List ℕ) (s : Step) (f : StepAs stepNow joins′ s) (t : SteppedInto (tableOf fs us) (c .nodes) e fs′ us′ s) (k : CellsAs cells cells′ s) where
+  module _ (h : not (m .«has_split») ≡ false) (fs′ : List Float) (us′ cells′ joins′ : List ℕ) (s : Step) (f : StepAs stepNow joins′ s) (t : SteppedInto (tableOf fs us) (c .nodes) e fs′ us′ s) (k : cells′ ≡ cells) where
     step-is : (d : JoinStep) → stepNow ≡ d → runEvent (w .places) join net run e ≡ joinedAs (w .places) join net run e d
     unfolding runEvent at
     step-is d g =
@@ -99,7 +99,7 @@ module _ {w : Layout} {start : List ℕ} {fs : List Float} {us cells : List ℕ}
       pub step-joined : (d : Counts) → d ≡ counts → LeftAs (runEvent (w .places) join net run e) w start fs′ us′ cells′ d
       step-joined d z =
           subst (λ (d : Counts). LeftAs (runEvent (w .places) join net run e) w start fs′ us′ cells′ d) (sym z)
-          (subst (λ (x : List ℕ). LeftAs (runEvent (w .places) join net run e) w start fs′ us′ x counts) (sym (subst (CellsAs cells cells′) g k))
+          (subst (λ (x : List ℕ). LeftAs (runEvent (w .places) join net run e) w start fs′ us′ x counts) (sym k)
           (record { after = joinedTo net run e target; is = step-is _ (subst (StepAs stepNow joins′) g f); net = joined-net }))
 
     -- ---- it goes on
@@ -108,8 +108,7 @@ module _ {w : Layout} {start : List ℕ} {fs : List Float} {us cells : List ℕ}
       pub waits-net : NetIn w start fs′ us′ cells′ c net
       waits-net =
           let z : (fs′ ≡ fs) × (us′ ≡ us) = subst (SteppedInto (tableOf fs us) (c .nodes) e fs′ us′) g t in
-          let y : cells′ ≡ cells = subst (CellsAs cells cells′) g k in
-          subst (λ (x : List Float). NetIn w start x us′ cells′ c net) (sym (z .0)) (subst (λ (x : List ℕ). NetIn w start fs x cells′ c net) (sym (z .1)) (subst (λ (x : List ℕ). NetIn w start fs us x c net) (sym y) v))
+          subst (λ (x : List Float). NetIn w start x us′ cells′ c net) (sym (z .0)) (subst (λ (x : List ℕ). NetIn w start fs x cells′ c net) (sym (z .1)) (subst (λ (x : List ℕ). NetIn w start fs us x c net) (sym k) v))
 
       pub waits-run : RunIn (c .nodes) leg joins′ (record { place = m .place; «has_split» = m .«has_split»; count = n }) (withJoins run (entriesIn joins′ n))
       unfolding withJoins

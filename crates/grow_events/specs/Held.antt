@@ -19,6 +19,7 @@ use Rattle.grow_path.specs.Kept.{PathIn}
 use Rattle.grow_ends.specs.Ends.{EndsIn, Below}
 use Rattle.grow_rules.specs.Run.{Net, Run, After, memberOf, insertEvent, goesOn, runEvent, runEvents, countIf}
 use Rattle.grow_rules.specs.Run.{Outcome, Ended as Left, On as Goes}
+use Rattle.grow_rules.specs.Growth.{badLegNumber}
 use denote.Ref.{now}
 use Rattle.space.specs.Lent.{Lent}
 use Rattle.net_node.specs.declared.TimedEvent.{TimedEvent}
@@ -139,12 +140,12 @@ OutcomeAs answer w start leg fs us cells joins (Refused k) = answer ≡ refused 
 
 -- a leg's answer, by whether one of its events is bad: row 11 is asked of all of them before any is inserted
 abbrev pub unlessBad : Bool → Answer Outcome → Answer Outcome
-unlessBad true answer = refused 11
+unlessBad true answer = refused badLegNumber
 unlessBad false answer = answer
 
 -- what the code answers where a run stops before its leg's end, by whether an event is bad that is left
 abbrev pub stoppedAs : Bool → RunAnswer → RunAnswer
-stoppedAs true r = Refused 11
+stoppedAs true r = Refused badLegNumber
 stoppedAs false r = r
 
 -- ---- the answer to an event, and to all of a leg, of every network and run that the slices hold

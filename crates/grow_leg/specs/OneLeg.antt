@@ -14,6 +14,7 @@ use Rattle.grow_path.specs.Path.{pathOf, linkOf, legCourse, legEvents}
 use Rattle.grow_path.specs.Kept.{PathIn}
 use Rattle.grow_rules.specs.Run.{Net, Run, Outcome, runEvents}
 use Rattle.grow_rules.specs.Growth.{joinGap, onOver, saveOver, finishAs, badFinish, goOn, legEndAs, finishes, takeLeg}
+use Rattle.grow_rules.specs.Growth.{badLegNumber}
 use Rattle.grow_events.specs.Held.{NetIn, OutcomeAs}
 use Rattle.grow_events.specs.declared.RunAnswer.{RunAnswer}
 use Rattle.grow_state.specs.declared.Plan.{Plan}
@@ -37,7 +38,7 @@ use Rattle.grow_leg.specs.declared.Ways.the-variants.{None, One, Both}
 
 -- by whether row 11 holds
 abbrev pub outcomeAs : Bool → List ℕ → ℕ → Net → Run → Answer Outcome
-outcomeAs true b places net run = refused 11
+outcomeAs true b places net run = refused badLegNumber
 outcomeAs false b places net run =
     runEvents places (joinGap b) (legEvents b (run .leg)) (record { net = net; run = run })
 

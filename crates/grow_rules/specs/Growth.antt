@@ -12,7 +12,9 @@ use Rattle.laws.specs.Answer.{Answer, refused, given, andThen}
 use Rattle.laws.specs.Below.{someBelow}
 use Rattle.book_format.specs.Format.{legs, destinations, linkNext, linkNextAlt, originLink, destinationLink, legParent}
 use Rattle.book_format.specs.Format.{joinBits, departureBits, lengthBits, floatOf}
-use Rattle.book_format.specs.Chains.{legBelow}
+use Rattle.book_legs.specs.declared.LegSearch.{LegSearch}
+use Rattle.book_legs.specs.declared.LegSearch.the-variants.{Found, Missing}
+use Rattle.book_legs.specs.Legs.{searchOf, legSearch, searchNumber}
 use Rattle.book_options.specs.Options.{inSet, keptOrigins}
 use Rattle.event_walk.specs.Walk.{row11}
 use Rattle.net_node.specs.declared.EstType.{EstType}
@@ -102,14 +104,19 @@ withLeg run j added = record {
   nodes = run .nodes;
 }
 
--- a run that takes the leg of this number, 0 being none: it has not added since
+-- a run that takes the leg that a search has found: it has not added since. A search that finds none gives its number.
+abbrev pub takesFound : Run → LegSearch → Answer Run
+takesFound run Missing = refused (searchNumber Missing)
+takesFound run (Found j) = given (withLeg run j false)
+
+-- the same by the leg's number, 0 being none
 abbrev pub takes : Run → ℕ → Answer Run
-takes run zero = refused 10
-takes run (suc j) = given (withLeg run (suc j) false)
+takes run j = takesFound run (searchOf j)
 
 -- "The leg is found or the book is refused with 10": the leg with this parent and link
 unfoldable pub seekLeg : List ℕ → Run → ℕ → ℕ → Answer Run
-seekLeg b run parent link = takes run (legBelow b (legs b) parent link)
+unfolding legSearch
+seekLeg b run parent link = takesFound run (legSearch b parent link)
 
 -- "a saved run keeps its place": a run more that waits, beside the network then
 abbrev pub saves : Growth → Net → Run → Growth
@@ -219,9 +226,13 @@ abbrev pub legDone : List ℕ → ℕ → List Run → Outcome → Answer Growth
 legDone b places saved (Ended net) = given (record { net = net; saved = saved })
 legDone b places saved (On a) = legEndAs (finishes b (a .run .leg)) b places a saved
 
--- by whether an event of the leg is bad: row 11
+-- Row 11's number, for a leg
+abbrev pub badLegNumber : ℕ
+badLegNumber = 11
+
+-- by whether row 11 holds of the leg
 abbrev pub legAs : Bool → List ℕ → ℕ → Net → Run → List Run → Answer Growth
-legAs true b places net run saved = refused 11
+legAs true b places net run saved = refused badLegNumber
 legAs false b places net run saved =
     andThen (runEvents places (joinGap b) (legEvents b (run .leg)) (record { net = net; run = run }))
     (legDone b places saved)
@@ -250,10 +261,14 @@ drive (suc k) b places net (run ∷ saved) =
 unfoldable pub leadsToEnd : EstTime → ℕ → EstTime
 leadsToEnd n next = withNext (withArc n (ofBits binary64 0) (ofBits binary64 0)) next
 
--- Row 12: by whether there is a place for one more node
+-- Row 12: "node beyond the table"
+abbrev pub noRoom : Answer Network
+noRoom = refused 12
+
+-- by whether there is a place for one more node
 abbrev pub roomFor : Bool → Network → Answer Network
 roomFor true t = given t
-roomFor false t = refused 12
+roomFor false t = noRoom
 
 -- "End Fakes are pushed for the ends in reverse": the latest first, each the previous alternative of the one after it
 unfoldable pub endFakes : ℕ → List ℕ → ℕ → Network → Answer Network

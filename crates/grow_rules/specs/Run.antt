@@ -12,9 +12,9 @@ use Rattle.net_node.specs.declared.TimedEvent.{TimedEvent}
 use Rattle.net_insertion.specs.declared.Place.{Place}
 use Rattle.net_insertion.specs.declared.Inserted.{Inserted}
 use Rattle.net_insertion.specs.declared.Inserted.the-variants.{Added, Moved, Refused}
-use Rattle.net_insertion.specs.Insertion.{inserted, insertedTable}
+use Rattle.net_insertion.specs.Insertion.{inserted, insertedTable, insertedNumber}
 use Rattle.net_strands.specs.declared.EstJoinPath.{EstJoinPath}
-use Rattle.net_joins.specs.Joins.{JoinStep, JoinsTo, GoesOn, Beyond, joinStep, joinedTable}
+use Rattle.net_joins.specs.Joins.{JoinStep, JoinsTo, GoesOn, Beyond, stepNumber, joinStep, joinedTable}
 
 -- An arc: from the start or an event's node to an event's node, 0 being the end, with its time and distance.
 pub record Arc : Type 0 where
@@ -111,7 +111,7 @@ pub record After : Type 0 where
 -- "Any other addition notes (place, added node)": and so does an origin's Arrive, whose place is the start at the
 -- departure. "A move, a Fake .. note nothing."
 abbrev pub insertedRun : Net → Run → TimedEvent → Table → Inserted → Answer After
-insertedRun net run e t (Refused n) = refused n
+insertedRun net run e t (Refused n) = refused (insertedNumber (Refused n))
 insertedRun net run e t (Moved q) = given (record { net = net; run = movedTo run q (run .«has_split») })
 insertedRun net run e t (Added q split) =
     given (record { net = addedTo net t q split (arcTo (run .place) (q .«idx_prev») e); run = movedTo run q true })
@@ -161,7 +161,7 @@ withJoins run es = record {
 
 -- by what becomes of the run's joins: row 12, the join, or insertion with the list then
 abbrev pub joinedAs : ℕ → Float → Net → Run → TimedEvent → JoinStep → Answer Outcome
-joinedAs places join net run e Beyond = refused 12
+joinedAs places join net run e Beyond = refused (stepNumber Beyond)
 joinedAs places join net run e (JoinsTo target) = given (Ended (joinedTo net run e target))
 joinedAs places join net run e (GoesOn es) = goesOn (insertEvent places join net (withJoins run es) e)
 

@@ -120,9 +120,9 @@ unfoldable pub insertedTable : Table → ℕ → Float → Place → TimedEvent 
 unfolding soughtIn
 insertedTable t n join p e = tableAs (soughtIn t n join p e) t n p e
 
--- what an answer says of the table's lists, which were t before
+-- what an answer says of the table's lists, which were t before: a refusal leaves them as they were
 abbrev pub InsertedInto : Table → ℕ → Float → Place → TimedEvent → List Float → List ℕ → Inserted → Type 0
-InsertedInto t n join p e floats numbers (Refused r) = Unit
+InsertedInto t n join p e floats numbers (Refused r) = (floats ≡ t .floats) × (numbers ≡ t .numbers)
 InsertedInto t n join p e floats numbers (Moved q) =
     (floats ≡ insertedTable t n join p e .floats) × (numbers ≡ insertedTable t n join p e .numbers)
 InsertedInto t n join p e floats numbers (Added q split) =

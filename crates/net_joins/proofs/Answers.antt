@@ -29,7 +29,7 @@ use Rattle.net_strands.proofs.Kept.{space-listed}
 use Rattle.net_joins.specs.declared.SpeedJoin.{SpeedJoin}
 use Rattle.net_joins.specs.declared.Step.{Step}
 use Rattle.net_joins.specs.declared.Step.the-variants.{Joined, Waits, Refused}
-use Rattle.net_joins.specs.Joins.{closest, appendedAll, appended, rebuilt, JoinStep, JoinsTo, GoesOn, Beyond, stepWith, joinsIf, chosenAs, chosen, joinStep, StepAs, SteppedInto, CellsAs}
+use Rattle.net_joins.specs.Joins.{closest, appendedAll, appended, rebuilt, JoinStep, JoinsTo, GoesOn, Beyond, stepWith, joinsIf, chosenAs, chosen, joinStep, StepAs, SteppedInto}
 use Rattle.net_joins.specs.Marks.{marks, NamesMarked, Chain, Ending, MapWalkable}
 use Rattle.net_joins.proofs.Marking.{length-marks, next-stays, first-stays, marked-all, marks-back}
 use Rattle.net_joins.proofs.Appending.{map-chain}
@@ -157,10 +157,5 @@ goes-stays (some es) = tt
 
 pub table-left : (t : Table) (n : ℕ) (e : TimedEvent) (o : Option (List EstJoinPath)) (slice : List ℕ) (a : Step) → StepAs (stepWith o) slice a → SteppedInto t n e (t .floats) (t .numbers) a
 table-left t n e o slice (Waits k) h = (refl, refl)
-table-left t n e o slice (Refused k) h = tt
+table-left t n e o slice (Refused k) h = (refl, refl)
 table-left t n e o slice (Joined target) h = absurd (subst Stays h (goes-stays o))
-
-pub cells-left : (c d : List ℕ) (a : Step) → d ≡ c → CellsAs c d a
-cells-left c d (Joined target) e = e
-cells-left c d (Waits k) e = e
-cells-left c d (Refused k) e = tt

@@ -106,11 +106,18 @@ appended node n e es =
 unfoldable pub rebuilt : (ℕ → EstTime) → ℕ → LinkEvent → List EstJoinPath → Option (List EstJoinPath)
 rebuilt node n e old = extendedAll node n e (seenIn node n e) old []
 
--- What becomes of the run: it joins a node, it goes on with a list, or refusal 12.
+-- What becomes of the run: it joins a node, it goes on with a list, or there is no room for either.
 pub data JoinStep : Type 0 where
   JoinsTo : ℕ → JoinStep
   GoesOn : List EstJoinPath → JoinStep
   Beyond : JoinStep
+
+-- document 01's number for each: row 12, "node beyond the table .., join entry beyond 1,024 in a list, .. or strand
+-- walk of one entry reading over 4,096 nexts"
+abbrev pub stepNumber : JoinStep → ℕ
+stepNumber (JoinsTo target) = 0
+stepNumber (GoesOn es) = 0
+stepNumber Beyond = 12
 
 -- the run goes on with a list, or there was no room for it
 abbrev pub stepWith : Option (List EstJoinPath) → JoinStep
@@ -146,17 +153,11 @@ joinStep node n places join e old = chosen node n places join e (rebuilt node n 
 abbrev pub StepAs : JoinStep → List ℕ → Step → Type 0
 StepAs d slice (Joined target) = d ≡ JoinsTo target
 StepAs d slice (Waits n) = (d ≡ GoesOn (entriesIn slice n)) × (n ≤ 1024)
-StepAs d slice (Refused n) = (d ≡ Beyond) × (n ≡ 12)
+StepAs d slice (Refused n) = (d ≡ Beyond) × (n ≡ stepNumber Beyond)
 
--- the table's lists, which were t before, after a step
+-- the table's lists, which were t before, after a step: changed by a join alone, and left as they were by a refusal
 abbrev pub SteppedInto : Table → ℕ → TimedEvent → List Float → List ℕ → Step → Type 0
 SteppedInto t n e floats numbers (Joined target) =
     (floats ≡ joinedTable t n target e .floats) × (numbers ≡ joinedTable t n target e .numbers)
 SteppedInto t n e floats numbers (Waits k) = (floats ≡ t .floats) × (numbers ≡ t .numbers)
-SteppedInto t n e floats numbers (Refused k) = Unit
-
--- the work space is left as it was, but at a refusal
-abbrev pub CellsAs : List ℕ → List ℕ → Step → Type 0
-CellsAs before after (Joined target) = after ≡ before
-CellsAs before after (Waits k) = after ≡ before
-CellsAs before after (Refused k) = Unit
+SteppedInto t n e floats numbers (Refused k) = (floats ≡ t .floats) × (numbers ≡ t .numbers)

@@ -18,7 +18,7 @@ ghost use Rattle.net_strands.specs.Entries.{entriesIn, Valid, ListBecomes};
 ghost use Rattle.net_node.specs.Lent.{tableAtEntry};
 ghost use Rattle.net_strands.specs.Steps.{nodesAtEntry};
 ghost use Rattle.net_joins.specs.Joins.{closer, closest, chainEnd, joinFake, joinAt, joinedTable, appendedIf};
-ghost use Rattle.net_joins.specs.Joins.{joinsIf, joinStep, StepAs, SteppedInto, CellsAs};
+ghost use Rattle.net_joins.specs.Joins.{joinsIf, joinStep, StepAs, SteppedInto};
 ghost use Rattle.net_joins.specs.Marks.{marks, NamesMarked, Ending, MapWalkable, AppendsChain, AppendsNodes};
 ghost use Rattle.net_joins.specs.Marks.{GoesOnWith, MapKept};
 
@@ -335,7 +335,7 @@ pub fn join_step(
         (entriesIn (now (joins .entry)) count)) (now (joins .exit)) r ⌝ }
     ensures table { λ r. ⌜ SteppedInto (tableAtEntry floats numbers) n «est_time_add» (now (floats .exit))
         (now (numbers .exit)) r ⌝ }
-    ensures cells { λ r. ⌜ CellsAs (now (cells .entry)) (now (cells .exit)) r ⌝ }
+    ensures cells { λ _. ⌜ now (cells .exit) ≡ now (cells .entry) ⌝ }
 {
     let event = est_time_add.link_event;
     let seen = net_event_map::contains(cells, w, event);

@@ -23,7 +23,11 @@ fn place_after(answer: Inserted, old: Place) -> Place
 }
 
 // Inserts an event at a run's place into a network of n nodes, and moves the place. A node whose cell is set ends a
-// finished run.
+// finished run. An inner function, no entry for users: its caller must have seen to it that
+// - both slices have room for `places` nodes, at most 65,535, and n is no more than `places`;
+// - each of the n nodes' four indices names one of the n, and an alternative that is not 0 a later one;
+// - the place stands on one of the n;
+// - `cells` has a cell for each of the n, every eighth from `ends_at` on.
 pub fn insert_est_time(
     floats: &mut [f64],
     numbers: &mut [u32],

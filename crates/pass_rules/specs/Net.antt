@@ -8,10 +8,13 @@ use Rattle.laws.specs.Answer.{Answer, refused}
 use Rattle.net_node.specs.Table.{Table}
 use Rattle.pass_queue.specs.declared.Entry.{Entry}
 
--- Row 15: "a pass's assertion fails"
+-- Row 15: "a pass's assertion fails, over n Fakes in a relink walk"
+abbrev pub failed : {A : Type 0} → Answer A
+failed = refused 15
+
 abbrev pub asserting : {A : Type 0} → Bool → Answer A → Answer A
 asserting true a = a
-asserting false a = refused 15
+asserting false a = failed
 
 -- The table, which nodes are done (timed or passed), and the queue.
 pub record Pass : Type 0 where

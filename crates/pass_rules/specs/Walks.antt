@@ -7,8 +7,8 @@ use lib.Dec.{ltb}
 use lib.ListN.{getD}
 use Rattle.net_node.specs.Table.{Table}
 use Rattle.net_node.specs.declared.EstTime.{EstTime}
-use Rattle.laws.specs.Answer.{Answer, refused, given}
-use Rattle.pass_rules.specs.Net.{Pass}
+use Rattle.laws.specs.Answer.{Answer, given}
+use Rattle.pass_rules.specs.Net.{failed, Pass}
 use Rattle.pass_rules.specs.Forward as Forward
 use Rattle.pass_rules.specs.Backward as Backward
 use Rattle.pass_rules.specs.declared.Walked.{Walked}
@@ -31,7 +31,7 @@ passOf t done = record { table = t; done = done; queue = [] }
 
 abbrev pub WalkAs : Answer ℕ → ℕ → Walked → Type 0
 WalkAs answer n (Found i) = (answer ≡ given i) × (i < n)
-WalkAs answer n Endless = answer ≡ refused 15
+WalkAs answer n Endless = answer ≡ failed
 
 -- ---- both walks in one, by whether the pass goes backward
 

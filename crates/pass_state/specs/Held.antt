@@ -7,11 +7,11 @@ use mathlib.Core.List.{List, _∷_}
 use Prim.Native.Nat.{ℕ, zero, suc, _+_, _*_, _≤_, _<_}
 use lib.ListN.{length, getD}
 use lib.Ieee.{Float, isNan}
-use Rattle.laws.specs.Answer.{Answer, refused, given}
+use Rattle.laws.specs.Answer.{Answer, given}
 use Rattle.net_node.specs.Table.{Table, nodeAt, Room}
 use Rattle.pass_queue.specs.declared.Entry.{Entry}
 use Rattle.pass_queue.specs.Queue.{one, Holds, Each}
-use Rattle.pass_rules.specs.Net.{Pass}
+use Rattle.pass_rules.specs.Net.{failed, Pass}
 use Rattle.pass_rules.specs.Walks.{Inside, doneIn}
 use Rattle.pass_rules.specs.declared.Walked.{Walked}
 use Rattle.pass_rules.specs.declared.Walked.the-variants.{Found, Endless}
@@ -72,7 +72,7 @@ pub record Gives {A : Type 0} (answer : Answer A) (at : Pass → A) (backward : 
 -- a pass, or that an assertion fails
 abbrev pub PassBy : Answer Pass → Bool → ℕ → ℕ → List ℕ → PassSlices → ℕ → ℕ → Passed → Type 0
 PassBy answer backward n done-at start held most bound (Queued count) = Gives answer (λ p. p) backward n done-at start held count most bound
-PassBy answer backward n done-at start held most bound Fails = answer ≡ refused 15
+PassBy answer backward n done-at start held most bound Fails = answer ≡ failed
 
 pub record PassAs (answer : Answer Pass) (backward : Bool) (n done-at : ℕ) (start : List ℕ) (held : PassSlices) (most bound : ℕ)
     (r : Passed) : Type 0 where
@@ -82,7 +82,7 @@ pub record PassAs (answer : Answer Pass) (backward : Bool) (n done-at : ℕ) (st
 abbrev pub StandsBy : {A : Type 0} → Answer A → (ℕ → ℕ → Pass → A) → Bool → ℕ → ℕ → List ℕ → PassSlices → ℕ → ℕ → Stands → Type 0
 StandsBy answer at backward n done-at start held most bound (On curr to count) =
     Gives answer (at curr to) backward n done-at start held count most bound × ((curr < n) × (to < n))
-StandsBy answer at backward n done-at start held most bound Nowhere = answer ≡ refused 15
+StandsBy answer at backward n done-at start held most bound Nowhere = answer ≡ failed
 
 pub record StandsAs {A : Type 0} (answer : Answer A) (at : ℕ → ℕ → Pass → A) (backward : Bool) (n done-at : ℕ) (start : List ℕ)
     (held : PassSlices) (most bound : ℕ) (r : Stands) : Type 0 where
@@ -92,7 +92,7 @@ pub record StandsAs {A : Type 0} (answer : Answer A) (at : ℕ → ℕ → Pass 
 abbrev pub FindsBy : {A : Type 0} → Answer A → (ℕ → Pass → A) → Bool → ℕ → ℕ → List ℕ → PassSlices → ℕ → ℕ → ℕ → Walked → Type 0
 FindsBy answer at backward n done-at start held count most bound (Found i) =
     Gives answer (at i) backward n done-at start held count most bound × (i < n)
-FindsBy answer at backward n done-at start held count most bound Endless = answer ≡ refused 15
+FindsBy answer at backward n done-at start held count most bound Endless = answer ≡ failed
 
 -- an entry is queued, if its time and its sub are numbers
 abbrev pub unordered : Entry → Bool
@@ -121,4 +121,4 @@ pub record Ends (answer : Answer Pass) (n done-at : ℕ) (start : List ℕ) (t :
 -- true: it came to its end
 abbrev pub EndsAs : Answer Pass → ℕ → ℕ → List ℕ → Table → List ℕ → Bool → Type 0
 EndsAs answer n done-at start t cells true = Ends answer n done-at start t cells
-EndsAs answer n done-at start t cells false = answer ≡ refused 15
+EndsAs answer n done-at start t cells false = answer ≡ failed

@@ -1,13 +1,13 @@
--- `sqrt binary64` of a positive finite number is the value nearest to the exact root.
+-- `sqrt binary64` of a positive finite number is the value nearest to the exact root, which is never in the middle of two neighbouring values.
 use mathlib.Core.Path.{_≡_, refl, sym, ap, _∙_, subst}
 use mathlib.Core.Logic.{_⊎_, inl, inr}
 use mathlib.Core.Bool.{Bool, true, false, not, _&&_}
 use Prim.Native.Nat.{ℕ, zero, suc, _+_, _-_, _*_, _/_, _%_, _^_, _≤_, _<_, compare, Ordering, Ordering·lt, Ordering·eq, Ordering·gt}
-use native.Mathlib.Nat.{le-trans, le-of-eq, le-of-lt, lt-of-lt-of-le, lt-of-le-of-lt, lt-of-not-le, not-le-of-lt, eq-or-lt-of-le, mul-comm, mul-assoc, mul-one, one-mul, mul-right-comm, mul-pos, zero-lt-suc, mul-le-mul, mul-le-mul-right, mul-lt-mul-of-pos-right, mul-div-cancel, div-lt-iff-lt-mul, le-div-iff-mul-le, div-mul-le-self, pow-succ'}
+use native.Mathlib.Nat.{le-refl, le-trans, le-of-eq, le-of-lt, lt-of-lt-of-le, lt-of-le-of-lt, lt-of-not-le, not-le-of-lt, eq-or-lt-of-le, mul-comm, mul-assoc, mul-one, one-mul, mul-right-comm, mul-pos, zero-lt-suc, mul-le-mul, mul-le-mul-right, mul-lt-mul-of-pos-right, mul-div-cancel, div-lt-iff-lt-mul, le-div-iff-mul-le, div-mul-le-self, pow-succ'}
 use native.Mathlib.Omega.{arith}
-use lib.Dec.{T, ltb, leb, eqb, ltb→lt, leb→le}
+use lib.Dec.{T, ltb, leb, eqb, ltb→lt, leb→le, eqb→eq}
 use lib.Arith.{digits-div, digits-mod}
-use lib.IntN.{ℤ}
+use lib.IntN.{ℤ, pos, negsuc}
 use lib.Pow.{pow-add, pow-pos, pow-mono, pow-lt}
 use lib.Ieee.{Float, nan, inf, fin, Format, binary64, prec, emax, low, up, down, hid, size, nearest, units, fits, isNan, ofBits, toBits}
 use lib.Ieee.Digits.{size-lt, size-le, size-reaches}
@@ -173,29 +173,32 @@ beside (suc j) n p lo hi = record { below = down-to (eq-or-lt-of-le lo); below-i
 
 -- K is the place's weight, and all squares are compared times den
 record Middles (n den lo at hi : ℕ) : Type 0 where
-  least : (lo + at) * (lo + at) * den ≤ 4 * n
-  most : 4 * n ≤ (at + hi) * (at + hi) * den
+  least : (lo + at) * (lo + at) * den < 4 * n
+  most : 4 * n < (at + hi) * (at + hi) * den
 
--- rounded down, or at the very middle
-stayed : (n den q K lo hi : ℕ) → q * K * (q * K) * den ≤ n → 4 * n ≤ (2 * q + 1) * K * ((2 * q + 1) * K) * den → lo ≤ q * K → q * K + K ≤ hi → Middles n den lo (q * K) hi
-stayed n den q K lo hi from mid l h =
-    let a : lo + q * K ≤ 2 * (q * K) = omega arith in
+-- rounded down
+stayed : (n den q K lo hi : ℕ) → 0 < den → q * K * (q * K) * den ≤ n → 4 * n < (2 * q + 1) * K * ((2 * q + 1) * K) * den → lo < q * K → q * K + K ≤ hi → Middles n den lo (q * K) hi
+stayed n den q K lo hi D from mid l h =
+    let a : lo + q * K < 2 * (q * K) = omega arith in
     let b : (2 * q + 1) * K ≤ q * K + hi = omega arith in
-    let c : (lo + q * K) * (lo + q * K) * den ≤ 2 * (q * K) * (2 * (q * K)) * den = mul-le-mul-right den (mul-le-mul a a) in
+    let c : (lo + q * K) * (lo + q * K) * den < 2 * (q * K) * (2 * (q * K)) * den = mul-lt-mul-of-pos-right (square (lo + q * K) (2 * (q * K)) a) D in
     let d : 2 * (q * K) * (2 * (q * K)) * den ≡ 4 * (q * K * (q * K) * den) = four (q * K) den in
-    record { least = omega arith; most = le-trans mid (mul-le-mul-right den (mul-le-mul b b)) }
+    record { least = omega arith; most = lt-of-lt-of-le mid (mul-le-mul-right den (mul-le-mul b b)) }
   where
+    square : (x y : ℕ) → x < y → x * x < y * y
+    square x y h = lt-of-le-of-lt (mul-le-mul (le-refl x) (le-of-lt h)) (mul-lt-mul-of-pos-right h (omega arith))
+
     four : (a d : ℕ) → 2 * a * (2 * a) * d ≡ 4 * (a * a * d)
     four a d = omega arith
 
--- rounded up, or at the very middle
-raised : (n den q K lo hi : ℕ) → n < (q + 1) * K * ((q + 1) * K) * den → (2 * q + 1) * K * ((2 * q + 1) * K) * den ≤ 4 * n → lo + K ≡ (q + 1) * K → (q + 1) * K + K ≤ hi → Middles n den lo ((q + 1) * K) hi
+-- rounded up
+raised : (n den q K lo hi : ℕ) → n < (q + 1) * K * ((q + 1) * K) * den → (2 * q + 1) * K * ((2 * q + 1) * K) * den < 4 * n → lo + K ≡ (q + 1) * K → (q + 1) * K + K ≤ hi → Middles n den lo ((q + 1) * K) hi
 raised n den q K lo hi under mid l h =
     let a : lo + (q + 1) * K ≡ (2 * q + 1) * K = sum lo q K l in
     let b : 2 * ((q + 1) * K) ≤ (q + 1) * K + hi = omega arith in
     let c : 2 * ((q + 1) * K) * (2 * ((q + 1) * K)) * den ≤ ((q + 1) * K + hi) * ((q + 1) * K + hi) * den = mul-le-mul-right den (mul-le-mul b b) in
     let d : 2 * ((q + 1) * K) * (2 * ((q + 1) * K)) * den ≡ 4 * ((q + 1) * K * ((q + 1) * K) * den) = four ((q + 1) * K) den in
-    record { least = subst (λ (x : ℕ). x * x * den ≤ 4 * n) (sym a) mid; most = bounded n ((q + 1) * K * ((q + 1) * K) * den) (2 * ((q + 1) * K) * (2 * ((q + 1) * K)) * den) (((q + 1) * K + hi) * ((q + 1) * K + hi) * den) under d c }
+    record { least = subst (λ (x : ℕ). x * x * den < 4 * n) (sym a) mid; most = bounded n ((q + 1) * K * ((q + 1) * K) * den) (2 * ((q + 1) * K) * (2 * ((q + 1) * K)) * den) (((q + 1) * K + hi) * ((q + 1) * K + hi) * den) under d c }
   where
     four : (a d : ℕ) → 2 * a * (2 * a) * d ≡ 4 * (a * a * d)
     four a d = omega arith
@@ -203,16 +206,16 @@ raised n den q K lo hi under mid l h =
     sum : (lo q K : ℕ) → lo + K ≡ (q + 1) * K → lo + (q + 1) * K ≡ (2 * q + 1) * K
     sum lo q K e = omega arith
 
-    bounded : (n a b c : ℕ) → n < a → b ≡ 4 * a → b ≤ c → 4 * n ≤ c
+    bounded : (n a b c : ℕ) → n < a → b ≡ 4 * a → b ≤ c → 4 * n < c
     bounded n a b c h e g = omega arith
 
--- the last digit as `nearest` decides it
-decided : (n den q k lo hi : ℕ) (o : Ordering) → Cmp o (4 * n) ((2 * q + 1) * 2 ^ k * ((2 * q + 1) * 2 ^ k) * den)
+-- the last digit as `nearest` decides it, where the root is not in the middle
+decided : (n den q k lo hi : ℕ) → 0 < den → (4 * n ≡ (2 * q + 1) * 2 ^ k * ((2 * q + 1) * 2 ^ k) * den → ⊥) → (o : Ordering) → Cmp o (4 * n) ((2 * q + 1) * 2 ^ k * ((2 * q + 1) * 2 ^ k) * den)
     → q * 2 ^ k * (q * 2 ^ k) * den ≤ n → n < (q + 1) * 2 ^ k * ((q + 1) * 2 ^ k) * den → 4503599627370496 ≤ q
     → lo < nearest q o * 2 ^ k → (4503599627370496 < nearest q o → lo + 2 ^ k ≡ nearest q o * 2 ^ k) → nearest q o * 2 ^ k + 2 ^ k ≤ hi
     → Middles n den lo (nearest q o * 2 ^ k) hi
-decided n den q k lo hi Ordering·lt x from under least l d h = stayed n den q (2 ^ k) lo hi from (le-of-lt x) (le-of-lt l) h
-decided n den q k lo hi Ordering·gt x from under least l d h = up-one (suc q) (one q) d h
+decided n den q k lo hi D apart Ordering·lt x from under least l d h = stayed n den q (2 ^ k) lo hi D from x l h
+decided n den q k lo hi D apart Ordering·gt x from under least l d h = up-one (suc q) (one q) d h
   where
     one : (q : ℕ) → suc q ≡ q + 1
     one q = omega arith
@@ -220,18 +223,59 @@ decided n den q k lo hi Ordering·gt x from under least l d h = up-one (suc q) (
     up-one : (m : ℕ) → m ≡ q + 1 → (4503599627370496 < m → lo + 2 ^ k ≡ m * 2 ^ k) → m * 2 ^ k + 2 ^ k ≤ hi → Middles n den lo (m * 2 ^ k) hi
     up-one m e d h =
         subst (λ (i : ℕ). Middles n den lo (i * 2 ^ k) hi) (sym e)
-        (raised n den q (2 ^ k) lo hi under (le-of-lt x) (d (omega arith) ∙ ap (λ (i : ℕ). i * 2 ^ k) e) (subst (λ (i : ℕ). i * 2 ^ k + 2 ^ k ≤ hi) e h))
-decided n den q k lo hi Ordering·eq x from under least l d h = tie (q % 2) refl
+        (raised n den q (2 ^ k) lo hi under x (d (omega arith) ∙ ap (λ (i : ℕ). i * 2 ^ k) e) (subst (λ (i : ℕ). i * 2 ^ k + 2 ^ k ≤ hi) e h))
+decided n den q k lo hi D apart Ordering·eq x from under least l d h = absurd (apart x)
+
+-- ---- never in the middle
+
+-- two odd numbers times powers of two are equal only where the odd numbers are
+odd-parts : (s t a c : ℕ) → a % 2 ≡ 1 → c % 2 ≡ 1 → a * 2 ^ s ≡ c * 2 ^ t → a ≡ c
+odd-parts zero zero a c p q e = sym (mul-one a) ∙ e ∙ mul-one c
+odd-parts zero (suc t) a c p q e = absurd (even a c (2 ^ t) p (sym (mul-one a) ∙ e ∙ ap (λ (x : ℕ). c * x) (pow-succ' 2 t)))
   where
-    tie : (r : ℕ) → q % 2 ≡ r → Middles n den lo ((q + q % 2) * 2 ^ k) hi
-    tie zero e =
-        let z : q + q % 2 ≡ q = omega arith in
-        subst (λ (i : ℕ). Middles n den lo (i * 2 ^ k) hi) (sym z)
-        (stayed n den q (2 ^ k) lo hi from (le-of-eq x) (subst (λ (i : ℕ). lo ≤ i * 2 ^ k) z (le-of-lt l)) (subst (λ (i : ℕ). i * 2 ^ k + 2 ^ k ≤ hi) z h))
-    tie (suc r) e =
-        let z : q + q % 2 ≡ q + 1 = omega arith in
-        subst (λ (i : ℕ). Middles n den lo (i * 2 ^ k) hi) (sym z)
-        (raised n den q (2 ^ k) lo hi under (le-of-eq (sym x)) (d (omega arith) ∙ ap (λ (i : ℕ). i * 2 ^ k) z) (subst (λ (i : ℕ). i * 2 ^ k + 2 ^ k ≤ hi) z h))
+    even : (a c x : ℕ) → a % 2 ≡ 1 → a ≡ c * (2 * x) → ⊥
+    even a c x p e = omega arith
+odd-parts (suc s) zero a c p q e = absurd (even c a (2 ^ s) q (sym (mul-one c) ∙ sym e ∙ ap (λ (x : ℕ). a * x) (pow-succ' 2 s)))
+  where
+    even : (a c x : ℕ) → a % 2 ≡ 1 → a ≡ c * (2 * x) → ⊥
+    even a c x p e = omega arith
+odd-parts (suc s) (suc t) a c p q e =
+    odd-parts s t a c p q (half a c (2 ^ s) (2 ^ t) (ap (λ (x : ℕ). a * x) (sym (pow-succ' 2 s)) ∙ e ∙ ap (λ (x : ℕ). c * x) (pow-succ' 2 t)))
+  where
+    half : (a c x y : ℕ) → a * (2 * x) ≡ c * (2 * y) → a * x ≡ c * y
+    half a c x y e = omega arith
+
+-- an odd m that is a square's part, times powers of two, is that square
+middle-odd : (m q i l k j : ℕ) → m % 2 ≡ 1 → 4 * (m * 2 ^ i * (2 ^ l * 2 ^ l)) ≡ (2 * q + 1) * 2 ^ k * ((2 * q + 1) * 2 ^ k) * 2 ^ j → m ≡ (2 * q + 1) * (2 * q + 1)
+middle-odd m q i l k j p e =
+    let a : 2 ^ (2 + i + (l + l)) ≡ 4 * 2 ^ i * (2 ^ l * 2 ^ l) = pow-add 2 (2 + i) (l + l) ∙ ap (λ (x : ℕ). x * 2 ^ (l + l)) (pow-add 2 2 i) ∙ ap (λ (x : ℕ). 4 * 2 ^ i * x) (pow-add 2 l l) in
+    let b : 2 ^ (k + k + j) ≡ 2 ^ k * 2 ^ k * 2 ^ j = pow-add 2 (k + k) j ∙ ap (λ (x : ℕ). x * 2 ^ j) (pow-add 2 k k) in
+    odd-parts (2 + i + (l + l)) (k + k + j) m ((2 * q + 1) * (2 * q + 1)) p (odd q)
+    (ap (λ (x : ℕ). m * x) a ∙ left m (2 ^ i) (2 ^ l) ∙ e ∙ right (2 * q + 1) (2 ^ k) (2 ^ j) ∙ ap (λ (x : ℕ). (2 * q + 1) * (2 * q + 1) * x) (sym b))
+  where
+    odd : (q : ℕ) → (2 * q + 1) * (2 * q + 1) % 2 ≡ 1
+    odd q = omega arith
+
+    left : (m a c : ℕ) → m * (4 * a * (c * c)) ≡ 4 * (m * a * (c * c))
+    left m a c = omega arith
+
+    right : (h a c : ℕ) → h * a * (h * a) * c ≡ h * h * (a * a * c)
+    right h a c = omega arith
+
+-- The root of a number of at most 53 digits is never in the middle of two: it would be that of an odd square of more.
+never-middle : (m q l k : ℕ) (e : ℤ) → m % 2 ≡ 1 → m < 9007199254740992 → 4503599627370496 ≤ q
+    → 4 * (m * up e * (2 ^ l * 2 ^ l)) ≡ (2 * q + 1) * 2 ^ k * ((2 * q + 1) * 2 ^ k) * down e → ⊥
+never-middle m q l k e p few many h = beyond m (2 * q + 1) few (omega arith) (square e h)
+  where
+    square : (e : ℤ) → 4 * (m * up e * (2 ^ l * 2 ^ l)) ≡ (2 * q + 1) * 2 ^ k * ((2 * q + 1) * 2 ^ k) * down e → m ≡ (2 * q + 1) * (2 * q + 1)
+    square (pos i) h = middle-odd m q i l k 0 p h
+    square (negsuc j) h = middle-odd m q 0 l k (suc j) p h
+
+    beyond : (m h : ℕ) → m < 9007199254740992 → 9007199254740992 ≤ h → m ≡ h * h → ⊥
+    beyond m h few many e =
+        let a : 1 ≤ h = omega arith in
+        let b : 9007199254740992 * 1 ≤ h * h = mul-le-mul many a in
+        omega arith
 
 -- ---- the theorem
 
@@ -272,8 +316,8 @@ most-of : (v S d t u : ℕ) → 0 < d → 0 < S → v < t * d → t * S ≡ u * 
 most-of v S d t u D p h e =
     div-lt-iff-lt-mul D .1 (lt-of-lt-of-le (mul-lt-mul-of-pos-right h p) (le-of-eq (mul-right-comm t d S ∙ ap (λ (x : ℕ). x * d) e)))
 
-nearest-fin : (m : ℕ) (e : ℤ) → 0 < m → down e ≤ 2 ^ low binary64 → m * up e < 2 ^ 1024 * down e → NearestRoot (fin false m e) (sqrt binary64 (fin false m e))
-nearest-fin m e p low-enough high-enough = go (root-size (n / d) w (whole-root (n / d)) scaled-least scaled-most)
+nearest-fin : (m : ℕ) (e : ℤ) → 0 < m → m % 2 ≡ 1 → m < 9007199254740992 → down e ≤ 2 ^ low binary64 → m * up e < 2 ^ 1024 * down e → NearestRoot (fin false m e) (sqrt binary64 (fin false m e))
+nearest-fin m e p odd digits low-enough high-enough = go (root-size (n / d) w (whole-root (n / d)) scaled-least scaled-most)
   where
     L : ℕ
     L = 2 ^ low binary64
@@ -309,7 +353,7 @@ nearest-fin m e p low-enough high-enough = go (root-size (n / d) w (whole-root (
         let hi = le-trans (nearest-le q o) (i .most) in
         let side = beside k (nearest q o) (i .places) lo hi in
         placed (fin false m e) k (nearest q o) (fin-root binary64 m e p ∙ rootOf-is binary64 (m * up e) d w k q refl refl refl) lo hi (i .places) (i .few)
-        (decided n d q k (magnitude binary64 (k * 4503599627370496 + nearest q o - 1)) (magnitude binary64 (k * 4503599627370496 + nearest q o + 1)) o (cmp (4 * n) ((2 * q + 1) * 2 ^ k * ((2 * q + 1) * 2 ^ k) * d)) (i .from) (i .under) (i .least) (side .below) (side .below-is) (side .above))
+        (decided n d q k (magnitude binary64 (k * 4503599627370496 + nearest q o - 1)) (magnitude binary64 (k * 4503599627370496 + nearest q o + 1)) (down-pos e) (never-middle m q (low binary64) k e odd digits (i .least)) o (cmp (4 * n) ((2 * q + 1) * 2 ^ k * ((2 * q + 1) * 2 ^ k) * d)) (i .from) (i .under) (i .least) (side .below) (side .below-is) (side .above))
 
 pub root-nearest : (x : Float) → T (fits binary64 x) → T (positive x) → NearestRoot x (sqrt binary64 x)
 unfolding fits
@@ -323,5 +367,7 @@ root-nearest (fin false (suc m) e) g p =
     let C = leb (down e) (2 ^ low binary64) in
     let D = ltb (suc m * up e) (2 ^ suc (emax binary64) * down e) in
     nearest-fin (suc m) e (zero-lt-suc m)
+    (eqb→eq (suc m % 2) 1 (and-l A B (and-l (A && B) C (and-l (A && B && C) D g))))
+    (ltb→lt (suc m) (2 ^ prec binary64) (and-r A B (and-l (A && B) C (and-l (A && B && C) D g))))
     (leb→le (down e) (2 ^ low binary64) (and-r (A && B) C (and-l (A && B && C) D g)))
     (ltb→lt (suc m * up e) (2 ^ suc (emax binary64) * down e) (and-r (A && B && C) D g))

@@ -2,7 +2,8 @@
 -- the even one. Document 01, "the speed at the point is the rounded square root". It has the shape of `lib.Ieee.round`:
 -- the fraction is scaled to whole units of the format's smallest value, the whole root keeps its `prec` leading digits,
 -- and `nearest` decides the last one by an exact comparison of squares. It says nothing of how a program finds the
--- digits. proofs/Nearest.antt proves that no value of the format lies closer.
+-- digits. proofs/Nearest.antt proves that every other value of the format lies farther from the root: it is never in
+-- the middle of two.
 use mathlib.Core.Bool.{Bool, true, false, cond}
 use Prim.Native.Nat.{ℕ, zero, suc, _+_, _-_, _*_, _/_, _^_, compare}
 use lib.Dec.{leb}

@@ -299,6 +299,13 @@ fn lists_and_walks(list: &mut List) {
         list.places("waiting entries as many as places", &book, entries, "nodes ");
         list.places("waiting entries one more than places", &book, entries - 1, "refused 12");
     }
+    // A table counts as 65,535 places at the most, for the waiting entries too: on a larger one no more may wait.
+    for (turning, expected) in [(362, "nodes "), (363, "refused 12")] {
+        let book = turns(turning);
+        let name = format!("{} waiting entries", turning * (turning - 1) / 2);
+        list.places(&name, &book, 65_535, expected);
+        list.places(&name, &book, 100_000, expected);
+    }
 }
 
 /// Tables of 2 and 3, 65,535 and 65,536 nodes; event lists at each of their counts.

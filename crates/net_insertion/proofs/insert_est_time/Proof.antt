@@ -1,6 +1,6 @@
 -- `net_insertion::insert_est_time` meets its contract: each way to end is a law of proofs/Answers.antt.
 use borrow.Author.Needs.{needs}
-use mathlib.Core.Path.{sym, _∙_}
+use mathlib.Core.Path.{refl, sym, _∙_}
 use native.Mathlib.Omega.{arith}
 use Rattle.net_insertion.proofs.Seeking.{sought-found}
 use Rattle.net_insertion.proofs.Answers.{flagged-set, flagged-clear, move-answer, open-full, open-ended, open-added, split-full, split-added}
@@ -8,7 +8,7 @@ use Rattle.net_insertion.proofs.insert_est_time.Statement.{statement}
 use Rattle.net_insertion.proofs.insert_est_time.Tie as tie
 
 returns : tie.Need-returns
-returns c = (open-full _ _ (record { is = sym (c .before .before .found2 .given .1) ∙ c .before .before .before .before .seek-place .ensures }) (c .if1 .taken), tt)
+returns c = (open-full _ _ (record { is = sym (c .before .before .found2 .given .1) ∙ c .before .before .before .before .seek-place .ensures }) (c .if1 .taken), (refl, refl))
 
 shared-slice-read-if2 : tie.Need-shared-slice-read-if2
 shared-slice-read-if2 c =
@@ -17,7 +17,7 @@ shared-slice-read-if2 c =
 
 returns-2 : tie.Need-returns-2
 returns-2 c =
-    (open-ended _ _ (record { is = sym (c .before .before .before .before .found2 .given .1) ∙ c .before .before .before .before .before .before .seek-place .ensures }) (omega arith) (flagged-set _ _ _ (c .if2 .taken)), tt)
+    (open-ended _ _ (record { is = sym (c .before .before .before .before .found2 .given .1) ∙ c .before .before .before .before .before .before .seek-place .ensures }) (omega arith) (flagged-set _ _ _ (c .if2 .taken)), (refl, refl))
 
 add-behind-requires : tie.Need-add-behind-requires
 add-behind-requires c κs =
@@ -25,7 +25,7 @@ add-behind-requires c κs =
     (f .0, (omega (arith, c .before .before .before .before .before .before .before .before .before .before .before .before .before .before .pre .0 .floats, c .before .before .before .before .if1 .left), omega (arith, c .before .before .before .before .before .before .before .before .before .before .before .before .before .before .pre .0 .numbers, c .before .before .before .before .if1 .left)))
 
 returns-3 : tie.Need-returns-3
-returns-3 c = (split-full _ _ (record { is = sym (c .before .before .found3 .given .1) ∙ c .before .before .before .before .seek-place .ensures }) (c .if3 .taken), tt)
+returns-3 c = (split-full _ _ (record { is = sym (c .before .before .found3 .given .1) ∙ c .before .before .before .before .seek-place .ensures }) (c .if3 .taken), (refl, refl))
 
 split-at-requires : tie.Need-split-at-requires
 split-at-requires c κs =

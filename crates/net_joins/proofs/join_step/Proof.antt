@@ -6,7 +6,7 @@ use Rattle.net_node.specs.Table.{nodeAt}
 use Rattle.net_strands.specs.Entries.{entriesIn}
 use Rattle.net_joins.specs.Joins.{appended}
 use Rattle.net_joins.proofs.Choosing.{chosen-within}
-use Rattle.net_joins.proofs.Answers.{room-less, valid-more, list-built, step-over, step-joins, step-goes, table-left, cells-left}
+use Rattle.net_joins.proofs.Answers.{room-less, valid-more, list-built, step-over, step-joins, step-goes, table-left}
 use Rattle.net_joins.proofs.join_step.Statement.{statement}
 use Rattle.net_joins.proofs.join_step.Tie as tie
 
@@ -20,7 +20,7 @@ returns : tie.Need-returns
 returns c =
     let r = c .before .before .before .before .before .before .before .before .before .before .before .before .before .before .before .before .before .before .before .before .before .pre in
     let u = c .before .before .before .before .before .before .update-join-paths-space in
-    (step-over _ _ _ _ _ _ _ (c .before .before .before .before .before .before .before .before .before .before .before .before .contains .ensures _ _ (r .1 .1 .1 .1 .1 .0)) (u .last .1 .1 .1 .1 .1 .1 .1 .1 .0) (u .result) (u .ensures) (c .before .before .before .before .before .before .before .before .before .before .before .before .before .before .before .before .before .before .before .before .before .args .joins .now) (c .enum-told .given .1), (tt, tt))
+    (step-over _ _ _ _ _ _ _ (c .before .before .before .before .before .before .before .before .before .before .before .before .contains .ensures _ _ (r .1 .1 .1 .1 .1 .0)) (u .last .1 .1 .1 .1 .1 .1 .1 .1 .0) (u .result) (u .ensures) (c .before .before .before .before .before .before .before .before .before .before .before .before .before .before .before .before .before .before .before .before .before .args .joins .now) (c .enum-told .given .1), ((refl, refl), refl))
 
 closest-entry-requires : tie.Need-closest-entry-requires
 closest-entry-requires c κs =
@@ -47,7 +47,7 @@ returns-2 c =
     let b = c .before .before .before .before .before .before .before .before .before .before .before .before .before .before .before .before .before .before .before .before .before .before .before .before .before .before .before .before .before .before .before .before .before .before .before .args in
     let j = c .before .before .before .before .join-target in (
       step-joins (nodeAt (b .floats .now) (b .numbers .now)) (b .n) (b .w .places) (b .join) (b .est-time-add) (entriesIn (b .joins .now) (b .count)) (c .before .before .before .before .before .before .before .before .before .before .before .before .before .before .before .before .before .before .before .before .before .before .before .before .before .before .contains .result) (c .before .before .before .before .before .before .before .before .before .before .before .before .before .before .before .before .before .before .before .before .before .before .before .before .before .before .contains .ensures _ _ (r .1 .1 .1 .1 .1 .0)) (u .last .1 .1 .1 .1 .1 .1 .1 .1 .0) (u .result) (u .ensures) (c .before .before .before .before .before .before .before .before .before .before .before .before .before .before .rebuilt .given .0 .0) (c .before .before .before .before .before .before .before .before .before .before .before .before .before .before .rebuilt .given .1) (c .before .before .before .before .before .before .before .before .before .closest-entry .result) (c .before .before .before .before .before .before .before .before .before .closest-entry .ensures) _ (j .result) (c .before .before .before .before .before .before .before .if1 .taken) (j .ensures .0 _),
-      (j .ensures .1, cells-left _ _ (j .result) refl),
+      (j .ensures .1, refl),
     )
 
 go-on-requires : tie.Need-go-on-requires
@@ -68,7 +68,7 @@ returns-3 c =
     let b = c .before .before .before .before .before .before .before .before .before .before .before .before .before .before .before .before .before .before .before .before .before .before .before .before .before .before .before .before .before .before .before .before .before .before .before .before .before .before .args in
     let a = g .ensures .0 _ _ (r .1 .0) m in (
       step-goes (nodeAt (b .floats .now) (b .numbers .now)) (b .n) (b .w .places) (b .join) (b .est-time-add) (entriesIn (b .joins .now) (b .count)) (c .before .before .before .before .before .before .before .before .before .before .before .before .before .before .before .before .before .before .before .before .before .before .before .before .before .before .before .before .before .contains .result) (c .before .before .before .before .before .before .before .before .before .before .before .before .before .before .before .before .before .before .before .before .before .before .before .before .before .before .before .before .before .contains .ensures _ _ m) (u .last .1 .1 .1 .1 .1 .1 .1 .1 .0) (u .result) (u .ensures) (c .before .before .before .before .before .before .before .before .before .before .before .before .before .before .before .before .before .rebuilt .given .0 .0) (c .before .before .before .before .before .before .before .before .before .before .before .before .before .before .before .before .before .rebuilt .given .1) (c .before .before .before .before .before .before .before .before .before .before .before .before .closest-entry .result) (c .before .before .before .before .before .before .before .before .before .before .before .before .closest-entry .ensures) _ (g .result) (c .before .before .before .before .before .before .before .before .before .before .if1 .left) a,
-      (table-left _ _ _ (appended (nodeAt (b .floats .now) (b .numbers .now)) (b .n) (b .est-time-add .«link_event») (entriesIn (u .last .1 .1 .1 .1 .1 .1 .1 .1 .0) (c .before .before .before .before .before .before .before .before .before .before .before .before .before .before .before .before .before .rebuilt .given .0 .0))) (g .last .1 .1 .1 .1 .1 .0) (g .result) a, cells-left _ _ (g .result) (g .ensures .1 _ _ m)),
+      (table-left _ _ _ (appended (nodeAt (b .floats .now) (b .numbers .now)) (b .n) (b .est-time-add .«link_event») (entriesIn (u .last .1 .1 .1 .1 .1 .1 .1 .1 .0) (c .before .before .before .before .before .before .before .before .before .before .before .before .before .before .before .before .before .rebuilt .given .0 .0))) (g .last .1 .1 .1 .1 .1 .0) (g .result) a, g .ensures .1 _ _ m),
     )
 
 pub join-step-spec : {M : Type 1} → statement M
