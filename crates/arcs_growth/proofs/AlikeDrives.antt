@@ -16,7 +16,7 @@ use Rattle.event_walk.specs.Walk.{row11}
 use Rattle.net_node.specs.declared.EstTime.{EstTime}
 use Rattle.grow_path.specs.Path.{linkOf, legCourse, legEvents}
 use Rattle.grow_rules.specs.Run.{Net, Run, After, memberOf, insertEvent, Outcome, Ended, On, runEvents}
-use Rattle.grow_rules.specs.Growth.{withLeg, Growth, joinGap, originRun, takes, seekLeg, saves, growOrigin, growOrigins, badFinish, finishedAt, finishAs, waiting, onOver, fitsIn, saveOver, onAs, goOn, finishes, legEndAs, legDone, legAs, takeLeg, drive}
+use Rattle.grow_rules.specs.Growth.{onLeg, Growth, joinGap, originRun, takes, seekLeg, saves, growOrigin, growOrigins, badFinish, finishedAt, finishAs, waiting, onOver, fitsIn, saveOver, onAs, goOn, finishes, legEndAs, legDone, legAs, takeLeg, drive}
 use Rattle.arcs_growth.specs.Read.{Read}
 use Rattle.laws.proofs.Members.{All}
 use Rattle.book_options.proofs.Apart.{Other, Apart}
@@ -60,8 +60,8 @@ module _ (b : List ℕ) (places others : ℕ) (net : Net) (run : Run) (u : Table
   unfolding onOver seekLeg
   over-alike link saved = go (legBelow b (legs b) (run .leg) link)
     where
-      go : (j : ℕ) → Both (AlikeGrowth others) (andThen (takes run j) (λ (r : Run). given (record { net = net; saved = withLeg r (r .leg) (run .«has_split») ∷ saved })))
-          (andThen (takes run j) (λ (r : Run). given (record { net = other; saved = withLeg r (r .leg) (run .«has_split») ∷ saved })))
+      go : (j : ℕ) → Both (AlikeGrowth others) (andThen (takes run j) (λ (r : Run). given (record { net = net; saved = onLeg r (r .leg) (run .«has_split») ∷ saved })))
+          (andThen (takes run j) (λ (r : Run). given (record { net = other; saved = onLeg r (r .leg) (run .«has_split») ∷ saved })))
       go zero = tt
       go (suc i) = (here, refl)
 
@@ -77,7 +77,7 @@ module _ (b : List ℕ) (places others : ℕ) (net : Net) (run : Run) (u : Table
       go : (j : ℕ) → Both (λ (x y : List Run). y ≡ x) (andThen (takes run j) (λ (r : Run). fitsIn (ltb places (waiting (r ∷ saved))) (r ∷ saved))) (andThen (takes run j) (λ (r : Run). fitsIn (ltb others (waiting (r ∷ saved))) (r ∷ saved)))
       go zero = tt
       go (suc i) =
-          let r : Run = withLeg run (suc i) false in
+          let r : Run = onLeg run (suc i) false in
           fits (ltb places (waiting (r ∷ saved))) (ltb others (waiting (r ∷ saved))) (r ∷ saved)
 
   on-alike : (saved : List Run) → Both (AlikeGrowth others) (goOn b places net run saved) (goOn b others other run saved)

@@ -10,8 +10,8 @@ use Rattle.net_node.specs.declared.EstTime.{EstTime}
 use Rattle.net_node.specs.declared.TimedEvent.{TimedEvent}
 use Rattle.grow_path.specs.Path.{legEvents}
 use Rattle.grow_rules.specs.Run.{Arc, EndedRun, Net, Run, arcTo, nodesTo}
-use Rattle.arcs_growth.specs.Runs.{Taken, runEventsTo, HasEvent, Visits, AllTaken, LastAt, Between, LeadsOn}
-use Rattle.arcs_growth.specs.Noted.{LeadsOut, Starts, Follows, Ends}
+use Rattle.arcs_growth.specs.Runs.{Taken, runEventsTo, HasEvent, Visits, AllTaken, LastAt, BetweenEvents, LeadsOn}
+use Rattle.arcs_growth.specs.Noted.{LeadsOut, Starts, Follows, ArcEnds}
 use Rattle.laws.proofs.Members.{All, all-so}
 use Rattle.arcs_growth.proofs.Labels.{Labels, Extends}
 use Rattle.arcs_growth.proofs.NewNodes.{EventsKept}
@@ -36,7 +36,7 @@ pub record AtEvent (b : List ℕ) (L : Labels) (node : ℕ → EstTime) (n : ℕ
 
 -- a noted arc, while these runs wait and those have ended
 abbrev pub Notes : List ℕ → (ℕ → EstTime) → ℕ → List Run → List EndedRun → Arc → Type 0
-Notes b node n runs ended arc = Ends node n arc × (LeadsOut b ended arc ⊎ (Starts b node (allRuns runs ended) arc ⊎ Follows b (allRuns runs ended) arc))
+Notes b node n runs ended arc = ArcEnds node n arc × (LeadsOut b ended arc ⊎ (Starts b node (allRuns runs ended) arc ⊎ Follows b (allRuns runs ended) arc))
 
 -- it stays so where the nodes keep their events
 module _ (b : List ℕ) {L M : Labels} {n m : ℕ} (node after : ℕ → EstTime) (x : Extends L M n) (h : n ≤ m) (f : EventsKept n node after) where
@@ -62,7 +62,7 @@ module _ (b : List ℕ) {L M : Labels} {n m : ℕ} (node after : ℕ → EstTime
 pub notes-more : (b : List ℕ) {n m : ℕ} (node after : ℕ → EstTime) → 0 < n → n ≤ m → EventsKept n node after → (runs : List Run) (ended : List EndedRun) (arcs : List Arc) → All (Notes b node n runs ended) arcs → All (Notes b after m runs ended) arcs
 notes-more b {n} {m} node after some h f runs ended = all-so (Notes b node n runs ended) (Notes b after m runs ended) (λ arc d. (ends-more b node after h f arc (d .0), still arc (d .0) (d .1)))
   where
-    still : (arc : Arc) → Ends node n arc → LeadsOut b ended arc ⊎ (Starts b node (allRuns runs ended) arc ⊎ Follows b (allRuns runs ended) arc)
+    still : (arc : Arc) → ArcEnds node n arc → LeadsOut b ended arc ⊎ (Starts b node (allRuns runs ended) arc ⊎ Follows b (allRuns runs ended) arc)
         → LeadsOut b ended arc ⊎ (Starts b after (allRuns runs ended) arc ⊎ Follows b (allRuns runs ended) arc)
     still arc e (inl o) = inl o
     still arc e (inr (inl o)) = inr (inl (starts-more b node after h f some (allRuns runs ended) arc e o))
@@ -99,7 +99,7 @@ module _ {b : List ℕ} {L : Labels} {node : ℕ → EstTime} {n : ℕ} {run : R
       nodes-are = ap (λ (is : List ℕ). is ++ (i ∷ [])) (d .nodes) ∙ append-assoc (d .front) (run .place .«idx_prev» ∷ []) (i ∷ [])
 
   -- both its ends are event nodes
-  pub ends-next : {after : ℕ → EstTime} {m : ℕ} → n ≤ m → EventsKept n node after → (i : ℕ) → HasEvent b after m e i → Real e → Ends after m (arcTo (run .place) i e)
+  pub ends-next : {after : ℕ → EstTime} {m : ℕ} → n ≤ m → EventsKept n node after → (i : ℕ) → HasEvent b after m e i → Real e → ArcEnds after m (arcTo (run .place) i e)
   unfolding arcTo
   ends-next {after} {m} h f i q real = record {
     from = inr (has-real b after m (d .last) (run .place .«idx_prev») (has-more b node after h f (d .last) (run .place .«idx_prev») (d .here)) (d .real));

@@ -19,7 +19,7 @@ use Rattle.net_node.specs.declared.EstTime.{EstTime}
 use Rattle.net_node.specs.declared.TimedEvent.{TimedEvent}
 use Rattle.grow_path.specs.Path.{linkOf, legCourse, legEvents}
 use Rattle.grow_rules.specs.Run.{Net, Run, arcToEnd, Outcome, Ended, On, runEvents}
-use Rattle.grow_rules.specs.Growth.{Growth, joinGap, withLeg, takes, seekLeg, badFinish, finishedAt, finishAs, waiting, onOver, fitsIn, saveOver, onAs, goOn, finishes, legEndAs, legDone, legAs, takeLeg, drive}
+use Rattle.grow_rules.specs.Growth.{Growth, joinGap, onLeg, takes, seekLeg, badFinish, finishedAt, finishAs, waiting, onOver, fitsIn, saveOver, onAs, goOn, finishes, legEndAs, legDone, legAs, takeLeg, drive}
 use Rattle.arcs_growth.specs.Arcs.{one}
 use Rattle.arcs_growth.specs.Runs.{Taken, later, runEventsTo}
 use Rattle.arcs_growth.specs.Read.{Read}
@@ -43,7 +43,7 @@ some-run run runs e = let q : suc (length runs) ≡ 0 = ap length e in omega ari
 
 -- ---- another leg, and a saved run
 
-pub waits-leg : {L : Labels} {net : Net} {run : Run} {saved : List Run} → Waits L net (run ∷ saved) → (j : ℕ) → Waits L net (withLeg run j (run .«has_split») ∷ saved)
+pub waits-leg : {L : Labels} {net : Net} {run : Run} {saved : List Run} → Waits L net (run ∷ saved) → (j : ℕ) → Waits L net (onLeg run j (run .«has_split») ∷ saved)
 waits-leg {L} {net} {run} u j = record {
   owned = u .owned;
   stand = (record { within = s .within; self = s .self; holds = s .holds; listed = s .listed }, u .stand .1);
@@ -53,7 +53,7 @@ waits-leg {L} {net} {run} u j = record {
     s : Stands L net run
     s = u .stand .0
 
-pub waits-saved : {L : Labels} {net : Net} {run : Run} {saved : List Run} → Waits L net (run ∷ saved) → (j : ℕ) → Waits L net (run ∷ withLeg run j false ∷ saved)
+pub waits-saved : {L : Labels} {net : Net} {run : Run} {saved : List Run} → Waits L net (run ∷ saved) → (j : ℕ) → Waits L net (run ∷ onLeg run j false ∷ saved)
 waits-saved {L} {net} {run} {saved} u j = record {
   owned = λ i h b z o. go i (u .owned i h b z o);
   stand = (s, (record { within = s .within; self = s .self; holds = s .holds; listed = s .listed }, u .stand .1));
@@ -63,7 +63,7 @@ waits-saved {L} {net} {run} {saved} u j = record {
     s : Stands L net run
     s = u .stand .0
 
-    go : (i : ℕ) → Owned L i (run ∷ saved) → Owned L i (run ∷ withLeg run j false ∷ saved)
+    go : (i : ℕ) → Owned L i (run ∷ saved) → Owned L i (run ∷ onLeg run j false ∷ saved)
     go i (inl q) = inl q
     go i (inr q) = inr (q .0, inr (q .1))
 
@@ -75,7 +75,7 @@ module _ {b : List ℕ} (r : Read b) where
       run-events-more r i (run .leg - 1) (o .within) (o .parent ∙ is) ∙ ap (λ (j : ℕ). runEventsTo b j ++ legEvents b (suc i)) (sym is)
 
   at-event-leg : {L : Labels} {node : ℕ → EstTime} {n : ℕ} {run : Run} → AtEvent b L node n run [] → LegIn b run → {link : ℕ} (i : ℕ) → LegOf b (legs b) (run .leg) link i → Taken b (suc i) → (flag : Bool)
-      → AtEvent b L node n (withLeg run (suc i) flag) (legEvents b (suc i))
+      → AtEvent b L node n (onLeg run (suc i) flag) (legEvents b (suc i))
   at-event-leg {run = run} f l i o t flag = record {
     deep = f .deep;
     taken = t;
@@ -92,7 +92,7 @@ module _ {b : List ℕ} (r : Read b) where
   }
 
   -- the run of the leg goes on as that of the child
-  leg-further : (run : Run) → LegIn b run → {link : ℕ} (i : ℕ) → LegOf b (legs b) (run .leg) link i → (flag : Bool) → Further b (soFar run) (soFar (withLeg run (suc i) flag))
+  leg-further : (run : Run) → LegIn b run → {link : ℕ} (i : ℕ) → LegOf b (legs b) (run .leg) link i → (flag : Bool) → Further b (soFar run) (soFar (onLeg run (suc i) flag))
   leg-further run l i o flag = record { events = legEvents b (suc i); nodes = []; more-events = leg-events run l i o; more-nodes = sym (append-nil (run .nodes)) }
 
   -- what waits after a turn
@@ -111,7 +111,7 @@ module _ {b : List ℕ} (r : Read b) where
     on-over {rest} d ls c counts kids = go (legBelow b (legs b) (run .leg) link) refl
       where
         go : (j : ℕ) → legBelow b (legs b) (run .leg) link ≡ j
-            → Holds (Turned places run saved) (andThen (takes run j) (λ (q : Run). given (record { net = net; saved = withLeg q (q .leg) (run .«has_split») ∷ rest })))
+            → Holds (Turned places run saved) (andThen (takes run j) (λ (q : Run). given (record { net = net; saved = onLeg q (q .leg) (run .«has_split») ∷ rest })))
         go zero e = tt
         go (suc i) e =
             let o = leg-found b (legs b) (run .leg) link i e in
@@ -121,12 +121,12 @@ module _ {b : List ℕ} (r : Read b) where
                 grows = d .grows;
                 waits = waits-leg (d .waits) (suc i);
                 at-event = (at-event-leg (d .at-event) in-here i o (way i e) (run .«has_split»), d .others);
-                notes = notes-on b (at (net .table)) (net .nodes) (run ∷ rest) (withLeg run (suc i) (run .«has_split») ∷ rest) (net .runs) (net .runs) (λ arc z. z)
-                    (covers-first b (soFar run) (soFar (withLeg run (suc i) (run .«has_split»))) (allRuns rest (net .runs)) (leg-further run in-here i o (run .«has_split»))) (net .noted) (d .notes);
+                notes = notes-on b (at (net .table)) (net .nodes) (run ∷ rest) (onLeg run (suc i) (run .«has_split») ∷ rest) (net .runs) (net .runs) (λ arc z. z)
+                    (covers-first b (soFar run) (soFar (onLeg run (suc i) (run .«has_split»))) (allRuns rest (net .runs)) (leg-further run in-here i o (run .«has_split»))) (net .noted) (d .notes);
                 taken = d .taken;
               };
               legs-in = ((omega arith, omega (arith, o .within)), ls);
-              less = load-less r run saved (withLeg run (suc i) (run .«has_split») ∷ rest) (λ (x : ℕ). one (eqb (suc i) x) + c x) (in-here .0) (in-here .1) (kids i o) (λ x. let q = counts x in omega arith);
+              less = load-less r run saved (onLeg run (suc i) (run .«has_split») ∷ rest) (λ (x : ℕ). one (eqb (suc i) x) + c x) (in-here .0) (in-here .1) (kids i o) (λ x. let q = counts x in omega arith);
             }
 
     -- an alternative's run is saved
@@ -149,15 +149,15 @@ module _ {b : List ℕ} (r : Read b) where
         go zero e = tt
         go (suc i) e =
             let o = leg-found b (legs b) (run .leg) link i e in
-            fits (ltb places (waiting (withLeg run (suc i) false ∷ saved))) (withLeg run (suc i) false ∷ saved) (record {
+            fits (ltb places (waiting (onLeg run (suc i) false ∷ saved))) (onLeg run (suc i) false ∷ saved) (record {
               running = record {
                 labels = d .labels;
                 grows = d .grows;
                 waits = waits-saved (d .waits) (suc i);
                 at-event = d .at-event;
                 others = (at-event-leg (d .at-event) in-here i o (way i e) false, d .others);
-                notes = notes-on b (at (net .table)) (net .nodes) (run ∷ saved) (run ∷ withLeg run (suc i) false ∷ saved) (net .runs) (net .runs) (λ arc z. z)
-                    (covers-second b (soFar run) (soFar (withLeg run (suc i) false)) (allRuns saved (net .runs))) (net .noted) (d .notes);
+                notes = notes-on b (at (net .table)) (net .nodes) (run ∷ saved) (run ∷ onLeg run (suc i) false ∷ saved) (net .runs) (net .runs) (λ arc z. z)
+                    (covers-second b (soFar run) (soFar (onLeg run (suc i) false)) (allRuns saved (net .runs))) (net .noted) (d .notes);
                 taken = d .taken;
               };
               legs-in = ((omega arith, omega (arith, o .within)), ls);

@@ -1,14 +1,15 @@
 -- Document 01's worked book, byte for byte as examples/worked.book has it: rows 5, 7 and 8 let it through, and it grows to the eight nodes of its listing. So the theorems are not empty.
 use mathlib.Core.Path.{_≡_, refl}
 use mathlib.Core.List.{List, [], _∷_, _++_}
-use Prim.Native.Nat.{ℕ}
+use Prim.Native.Nat.{ℕ, _*_}
 use lib.ListN.{replicate}
 use lib.Ieee.{binary64, ofBits, isNan, le, add, sub, mul, div}
-use Rattle.net_node.specs.Table.{Table}
+use Rattle.net_node.specs.Table.{floatWidth, numberWidth, Table}
 use Rattle.laws.specs.Answer.{Answer, refused, given}
 use Rattle.laws.specs.Below.{someBelow}
 use Rattle.book_format.specs.Format.{legs}
 use Rattle.book_format.specs.Rows.{row5}
+use Rattle.grow_rules.specs.Run.{EndedRun}
 use Rattle.grow_rules.specs.Growth.{Grown, grow}
 use Rattle.laws.specs.Below as BelowOf
 use Rattle.fields.specs.Fields as FieldsOf
@@ -43,7 +44,7 @@ worked =
     (0 ∷ 0 ∷ 0 ∷ 0 ∷ 0 ∷ 0 ∷ 16 ∷ 64 ∷ 0 ∷ 0 ∷ 0 ∷ 0 ∷ 0 ∷ 0 ∷ 32 ∷ 64 ∷ 0 ∷ 0 ∷ 0 ∷ 0 ∷ 0 ∷ 0 ∷ 65 ∷ 64 ∷ 0 ∷ 0 ∷ 0 ∷ 0 ∷ 0 ∷ 0 ∷ 16 ∷ 64 ∷ [])
 
 abbrev zeros : Table
-zeros = record { floats = replicate 32 (ofBits binary64 0); numbers = replicate 48 0 }
+zeros = record { floats = replicate (8 * floatWidth) (ofBits binary64 0); numbers = replicate (8 * numberWidth) 0 }
 
 -- nodes, added, splits, joined, finished; or the refusal's number
 abbrev counts : Answer Grown → List ℕ
@@ -57,3 +58,12 @@ worked-read = read-rows worked refl refl refl
 worked-grows : counts (grow worked 8 zeros) ≡ 8 ∷ 4 ∷ 0 ∷ 0 ∷ 1 ∷ []
 unfolding le add ofBits sub isNan mul div BelowOf.someBelow BelowOf.sumBelow FieldsOf.u64At FloatsOf.tableFloat FloatsOf.gap FloatsOf.smaller RootRoot.sqrt FormatOf.joinBits FormatOf.departureBits FormatOf.lengthBits FormatOf.links FormatOf.originsAt FormatOf.origins FormatOf.destinationsAt FormatOf.destinations FormatOf.legsAt FormatOf.legs FormatOf.samplesAt FormatOf.linkLength FormatOf.linkNext FormatOf.linkNextAlt FormatOf.linkPrev FormatOf.originLink FormatOf.destinationLink FormatOf.legLink FormatOf.legParent FormatOf.legSamples FormatOf.sampleTime FormatOf.sampleOffset FormatOf.sampleSpeed FormatOf.firstSample FormatOf.sampleAt ChainsOf.legBelow OptionsOf.member OptionsOf.originBelow OptionsOf.stacked OptionsOf.pushed OptionsOf.inSet OptionsOf.keptOrigins EventOf.passingAt EventOf.badPassing TableOf.sameEvent TableOf.nodeAt TableOf.putFloats TableOf.putNumbers WalkOf.turned WalkOf.turn WalkOf.passedAs WalkOf.row11 InsertionOf.linkedTo InsertionOf.eventNode InsertionOf.addBehind InsertionOf.placeAt InsertionOf.inserted InsertionOf.insertedTable SpaceOf.extendedAll EventMapOf.seenIn JoinsOf.joinStep PathOf.legEvents RunOf.arcToEnd RunOf.runEvents GrowthOf.badFinish GrowthOf.finishedAt GrowthOf.grow FormatOf.linkPrevAlt
 worked-grows = refl
+
+-- its one run, by document 01's listing: it ends in leg 2, and its four events have nodes 2 to 5
+abbrev runsBy : Answer Grown → List EndedRun
+runsBy (refused n) = []
+runsBy (given g) = g .runs
+
+worked-runs : runsBy (grow worked 8 zeros) ≡ record { leg = 2; nodes = 2 ∷ 3 ∷ 4 ∷ 5 ∷ [] } ∷ []
+unfolding le add ofBits sub isNan mul div BelowOf.someBelow BelowOf.sumBelow FieldsOf.u64At FloatsOf.tableFloat FloatsOf.gap FloatsOf.smaller RootRoot.sqrt FormatOf.joinBits FormatOf.departureBits FormatOf.lengthBits FormatOf.links FormatOf.originsAt FormatOf.origins FormatOf.destinationsAt FormatOf.destinations FormatOf.legsAt FormatOf.legs FormatOf.samplesAt FormatOf.linkLength FormatOf.linkNext FormatOf.linkNextAlt FormatOf.linkPrev FormatOf.originLink FormatOf.destinationLink FormatOf.legLink FormatOf.legParent FormatOf.legSamples FormatOf.sampleTime FormatOf.sampleOffset FormatOf.sampleSpeed FormatOf.firstSample FormatOf.sampleAt ChainsOf.legBelow OptionsOf.member OptionsOf.originBelow OptionsOf.stacked OptionsOf.pushed OptionsOf.inSet OptionsOf.keptOrigins EventOf.passingAt EventOf.badPassing TableOf.sameEvent TableOf.nodeAt TableOf.putFloats TableOf.putNumbers WalkOf.turned WalkOf.turn WalkOf.passedAs WalkOf.row11 InsertionOf.linkedTo InsertionOf.eventNode InsertionOf.addBehind InsertionOf.placeAt InsertionOf.inserted InsertionOf.insertedTable SpaceOf.extendedAll EventMapOf.seenIn JoinsOf.joinStep PathOf.legEvents RunOf.arcToEnd RunOf.runEvents GrowthOf.badFinish GrowthOf.finishedAt GrowthOf.grow FormatOf.linkPrevAlt
+worked-runs = refl

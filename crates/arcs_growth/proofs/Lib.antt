@@ -34,3 +34,4 @@ pub mod OneGrowth
 pub mod Numbered
 pub mod Books
 pub mod Examples
+pub mod Cases

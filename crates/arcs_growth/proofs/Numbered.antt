@@ -26,7 +26,7 @@ use Rattle.net_insertion.proofs.Numbers.{RefusesAs, inserted-refuses}
 use Rattle.net_joins.specs.Joins.{JoinStep, JoinsTo, GoesOn, Beyond, joinStep}
 use Rattle.grow_path.specs.Path.{linkOf, legCourse, legEvents}
 use Rattle.grow_rules.specs.Run.{Net, Run, After, memberOf, insertedRun, insertEvent, Outcome, Ended, On, goesOn, withJoins, joinedAs, eventAs, runEvent, nextEvent, runEvents}
-use Rattle.grow_rules.specs.Growth.{Growth, joinGap, firstNodes, originRun, originArrive, originClear, takes, seekLeg, saves, growOrigin, growOrigins, badFinish, finishAs, waiting, withLeg, onOver, fitsIn, saveOver, onAs, goOn, finishes, legEndAs, legDone, legAs, takeLeg, drive, fakeNode, leadsToEnd, roomFor, endFakes, lastNode, Grown, startAs, grownWith, grow}
+use Rattle.grow_rules.specs.Growth.{Growth, joinGap, firstNodes, originRun, originArrive, originClear, takes, seekLeg, saves, growOrigin, growOrigins, badFinish, finishAs, waiting, onLeg, onOver, fitsIn, saveOver, onAs, goOn, finishes, legEndAs, legDone, legAs, takeLeg, drive, fakeNode, leadsToEnd, roomFor, endFakes, lastNode, Grown, startAs, grownWith, grow}
 use Rattle.arcs_growth.specs.Read.{Read}
 use Rattle.arcs_growth.proofs.AtEvents.{Driven}
 use Rattle.arcs_growth.proofs.Driving.{LegIn, Turned, takes-leg, nobody, some-run}
@@ -94,7 +94,7 @@ seek-numbered b run parent link = takes-numbered run (legBelow b (legs b) parent
 over-numbered : (b : List ℕ) (net : Net) (run : Run) (link : ℕ) (saved : List Run) → Grows (onOver b net run link saved)
 unfolding onOver
 over-numbered b net run link saved =
-    refuses-then OfGrowth (seekLeg b run (run .leg) link) (λ (r : Run). given (record { net = net; saved = withLeg r (r .leg) (run .«has_split») ∷ saved })) (seek-numbered b run (run .leg) link) (λ r. tt)
+    refuses-then OfGrowth (seekLeg b run (run .leg) link) (λ (r : Run). given (record { net = net; saved = onLeg r (r .leg) (run .«has_split») ∷ saved })) (seek-numbered b run (run .leg) link) (λ r. tt)
 
 fits-numbered : (t : Bool) (saved : List Run) → Grows (fitsIn t saved)
 fits-numbered true saved = (omega arith, omega arith)

@@ -20,10 +20,9 @@ use Rattle.net_node.specs.declared.EstType.the-variants.{Arrive, Clear}
 use Rattle.net_node.specs.declared.TimedEvent.{TimedEvent}
 use Rattle.grow_path.specs.Path.{legEvents}
 use Rattle.grow_rules.specs.Run.{Arc, EndedRun, Net, Run, After, arcTo, memberOf, insertEvent}
-use Rattle.grow_rules.specs.Growth.{Growth, joinGap, departure, firstNodes, originEvent, originRun, withLeg, takes, seekLeg, saves, growOrigin, growOrigins}
+use Rattle.grow_rules.specs.Growth.{Growth, joinGap, departure, firstNodes, originEvent, originRun, onLeg, takes, seekLeg, saves, growOrigin, growOrigins}
 use Rattle.arcs_growth.specs.Arcs.{one}
 use Rattle.arcs_growth.specs.Runs.{Taken, first, runEventsTo, HasEvent, AllTaken, SomeRun, FirstAt, LeadsOn}
-use Rattle.arcs_growth.specs.Noted.{LeadsOut, Ends}
 use Rattle.arcs_growth.specs.Read.{SomeKept, Read}
 use Rattle.laws.proofs.Below.{or-right}
 use Rattle.laws.proofs.Members.{All, Some, all-so}
@@ -132,7 +131,7 @@ module _ {b : List ℕ} (r : Read b) (places : ℕ) (idx : ℕ) (kept : memberOf
       deep-two : j .labels .depth (c .run .place .«idx_prev») ≡ 2
       deep-two = j .deeper ∙ ap suc deep-one
 
-      origin-waits : (k : ℕ) → Waits (j .labels) (c .net) (originRun b ∷ withLeg (c .run) k false ∷ saved)
+      origin-waits : (k : ℕ) → Waits (j .labels) (c .net) (originRun b ∷ onLeg (c .run) k false ∷ saved)
       unfolding originRun
       origin-waits k = record {
         owned = λ x h p z o. go x (j .waits .owned x h p z o);
@@ -143,7 +142,7 @@ module _ {b : List ℕ} (r : Read b) (places : ℕ) (idx : ℕ) (kept : memberOf
           s : Stands (j .labels) (c .net) (c .run)
           s = j .waits .stand .0
 
-          go : (x : ℕ) → Owned (j .labels) x (c .run ∷ saved) → Owned (j .labels) x (originRun b ∷ withLeg (c .run) k false ∷ saved)
+          go : (x : ℕ) → Owned (j .labels) x (c .run ∷ saved) → Owned (j .labels) x (originRun b ∷ onLeg (c .run) k false ∷ saved)
           go x (inl e) = inr (ap (j .labels .depth) e ∙ deep-two, inl e)
           go x (inr e) = inr (e .0, inr (e .1))
 
@@ -152,7 +151,7 @@ module _ {b : List ℕ} (r : Read b) (places : ℕ) (idx : ℕ) (kept : memberOf
         events-are = run-events-first r k (o .within) (o .parent) ∙ ap (λ (l : ℕ). arrive b l ∷ clear b l ∷ legEvents b (suc k)) (o .link)
 
         abbrev run : Run
-        run = withLeg (c .run) (suc k) false
+        run = onLeg (c .run) (suc k) false
 
         -- the nodes of its Arrive and Clear
         abbrev x : ℕ
@@ -242,7 +241,7 @@ module _ {b : List ℕ} (r : Read b) (places : ℕ) (idx : ℕ) (kept : memberOf
             ), arrive-notes)
 
         -- the leg is new among the saved runs', as its link is
-        origin-kids : Kids b 0 (legCount (withLeg (c .run) (suc k) false ∷ saved))
+        origin-kids : Kids b 0 (legCount (onLeg (c .run) (suc k) false ∷ saved))
         origin-kids = record { once = λ x h. once x h (eqb (suc k) (suc x)) refl; parent = λ x h p. parent x h (eqb (suc k) (suc x)) refl p }
           where
             is : (x : ℕ) → eqb (suc k) (suc x) ≡ true → x ≡ k
@@ -266,7 +265,7 @@ module _ {b : List ℕ} (r : Read b) (places : ℕ) (idx : ℕ) (kept : memberOf
             parent x h true e p = ap (legParent b) (is x e) ∙ o .parent
             parent x h false e p = d .firsts .parent x h (omega arith)
 
-        origin-rooted : Rooted b places (saves g (c .net) (withLeg (c .run) (suc k) false))
+        origin-rooted : Rooted b places (saves g (c .net) (onLeg (c .run) (suc k) false))
         unfolding originEvent
         origin-rooted = record {
           labels = j .labels;
@@ -285,7 +284,7 @@ module _ {b : List ℕ} (r : Read b) (places : ℕ) (idx : ℕ) (kept : memberOf
           firsts = origin-kids;
         }
 
-        still-unused : Unused b (withLeg (c .run) (suc k) false ∷ saved) idxs
+        still-unused : Unused b (onLeg (c .run) (suc k) false ∷ saved) idxs
         still-unused = go idxs other (unused .1)
           where
             one-row : (x : ℕ) → (originLink b idx ≡ originLink b x → ⊥) → ((y : ℕ) → 0 < legCount saved y → legLink b (y - 1) ≡ originLink b x → ⊥)
@@ -296,7 +295,7 @@ module _ {b : List ℕ} (r : Read b) (places : ℕ) (idx : ℕ) (kept : memberOf
                 f (sym (o .link) ∙ ap (legLink b) (sym w) ∙ q)
             one-row x f u y false e p q = u y (omega arith) q
 
-            go : (xs : List ℕ) → Other b idx xs → Unused b saved xs → Unused b (withLeg (c .run) (suc k) false ∷ saved) xs
+            go : (xs : List ℕ) → Other b idx xs → Unused b saved xs → Unused b (onLeg (c .run) (suc k) false ∷ saved) xs
             go [] f u = tt
             go (x ∷ xs) f u = ((λ y. one-row x (f .0) (u .0) y (eqb (suc k) y) refl), go xs (f .1) (u .1))
 

@@ -13,8 +13,8 @@ use Rattle.net_node.specs.declared.EstTime.{EstTime}
 use Rattle.net_node.specs.declared.TimedEvent.{TimedEvent}
 use Rattle.grow_rules.specs.Run.{Arc, EndedRun, Run}
 use Rattle.grow_rules.specs.Growth.{joinGap}
-use Rattle.arcs_growth.specs.Runs.{runEventsTo, HasEvent, Visits, RunTaken, AllTaken, SomeRun, FirstAt, LastAt, Between, LeadsOn}
-use Rattle.arcs_growth.specs.Noted.{LeadsOut, Starts, Follows, EventAt, Ends}
+use Rattle.arcs_growth.specs.Runs.{runEventsTo, HasEvent, Visits, RunTaken, AllTaken, SomeRun, FirstAt, LastAt, BetweenEvents, LeadsOn}
+use Rattle.arcs_growth.specs.Noted.{LeadsOut, Starts, Follows, EventAt, ArcEnds}
 use Rattle.laws.proofs.Members.{All, all-so}
 use Rattle.arcs_growth.proofs.NewNodes.{EventsKept}
 use Rattle.arcs_growth.proofs.Paths.{Real}
@@ -48,7 +48,7 @@ module _ (b : List ℕ) {n m : ℕ} (node after : ℕ → EstTime) (h : n ≤ m)
   event-more : (i : ℕ) → EventAt node n i → EventAt after m i
   event-more i d = let w = d .inside in record { inside = omega arith; real = ap (λ (z : LinkEvent). fakeKind (z .«est_type»)) (k .event i w) ∙ d .real }
 
-  pub ends-more : (arc : Arc) → Ends node n arc → Ends after m arc
+  pub ends-more : (arc : Arc) → ArcEnds node n arc → ArcEnds after m arc
   ends-more arc d = record { from = from (d .from); to = to (d .to) }
     where
       from : (arc .from ≡ 1) ⊎ EventAt node n (arc .from) → (arc .from ≡ 1) ⊎ EventAt after m (arc .from)
@@ -59,7 +59,7 @@ module _ (b : List ℕ) {n m : ℕ} (node after : ℕ → EstTime) (h : n ≤ m)
       to (inl q) = inl q
       to (inr q) = inr (event-more (arc .to) q)
 
-  pub starts-more : 0 < n → (runs : List EndedRun) (arc : Arc) → Ends node n arc → Starts b node runs arc → Starts b after runs arc
+  pub starts-more : 0 < n → (runs : List EndedRun) (arc : Arc) → ArcEnds node n arc → Starts b node runs arc → Starts b after runs arc
   starts-more some runs arc d s = record {
     idx = s .idx;
     kept = s .kept;
@@ -122,7 +122,7 @@ module _ (b : List ℕ) (node : ℕ → EstTime) (n : ℕ) where
   last-paired (x ∷ y ∷ es) (j ∷ is) p e i = last-paired (y ∷ es) is (p .1) e i
 
   -- from the node of an event to that of the next
-  pub leads-paired : (es : List TimedEvent) (is : List ℕ) → Paired b node n es is → (x y : TimedEvent) (i k : ℕ) (arc : Arc) → Between x y i k arc → (later : List TimedEvent) → LeadsOn (es ++ (x ∷ y ∷ later)) (is ++ (i ∷ k ∷ [])) arc
+  pub leads-paired : (es : List TimedEvent) (is : List ℕ) → Paired b node n es is → (x y : TimedEvent) (i k : ℕ) (arc : Arc) → BetweenEvents x y i k arc → (later : List TimedEvent) → LeadsOn (es ++ (x ∷ y ∷ later)) (is ++ (i ∷ k ∷ [])) arc
   leads-paired [] [] p x y i k arc d later = inl d
   leads-paired [] (j ∷ is) p x y i k arc d later = absurd p
   leads-paired (z ∷ es) [] p x y i k arc d later = absurd p

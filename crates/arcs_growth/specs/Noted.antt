@@ -56,11 +56,11 @@ pub record EventAt (node : ℕ → EstTime) (n i : ℕ) : Type 0 where
   pub real : isFake (node i) ≡ false
 
 -- "Node 1 is the start, the last node the end; other arc ends are event nodes": 0 stands for the end
-pub record Ends (node : ℕ → EstTime) (n : ℕ) (arc : Arc) : Type 0 where
+pub record ArcEnds (node : ℕ → EstTime) (n : ℕ) (arc : Arc) : Type 0 where
   pub from : (arc .from ≡ 1) ⊎ EventAt node n (arc .from)
   pub to : (arc .to ≡ 0) ⊎ EventAt node n (arc .to)
 
 -- of each arc of a list
 abbrev pub AllEnds : (ℕ → EstTime) → ℕ → List Arc → Type 0
 AllEnds node n [] = Unit
-AllEnds node n (arc ∷ arcs) = Ends node n arc × AllEnds node n arcs
+AllEnds node n (arc ∷ arcs) = ArcEnds node n arc × AllEnds node n arcs

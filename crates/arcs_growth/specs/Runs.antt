@@ -97,7 +97,7 @@ LastAt (x ∷ y ∷ es) (i ∷ is) k = LastAt (y ∷ es) is k
 
 -- from node i of event x to node k of event y: "with the time and offset of the run's own event minus those of its
 -- event before, never a node's"
-pub record Between (x y : TimedEvent) (i k : ℕ) (arc : Arc) : Type 0 where
+pub record BetweenEvents (x y : TimedEvent) (i k : ℕ) (arc : Arc) : Type 0 where
   pub from : arc .from ≡ i
   pub to : arc .to ≡ k
   pub time : arc .time ≡ sub binary64 (y .time) (x .time)
@@ -109,4 +109,4 @@ LeadsOn [] is arc = ⊥
 LeadsOn (x ∷ []) is arc = ⊥
 LeadsOn (x ∷ y ∷ es) [] arc = ⊥
 LeadsOn (x ∷ y ∷ es) (i ∷ []) arc = ⊥
-LeadsOn (x ∷ y ∷ es) (i ∷ k ∷ is) arc = Between x y i k arc ⊎ LeadsOn (y ∷ es) (k ∷ is) arc
+LeadsOn (x ∷ y ∷ es) (i ∷ k ∷ is) arc = BetweenEvents x y i k arc ⊎ LeadsOn (y ∷ es) (k ∷ is) arc

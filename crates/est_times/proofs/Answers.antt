@@ -12,7 +12,7 @@ use Rattle.net_node.specs.Table.{Table}
 use Rattle.net_node.specs.Left.{floatsKept, numbersKept, floatsLeft, numbersLeft}
 use Rattle.net_node.specs.Lent.{Slices, Sizes, sizesOf}
 use Rattle.est_times.specs.declared.Sheet.{Sheet}
-use Rattle.est_times.specs.Sheet.{Finished, job, answered, sheetOf, Numbered, SheetMade}
+use Rattle.est_times.specs.Sheet.{Finished, job, answered, sheetOf, HasNumber, SheetMade}
 use Rattle.est_times.specs.Stages.{BuiltAs, sheetNodes}
 use Rattle.est_times.proofs.Networks.{sound}
 use Rattle.est_times.proofs.Finished.{job-finished}
@@ -32,9 +32,9 @@ job-answered : (j : Answer Finished) (t : Table) (sheet : Sheet) → BuiltAs j t
 job-answered (refused k) t sheet h = h .0
 job-answered (given f) t sheet h = h .0
 
-job-numbered : (j : Answer Finished) (t : Table) (sheet : Sheet) → BuiltAs j t sheet → Numbered sheet
-job-numbered (refused k) t sheet h = subst Numbered (sym (h .0)) (h .1)
-job-numbered (given f) t sheet h = subst Numbered (sym (h .0)) tt
+job-numbered : (j : Answer Finished) (t : Table) (sheet : Sheet) → BuiltAs j t sheet → HasNumber sheet
+job-numbered (refused k) t sheet h = subst HasNumber (sym (h .0)) (h .1)
+job-numbered (given f) t sheet h = subst HasNumber (sym (h .0)) tt
 
 kept-floats : (j : Answer Finished) (t : Table) (sheet : Sheet) (size : ℕ) → BuiltAs j t sheet → floatsKept (sheetNodes sheet) (t .floats) size ≡ floatsLeft (sheetOf j) size
 kept-floats (refused k) t sheet size h = ap (λ (s : Sheet). floatsKept (sheetNodes s) (t .floats) size) (h .0) ∙ ap zeroFloats (sub-zero size)

@@ -62,15 +62,15 @@ DemandOf b t (Made r) = Demand b t r
 DemandOf b t (Refused k) = Unit
 
 -- a refusal has a number: 0 is answered with a sheet alone
-abbrev pub Numbered : Sheet → Type 0
-Numbered (Made r) = Unit
-Numbered (Refused k) = k ≡ 0 → ⊥
+abbrev pub HasNumber : Sheet → Type 0
+HasNumber (Made r) = Unit
+HasNumber (Refused k) = k ≡ 0 → ⊥
 
 -- For a book, what was lent at entry and what stands there at exit: the answer, both slices of the table, the work
 -- space, and demand 3, whatever table and work space held.
 pub record SheetMade (b : List ℕ) (lent left : Slices) (r : Sheet) : Type 0 where
   pub answer : r ≡ answered (job b (sizesOf lent))
-  pub numbered : Numbered r
+  pub numbered : HasNumber r
   pub floats : left .table .floats ≡ floatsLeft (sheetOf (job b (sizesOf lent))) (length (lent .table .floats))
   pub numbers : left .table .numbers ≡ numbersLeft (sheetOf (job b (sizesOf lent))) (length (lent .table .numbers))
   pub work : Cleared (lent .work) (left .work)

@@ -22,7 +22,7 @@ use Rattle.grow_waiting.specs.Held.{Untaken}
 use Rattle.grow_waiting.proofs.Kept.{save-chained, save-path, save-mapped, node-left, saved-room}
 use Rattle.grow_path.specs.Path.{pathOf}
 use Rattle.grow_rules.specs.Run.{Net, Run}
-use Rattle.grow_rules.specs.Growth.{withLeg, takes, seekLeg, onOver, waiting, fitsIn, saveOver}
+use Rattle.grow_rules.specs.Growth.{onLeg, takes, seekLeg, onOver, waiting, fitsIn, saveOver}
 use Rattle.grow_events.specs.Held.{endsAt}
 use Rattle.grow_state.specs.declared.Plan.{Plan}
 use Rattle.grow_state.specs.declared.State.{State}
@@ -89,7 +89,7 @@ module _ {b : List ℕ} {p : Plan} {fs : List Float} {us : List ℕ} {reals : Li
     unfolding onOver seekLeg
     on-refused k e =
         let n = taken-none b (run .leg) link t at-run k e in
-        ap (λ (j : ℕ). andThen (takes run j) (λ (r : Run). given (record { net = net; saved = withLeg r (r .leg) (run .«has_split») ∷ rest }))) (n .0) ∙ ap refused (sym (n .1))
+        ap (λ (j : ℕ). andThen (takes run j) (λ (r : Run). given (record { net = net; saved = onLeg r (r .leg) (run .«has_split») ∷ rest }))) (n .0) ∙ ap refused (sym (n .1))
 
     pub save-none : (k : ℕ) → t ≡ Refused k → saveOver b (p .w .places) run link rest ≡ refused 10
     unfolding saveOver seekLeg
@@ -110,7 +110,7 @@ module _ {b : List ℕ} {p : Plan} {fs : List Float} {us : List ℕ} {reals : Li
       deeper = omega (arith, a .front .depth, path-long (plan-above plan) (run .leg) (a .sound .0 .some) (a .sound .0 .within), ap length before)
 
       abbrev taking : Bool → Run
-      taking added = withLeg run (suc i) added
+      taking added = onLeg run (suc i) added
 
       sound : (added : Bool) → RunSound b (g .counts .nodes) (taking added)
       sound added = record { some = omega arith; within = child .of .within; stands = a .sound .0 .stands; few = a .sound .0 .few; valid = a .sound .0 .valid }
@@ -120,7 +120,7 @@ module _ {b : List ℕ} {p : Plan} {fs : List Float} {us : List ℕ} {reals : Li
 
       on-is : onOver b net run link rest ≡ given (record { net = net; saved = taking (run .«has_split») ∷ rest })
       unfolding onOver seekLeg
-      on-is = ap (λ (j : ℕ). andThen (takes run j) (λ (r : Run). given (record { net = net; saved = withLeg r (r .leg) (run .«has_split») ∷ rest }))) (child .found)
+      on-is = ap (λ (j : ℕ). andThen (takes run j) (λ (r : Run). given (record { net = net; saved = onLeg r (r .leg) (run .«has_split») ∷ rest }))) (child .found)
 
       -- the run takes it next
       pub on-gives : Free b run rest link

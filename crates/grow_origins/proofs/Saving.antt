@@ -29,7 +29,7 @@ use Rattle.grow_waiting.specs.Held.{SavedElsewhere}
 use Rattle.grow_waiting.proofs.Kept.{node-left, save-chained, save-path, save-mapped, saved-room}
 use Rattle.book_legs.proofs.Found.{LegOf, leg-found}
 use Rattle.grow_rules.specs.Run.{Net, Run, memberOf}
-use Rattle.grow_rules.specs.Growth.{withLeg, takes, seekLeg}
+use Rattle.grow_rules.specs.Growth.{onLeg, takes, seekLeg}
 use Rattle.grow_events.specs.declared.Counts.{Counts}
 use Rattle.grow_events.specs.Held.{NetIn, endsAt}
 use Rattle.grow_events.proofs.Kept.{before-kept, unit-kept, net-restart, path-kept, net-same}
@@ -200,7 +200,7 @@ module _ (b : List ℕ) (p : Plan) (fs : List Float) (us : List ℕ) (reals : Li
     )
 
     then : Run
-    then = withLeg run (suc (leg-is .idx)) false
+    then = onLeg run (suc (leg-is .idx)) false
 
     answer-is : savedOrigin b link net run runs ≡ given (record { net = net; saved = then ∷ runs })
     unfolding savedOrigin seekLeg then

@@ -95,8 +95,8 @@ originRun b = record {
 }
 
 -- a run with another leg, and whether it has added
-abbrev pub withLeg : Run → ℕ → Bool → Run
-withLeg run j added = record {
+abbrev pub onLeg : Run → ℕ → Bool → Run
+onLeg run j added = record {
   place = run .place;
   leg = j;
   «has_split» = added;
@@ -107,7 +107,7 @@ withLeg run j added = record {
 -- a run that takes the leg that a search has found: it has not added since. A search that finds none gives its number.
 abbrev pub takesFound : Run → LegSearch → Answer Run
 takesFound run Missing = refused (searchNumber Missing)
-takesFound run (Found j) = given (withLeg run j false)
+takesFound run (Found j) = given (onLeg run j false)
 
 -- the same by the leg's number, 0 being none
 abbrev pub takes : Run → ℕ → Answer Run
@@ -176,7 +176,7 @@ unfoldable pub onOver : List ℕ → Net → Run → ℕ → List Run → Answer
 unfolding seekLeg
 onOver b net run link saved =
     andThen (seekLeg b run (run .leg) link)
-    (λ (r : Run). given (record { net = net; saved = withLeg r (r .leg) (run .«has_split») ∷ saved }))
+    (λ (r : Run). given (record { net = net; saved = onLeg r (r .leg) (run .«has_split») ∷ saved }))
 
 -- Row 12: "entries of all waiting runs beyond the table's places"
 abbrev pub fitsIn : Bool → List Run → Answer (List Run)
