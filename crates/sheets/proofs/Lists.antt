@@ -29,11 +29,10 @@ module _ {b : List ℕ} {lent left : Slices} {out listing : List ℕ} {r : Liste
   left-is : left .table ≡ tableLeft b (sizesOf lent)
   left-is = λ i. record { floats = l .made .floats i; numbers = l .made .numbers i }
 
-  pub text-is : TextListed (bookText b (sizesOf lent)) out listing r
-  text-is = subst (λ (x : Option (List ℕ)). TextListed x out listing r) (ap (λ (s : Sheet). textOf s (left .table)) (l .made .answer) ∙ ap (textOf (answered (job b (sizesOf lent)))) left-is) (l .written)
+  pub text-is : textOf (l .sheet) (left .table) ≡ bookText b (sizesOf lent)
+  text-is = ap (λ (s : Sheet). textOf s (left .table)) (l .made .answer) ∙ ap (textOf (answered (job b (sizesOf lent)))) left-is
 
 -- slices of the program's sizes
-pub program-text : (b : List ℕ) {out listing : List ℕ} {r : Listed} (f n w c m : ℕ) → TextListed (bookText b (record { floats = f; numbers = n; bytes = bytesOf w c m })) out listing r
-    → f ≡ programSizes .floats → n ≡ programSizes .numbers → w ≡ 3072 → c ≡ 8192 → m ≡ 2048 → TextListed (bookText b programSizes) out listing r
+pub program-sizes : (f n w c m : ℕ) → f ≡ programSizes .floats → n ≡ programSizes .numbers → w ≡ 3072 → c ≡ 8192 → m ≡ 2048 → _≡_ {A = Sizes} (record { floats = f; numbers = n; bytes = bytesOf w c m }) programSizes
 unfolding bytesOf
-program-text b {out} {listing} {r} f n w c m l p q s t u = subst (λ (z : Sizes). TextListed (bookText b z) out listing r) (λ i. record { floats = p i; numbers = q i; bytes = bytesOf (s i) (t i) (u i) }) l
+program-sizes f n w c m p q s t u = λ i. record { floats = p i; numbers = q i; bytes = bytesOf (s i) (t i) (u i) }
