@@ -1,17 +1,14 @@
 -- A book's listing is that of the case that its sheet is.
-use mathlib.Core.Path.{_≡_, refl, sym, ap, _∙_, subst}
+use mathlib.Core.Path.{_≡_, sym, ap, _∙_, subst}
 use mathlib.Core.List.{List}
-use mathlib.Core.Option.{Option, some}
+use mathlib.Core.Option.{some}
 use Prim.Native.Nat.{ℕ}
-use lib.ListN.{length}
 use Rattle.space.specs.Space.{bytesOf}
 use Rattle.report.specs.declared.Report.{Report}
-use Rattle.net_node.specs.Table.{Table}
-use Rattle.net_node.specs.Left.{floatsLeft, numbersLeft}
 use Rattle.net_node.specs.Lent.{Slices, Sizes, sizesOf}
 use Rattle.est_times.specs.declared.Sheet.{Sheet}
 use Rattle.est_times.specs.declared.Sheet.the-variants.{Made, Refused}
-use Rattle.est_times.specs.Sheet.{job, answered, sheetOf, SheetMade}
+use Rattle.est_times.specs.Sheet.{job, answered, SheetMade}
 use Rattle.listing.specs.declared.Listed.{Listed}
 use Rattle.listing.specs.Listing.{refusedText, sheetIn, TextListed}
 use Rattle.sheets.specs.Sheets.{textOf, tableLeft, bookText, programSizes, BookListed}

@@ -31,8 +31,8 @@ pub fn list_book(
     }
 }
 
-// What the program `sheet` prints for a book, in a lent array that has room for it whatever the book is, and how many
-// bytes that are: 192 nodes and 65,536 bytes of work space.
+// Writes what the program `sheet` prints for a book, on 192 nodes and 65,536 bytes of work space, into a lent array,
+// which has room for it whatever the book is, and answers how many bytes that is.
 pub fn sheet_text(book: &[u8], text: &mut [u8; 65536]) -> usize
     ensures { λ n. ⌜ SheetText (now (book .entry)) (now (text .exit)) n ⌝ }
 {
@@ -52,7 +52,7 @@ pub fn sheet_text(book: &[u8], text: &mut [u8; 65536]) -> usize
     );
     match listed {
         Listed::Bytes(n) => n,
-        // proved: it never comes to these
+        // proved: never the answer here
         Listed::Short => 0,
         Listed::Unfilled => 0,
     }
