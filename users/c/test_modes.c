@@ -146,7 +146,18 @@ static void event_lists(struct answers *to)
     events(to, falling);
 }
 
-/* A chain of five nodes, so many seconds apart and timed from a departure; `last` is the last one's next. */
+static uint8_t listing[LONGEST];
+
+/* The listing of the table, and how long it is. */
+static size_t list(struct answers *to, const struct keldurap_report *report)
+{
+    size_t length;
+    called(to, to->library->list_sheet(TABLE, report, listing, sizeof listing, &length));
+    put(to, listing, length);
+    return length;
+}
+
+/* A chain of five nodes, so many seconds apart and timed from a departure, then listed; `last` is the last one's next. */
 static void node_table(struct answers *to, double step, double departure, uint32_t last)
 {
     uint32_t nodes;
@@ -161,6 +172,8 @@ static void node_table(struct answers *to, double step, double departure, uint32
     called(to, number);
     put_table(to);
     put(to, &nodes, sizeof nodes);
+    struct keldurap_report report = {nodes, 0, 0, 0, 0};
+    list(to, &report);
 }
 
 /* A table whose sums are rounded; one whose times are the smallest above 0; one with an index that names nothing. */
@@ -174,7 +187,6 @@ static void node_tables(struct answers *to)
 /* A book by each function that takes one, and its listing. */
 static void answer_book(struct answers *to, const struct book *book)
 {
-    static uint8_t out[LONGEST];
     struct keldurap_report report;
     size_t length;
     refill();
@@ -188,11 +200,10 @@ static void answer_book(struct answers *to, const struct book *book)
     called(to, number);
     put_table(to);
     put(to, &report, sizeof report);
-    called(to, to->library->list_sheet(TABLE, &report, out, 9, &length));
-    called(to, to->library->list_sheet(floats, 0, numbers, 0, &report, out, sizeof out, &length));
-    called(to, to->library->list_sheet(TABLE, &report, out, sizeof out, &length));
-    put(to, out, length);
-    int is_stored = book->sheet_length == 0 || (number == 0 && length == book->sheet_length && memcmp(out, book->sheet, length) == 0);
+    called(to, to->library->list_sheet(TABLE, &report, listing, 9, &length));
+    called(to, to->library->list_sheet(floats, 0, numbers, 0, &report, listing, sizeof listing, &length));
+    length = list(to, &report);
+    int is_stored = book->sheet_length == 0 || (number == 0 && length == book->sheet_length && memcmp(listing, book->sheet, length) == 0);
     if (to->library == &users && !is_stored)
         fail(book->name, "not the stored sheet");
 }
@@ -306,16 +317,30 @@ static void read_book(struct book *book, const char *name)
     book->sheet_length = read_into(sheet, book->sheet, sizeof book->sheet);
 }
 
+/* The worked book, 256 bytes, with the least time there is between two samples of leg 2: the second one's time stands at byte 208. */
+static void hasten(struct book *to, const struct book *books, size_t count)
+{
+    const double smallest = SMALLEST;
+    for (size_t i = 0; i < count; i++)
+        if (books[i].length == 256 && books[i].sheet_length > 0)
+            *to = books[i];
+    if (to->length == 0)
+        fail("books", "the worked book is not among them");
+    to->sheet_length = 0;
+    memcpy(to->bytes + 208, &smallest, sizeof smallest);
+}
+
 int main(int count, char **names)
 {
     static struct answers expected, answers;
     unsigned started = _mm_getcsr();
-    size_t books = (size_t)count - 1;
-    struct book *all = calloc(books + 1, sizeof *all);
+    size_t books = (size_t)count;
+    struct book *all = calloc(books, sizeof *all);
     if (all == NULL)
         fail("books", "no memory");
-    for (size_t i = 0; i < books; i++)
+    for (size_t i = 0; i + 1 < books; i++)
         read_book(&all[i], names[i + 1]);
+    hasten(&all[books - 1], all, books - 1);
     fesetenv(FE_DFL_ENV);
     answer(&expected, &raw, all, books);
     _mm_setcsr(started);

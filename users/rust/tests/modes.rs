@@ -104,6 +104,9 @@ fn small_answers(mode: u32) -> Vec<Vec<u64>> {
         let mut work = WorkSpace::for_nodes(5);
         let answer = kept(mode, || update_times(&mut table, departure, &mut work));
         all.push(answer.map_or_else(|refusal| vec![refusal.number().into()], |()| bits(&table)));
+        let (report, mut out) = (Report { nodes: table.len(), ..Report::default() }, [0; 999]);
+        let text = kept(mode, || list_sheet(&table, &report, &mut out)).unwrap();
+        all.push(text.bytes().map(u64::from).collect());
     }
     all
 }
@@ -152,6 +155,17 @@ fn books_have_their_answers_in_every_mode() {
         }
     }
     assert!(sheets >= 8);
+}
+
+/// The worked book with the least time there is between two samples of a leg.
+#[test]
+fn the_shortest_time_counts_in_every_mode() {
+    let book = books::changed(|book| book.legs[1].2[1][0] = SMALLEST).bytes();
+    let expected = book_answers(DEFAULT, &book);
+    assert_eq!(expected.0[0][0], 0, "rows 1 to 8");
+    for (name, mode, _) in MODES {
+        assert_eq!(book_answers(mode, &book), expected, "{name}");
+    }
 }
 
 extern "C" {
