@@ -1,9 +1,12 @@
 /* print_sheet BOOK [PLACES]: prints the listing of a book's sheet, or `refused N`.
  * PLACES is how many nodes the table has places for, 65,535 if it is left out.
- * Exit status: 0 a sheet, 1 a refusal, 2 wrong words, a file error or no memory. */
+ * Exit status: 0 a sheet, 1 a refusal, also where nobody reads it to its end (a closed pipe); 2 wrong words, a file error, no memory, or standard output
+ * that is closed or full, with a message that names it. */
+#define _POSIX_C_SOURCE 200809L
 #include "keldurap.h"
 
 #include <errno.h>
+#include <signal.h>
 #include <stdio.h>
 #include <stdlib.h>
 #include <string.h>
@@ -22,7 +25,7 @@ struct room {
     size_t places, units;
 };
 
-/* Says what is wrong with a file or with memory. */
+/* Says what is wrong, and with what. */
 static int error(const char *what, const char *why)
 {
     fprintf(stderr, "print_sheet: %s: %s\n", what, why);
@@ -99,6 +102,13 @@ static uint32_t make(struct room *room, const struct book *book, struct keldurap
         report);
 }
 
+/* Writes an answer to standard output, and gives its status. A pipe that nobody reads any more is no error: who reads takes as much as he wants. */
+static int print(const void *answer, size_t length, int status)
+{
+    int written = fwrite(answer, 1, length, stdout) == length && fflush(stdout) == 0;
+    return written || errno == EPIPE ? status : error("standard output", strerror(errno));
+}
+
 /* Prints the listing of a sheet. */
 static int print_listing(const struct room *room, const struct keldurap_report *report)
 {
@@ -108,11 +118,11 @@ static int print_listing(const struct room *room, const struct keldurap_report *
         return error("listing", "no memory");
     uint32_t answer = keldurap_list_sheet(room->floats, KELDURAP_PLACE_FLOATS * room->places, room->numbers, KELDURAP_PLACE_NUMBERS * room->places,
         report, text, size, &length);
-    int status = SHEET;
+    int status;
     if (answer != 0)
-        status = error("listing", answer == 1 ? "the slice is too short" : "the table has fewer nodes");
-    else if (fwrite(text, 1, length, stdout) != length)
-        status = error("standard output", strerror(errno));
+        status = error("listing", answer == KELDURAP_LISTING_SHORT ? "the slice is too short" : "the table has fewer nodes");
+    else
+        status = print(text, length, SHEET);
     free(text);
     return status;
 }
@@ -123,8 +133,8 @@ static int print_sheet(struct room *room, const struct book *book)
     uint32_t number = make(room, book, &report);
     if (number == 0)
         return print_listing(room, &report);
-    printf("refused %u\n", (unsigned)number);
-    return REFUSAL;
+    char text[32];
+    return print(text, (size_t)sprintf(text, "refused %u\n", (unsigned)number), REFUSAL);
 }
 
 /* A book's sheet on a table of so many places. */
@@ -158,8 +168,7 @@ int main(int count, char **words)
         fprintf(stderr, "print_sheet BOOK [PLACES]   (PLACES: 0 to 65535)\n");
         return ERROR;
     }
-    int status = answer(words[1], places);
-    if (fflush(stdout) != 0)
-        return error("standard output", strerror(errno));
-    return status;
+    /* so that writing to a closed pipe is answered by EPIPE and doesn't end the program */
+    signal(SIGPIPE, SIG_IGN);
+    return answer(words[1], places);
 }

@@ -1,5 +1,6 @@
 // The entries for other languages. Each is thin: it calls the proved function of its crate and hands on its answer.
-// include/keldurap.h has the C side. Contracts: specs/Entries.antt.
+// Contracts: specs/Entries.antt. They hold in the default floating-point mode; include/keldurap.h and users/rust call
+// each of these raw entries in it, whatever the caller's is.
 use est_times::Sheet;
 use event_maker::Made;
 use grow_book::GrownBook;
@@ -103,8 +104,8 @@ fn listed_number(answer: Listed) -> u32
 {
     match answer {
         Listed::Bytes(_) => 0,
-        Listed::Short => 1,
-        Listed::Unfilled => 2,
+        Listed::Short => 101,
+        Listed::Unfilled => 102,
     }
 }
 
@@ -122,7 +123,7 @@ fn listed_length(answer: Listed) -> usize
 
 // The square root of x, rounded to nearest, a tie to even.
 #[no_mangle]
-pub extern "C" fn keldurap_root(x: f64) -> f64
+pub extern "C" fn keldurap_raw_root(x: f64) -> f64
     ensures { λ r. ⌜ r ≡ sqrt binary64 x ⌝ }
 {
     root::root(x)
@@ -130,7 +131,7 @@ pub extern "C" fn keldurap_root(x: f64) -> f64
 
 // The number that a book gets by rows 1 to 8, and 0 where none holds. The work space is zero afterwards.
 #[no_mangle]
-pub extern "C" fn keldurap_check_book(
+pub extern "C" fn keldurap_raw_check_book(
     book: &[u8],
     places: usize,
     reals: &mut [f64],
@@ -144,7 +145,7 @@ pub extern "C" fn keldurap_check_book(
 
 // The events of one leg, into a list that is lent in two slices: 0 and how many there are, or the number of a refusal.
 #[no_mangle]
-pub extern "C" fn keldurap_make_events(
+pub extern "C" fn keldurap_raw_make_events(
     train_length: f64,
     samples: &[u8],
     offsets: &[f64],
@@ -165,7 +166,7 @@ pub extern "C" fn keldurap_make_events(
 // refusal. What the slices hold past the nodes is zero afterwards, all of both on a refusal; the work space is zero
 // either way.
 #[no_mangle]
-pub extern "C" fn keldurap_update_times(
+pub extern "C" fn keldurap_raw_update_times(
     floats: &mut [f64],
     numbers: &mut [u32],
     departure: f64,
@@ -185,7 +186,7 @@ pub extern "C" fn keldurap_update_times(
 // The network of a book before its times are known, for tests: 0 and the report's five numbers, or the number of a
 // refusal.
 #[no_mangle]
-pub extern "C" fn keldurap_grow_network(
+pub extern "C" fn keldurap_raw_grow_network(
     book: &[u8],
     floats: &mut [f64],
     numbers: &mut [u32],
@@ -205,7 +206,7 @@ pub extern "C" fn keldurap_grow_network(
 // The sheet of a book in a lent table: 0 and the report's five numbers, or the number of a refusal. Whatever table and
 // work space held, the table has the sheet then, or is zero, and the work space is zero.
 #[no_mangle]
-pub extern "C" fn keldurap_make_est_times(
+pub extern "C" fn keldurap_raw_make_est_times(
     book: &[u8],
     floats: &mut [f64],
     numbers: &mut [u32],
@@ -222,10 +223,10 @@ pub extern "C" fn keldurap_make_est_times(
     sheet_number(sheet)
 }
 
-// The listing of a sheet in a lent slice, by the table and the report: 0 and its length, 1 where the slice is too
-// short, 2 where the table has fewer nodes than the report says; then the slice is zero.
+// The listing of a sheet in a lent slice, by the table and the report: 0 and its length, 101 where the slice is too
+// short, 102 where the table has fewer nodes than the report says; then the slice is zero.
 #[no_mangle]
-pub extern "C" fn keldurap_list_sheet(
+pub extern "C" fn keldurap_raw_list_sheet(
     floats: &[f64],
     numbers: &[u32],
     report: &[usize; 5],

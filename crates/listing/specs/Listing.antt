@@ -148,12 +148,14 @@ pub record TextListed (text : Option (List ℕ)) (lent left : List ℕ) (r : Lis
   pub answer : r ≡ listedAs text (length lent)
   pub bytes : left ≡ bytesLeft text (length lent)
 
--- what a function for other languages says of an answer: a number, 0 where the text stands in the slice, and its length
+-- what a function for other languages says of an answer: a number, 0 where the text stands in the slice, else one that
+-- no refusal has (those of documents 01 and 02 end at 24)
 abbrev pub listedNumber : Listed → ℕ
 listedNumber (Bytes n) = 0
-listedNumber Short = 1
-listedNumber Unfilled = 2
+listedNumber Short = 101
+listedNumber Unfilled = 102
 
+-- and the text's length
 abbrev pub listedLength : Listed → ℕ
 listedLength (Bytes n) = n
 listedLength Short = 0

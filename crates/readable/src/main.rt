@@ -1,5 +1,6 @@
 // Reads a book from standard input and prints the number that it gets by rows 1 to 8, or that it is readable.
 // The limits are those of the program `sheet`: books of 65,536 bytes, 192 nodes, 65,536 bytes of work space.
+use libc::STDERR_FILENO;
 use libc::STDIN_FILENO;
 use libc::STDOUT_FILENO;
 ghost use mathlib.Core.Path.{_≡_};
@@ -15,14 +16,28 @@ fn number(book: &[u8]) -> u32
     book_reader::check_book(book, 192, &mut reals, &mut cells, &mut marks)
 }
 
-fn print_number(n: u32) {
+// Prints the answer; false if not all of it could be written.
+fn print_number(n: u32) -> bool {
     if n == 0 {
-        io::write_all(STDOUT_FILENO, b"readable\n");
-        return;
+        return io::write_all(STDOUT_FILENO, b"readable\n");
     }
-    io::write_all(STDOUT_FILENO, b"refused ");
-    io::print_decimal(STDOUT_FILENO, n as u64);
-    io::write_all(STDOUT_FILENO, b"\n");
+    if !io::write_all(STDOUT_FILENO, b"refused ") {
+        return false;
+    }
+    if !io::print_decimal(STDOUT_FILENO, n as u64) {
+        return false;
+    }
+    io::write_all(STDOUT_FILENO, b"\n")
+}
+
+// Says on standard error if not all was written.
+fn say_unless(written: bool) {
+    if !written {
+        io::write_all(
+            STDERR_FILENO,
+            b"readable: standard output: not all was written\n",
+        );
+    }
 }
 
 fn main() {
@@ -30,8 +45,8 @@ fn main() {
     let n = io::read_full(STDIN_FILENO, &mut space);
     let mut more = [0u8; 1];
     if io::read_full(STDIN_FILENO, &mut more) != 0 {
-        io::write_all(STDOUT_FILENO, b"too long\n");
+        say_unless(io::write_all(STDOUT_FILENO, b"too long\n"));
         return;
     }
-    print_number(number(&space[..n]));
+    say_unless(print_number(number(&space[..n])));
 }

@@ -1,17 +1,14 @@
 -- A book's listing is that of the case that its sheet is.
-use mathlib.Core.Path.{_≡_, refl, sym, ap, _∙_, subst}
+use mathlib.Core.Path.{_≡_, sym, ap, _∙_, subst}
 use mathlib.Core.List.{List}
-use mathlib.Core.Option.{Option, some}
+use mathlib.Core.Option.{some}
 use Prim.Native.Nat.{ℕ}
-use lib.ListN.{length}
 use Rattle.space.specs.Space.{bytesOf}
 use Rattle.report.specs.declared.Report.{Report}
-use Rattle.net_node.specs.Table.{Table}
-use Rattle.net_node.specs.Left.{floatsLeft, numbersLeft}
 use Rattle.net_node.specs.Lent.{Slices, Sizes, sizesOf}
 use Rattle.est_times.specs.declared.Sheet.{Sheet}
 use Rattle.est_times.specs.declared.Sheet.the-variants.{Made, Refused}
-use Rattle.est_times.specs.Sheet.{job, answered, sheetOf, SheetMade}
+use Rattle.est_times.specs.Sheet.{job, answered, SheetMade}
 use Rattle.listing.specs.declared.Listed.{Listed}
 use Rattle.listing.specs.Listing.{refusedText, sheetIn, TextListed}
 use Rattle.sheets.specs.Sheets.{textOf, tableLeft, bookText, programSizes, BookListed}
@@ -29,11 +26,10 @@ module _ {b : List ℕ} {lent left : Slices} {out listing : List ℕ} {r : Liste
   left-is : left .table ≡ tableLeft b (sizesOf lent)
   left-is = λ i. record { floats = l .made .floats i; numbers = l .made .numbers i }
 
-  pub text-is : TextListed (bookText b (sizesOf lent)) out listing r
-  text-is = subst (λ (x : Option (List ℕ)). TextListed x out listing r) (ap (λ (s : Sheet). textOf s (left .table)) (l .made .answer) ∙ ap (textOf (answered (job b (sizesOf lent)))) left-is) (l .written)
+  pub text-is : textOf (l .sheet) (left .table) ≡ bookText b (sizesOf lent)
+  text-is = ap (λ (s : Sheet). textOf s (left .table)) (l .made .answer) ∙ ap (textOf (answered (job b (sizesOf lent)))) left-is
 
 -- slices of the program's sizes
-pub program-text : (b : List ℕ) {out listing : List ℕ} {r : Listed} (f n w c m : ℕ) → TextListed (bookText b (record { floats = f; numbers = n; bytes = bytesOf w c m })) out listing r
-    → f ≡ programSizes .floats → n ≡ programSizes .numbers → w ≡ 3072 → c ≡ 8192 → m ≡ 2048 → TextListed (bookText b programSizes) out listing r
+pub program-sizes : (f n w c m : ℕ) → f ≡ programSizes .floats → n ≡ programSizes .numbers → w ≡ 3072 → c ≡ 8192 → m ≡ 2048 → _≡_ {A = Sizes} (record { floats = f; numbers = n; bytes = bytesOf w c m }) programSizes
 unfolding bytesOf
-program-text b {out} {listing} {r} f n w c m l p q s t u = subst (λ (z : Sizes). TextListed (bookText b z) out listing r) (λ i. record { floats = p i; numbers = q i; bytes = bytesOf (s i) (t i) (u i) }) l
+program-sizes f n w c m p q s t u = λ i. record { floats = p i; numbers = q i; bytes = bytesOf (s i) (t i) (u i) }

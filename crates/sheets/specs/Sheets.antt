@@ -1,8 +1,10 @@
 -- A book's listing in a lent slice: its sheet's, or `refused N`.
 use mathlib.Core.Path.{_≡_}
-use mathlib.Core.List.{List}
+use mathlib.Core.List.{List, _++_}
 use mathlib.Core.Option.{Option, some}
-use Prim.Native.Nat.{ℕ, _*_}
+use Prim.Native.Nat.{ℕ, _-_, _*_}
+use lib.ListN.{length}
+use Rattle.space.specs.Space.{zeros}
 use Rattle.net_node.specs.Table.{floatWidth, numberWidth, Table}
 use Rattle.net_node.specs.Left.{floatsLeft, numbersLeft}
 use Rattle.net_node.specs.Lent.{Slices, Sizes}
@@ -34,3 +36,11 @@ pub record BookListed (b : List ℕ) (lent left : Slices) (out listing : List �
   pub sheet : Sheet
   pub made : SheetMade b lent left sheet
   pub written : TextListed (textOf sheet (left .table)) out listing r
+
+-- What the program `sheet` prints, in an array of 65,536 bytes, which has room for it whatever the book is: there is a
+-- text, the first n bytes are the text, and zeros stand behind it.
+pub record SheetText (b array : List ℕ) (n : ℕ) : Type 0 where
+  pub text : List ℕ
+  pub is : bookText b programSizes ≡ some text
+  pub size : n ≡ length text
+  pub bytes : array ≡ text ++ zeros (65536 - n)

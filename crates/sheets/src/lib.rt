@@ -3,8 +3,7 @@ use est_times::Sheet;
 use libc::STDOUT_FILENO;
 use listing::Listed;
 ghost use Rattle.net_node.specs.Lent.{lentAtEntry, lentAtExit};
-ghost use Rattle.listing.specs.Listing.{TextListed};
-ghost use Rattle.sheets.specs.Sheets.{bookText, programSizes, BookListed};
+ghost use Rattle.sheets.specs.Sheets.{BookListed, SheetText};
 
 // The floats and numbers of 192 nodes.
 const FLOATS: usize = 192 * net_node::FLOAT_WIDTH;
@@ -32,32 +31,37 @@ pub fn list_book(
     }
 }
 
-// What the program `sheet` prints for a book, in a lent slice: 192 nodes and 65,536 bytes of work space.
-pub fn sheet_text(book: &[u8], out: &mut [u8]) -> Listed
-    ensures { λ r. ⌜ TextListed (bookText (now (book .entry)) programSizes) (now (out .entry)) (now (out .exit)) r ⌝ }
+// Writes what the program `sheet` prints for a book, on 192 nodes and 65,536 bytes of work space, into a lent array,
+// which has room for it whatever the book is, and answers how many bytes that is.
+pub fn sheet_text(book: &[u8], text: &mut [u8; 65536]) -> usize
+    ensures { λ n. ⌜ SheetText (now (book .entry)) (now (text .exit)) n ⌝ }
 {
     let mut floats = [0.0f64; FLOATS];
     let mut numbers = [0u32; NUMBERS];
     let mut reals = [0.0f64; 3072];
     let mut cells = [0u32; 8192];
     let mut marks = [0u32; 2048];
-    list_book(
+    let listed = list_book(
         book,
         &mut floats,
         &mut numbers,
         &mut reals,
         &mut cells,
         &mut marks,
-        out,
-    )
+        text,
+    );
+    match listed {
+        Listed::Bytes(n) => n,
+        // proved: never the answer here
+        Listed::Short => 0,
+        Listed::Unfilled => 0,
+    }
 }
 
-// Prints the listing of a book's sheet, or of its refusal, which is first put into a slice.
-pub fn print_sheet(book: &[u8], text: &mut [u8]) {
-    let Listed::Bytes(n) = sheet_text(book, text) else {
-        return;
-    };
-    if n <= text.len() {
-        io::write_all(STDOUT_FILENO, &text[..n]);
-    }
+// Prints the listing of a book's sheet, or of its refusal: the bytes of `sheet_text`. False if not all of them could be
+// written.
+pub fn print_sheet(book: &[u8]) -> bool {
+    let mut text = io::large_buffer();
+    let n = sheet_text(book, &mut text);
+    io::write_all(STDOUT_FILENO, &text[..n])
 }

@@ -3,7 +3,8 @@
 use libc::STDIN_FILENO;
 use libc::STDOUT_FILENO;
 
-// Answers the book of so many bytes that comes next, which is read into a slice; false if it is longer than that.
+// Answers the book of so many bytes that comes next, which is read into a slice; false if it is longer than that, or if
+// the answer could not be written.
 fn answer_book(space: &mut [u8], size: usize) -> bool {
     if space.len() < size {
         return false;
@@ -12,9 +13,7 @@ fn answer_book(space: &mut [u8], size: usize) -> bool {
     if space.len() < n {
         return false;
     }
-    let mut text = io::large_buffer();
-    sheets::print_sheet(&space[..n], &mut text);
-    true
+    sheets::print_sheet(&space[..n])
 }
 
 // Whether a book was there and was answered.

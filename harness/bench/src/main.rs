@@ -66,7 +66,7 @@ fn nodes(sidings: usize) -> usize {
 }
 
 fn whole(bench: &Bench) {
-    let how = "keldurap_make_est_times. All that is lent is zero before each call, left so by the one before, and is made zero all the same. Work space as row 3 asks.";
+    let how = "keldurap_raw_make_est_times. All that is lent is zero before each call, left so by the one before, and is made zero all the same. Work space as row 3 asks.";
     let mut lines = bench.group("lines of sidings, places as nodes", how);
     for count in [10, 100, 1_000, 7_000] {
         lines.size(&format!("a line of {count} sidings"), nodes(count), || timers::fitted(&sidings::book(count)));
@@ -100,11 +100,11 @@ fn whole(bench: &Bench) {
 }
 
 fn parts(bench: &Bench) {
-    let mut growth = bench.group("growing a book, 65,535 places", "keldurap_grow_network, for tests: no passes.");
+    let mut growth = bench.group("growing a book, 65,535 places", "keldurap_raw_grow_network, for tests: no passes.");
     for count in [70, 700, 7_000] {
         growth.size(&format!("a line of {count} sidings"), nodes(count), || timers::growth(&sidings::book(count)));
     }
-    let mut passes = bench.group("timing a node table", "keldurap_update_times. The reference without the count of index lookups by which the harness tells an endless walk.");
+    let mut passes = bench.group("timing a node table", "keldurap_raw_update_times. The reference without the count of index lookups by which the harness tells an endless walk.");
     passes.case("a line of 60,000 events", || timers::passes(&[tables::line(60_000)]));
     passes.case("1,000 runs of 58 events, an end each", || timers::passes(&[tables::runs(1_000, 58)]));
     passes.case("1,000 runs of 57 events that meet", || timers::passes(&[tables::meeting(1_000, 57)]));
@@ -112,13 +112,13 @@ fn parts(bench: &Bench) {
     for count in [70, 700, 7_000] {
         passes.size(&format!("the network of {count} sidings, {} nodes", nodes(count)), nodes(count), || timers::passes(&[timers::network(&sidings::book(count))]));
     }
-    let mut events = bench.group("event lists", "keldurap_make_events. The reference's is the same tests but 12, and the published function.");
+    let mut events = bench.group("event lists", "keldurap_raw_make_events. The reference's is the same tests but 12, and the published function.");
     events.case("1,000,000 samples, 1,000 points", || timers::events(&[lists::even(1_000_000, 1_000)]));
     events.case("1,000,000 samples, 65,536 points", || timers::events(&[lists::even(1_000_000, 65_536)]));
     events.case("65,536 points between two samples", || timers::events(&[lists::even(2, 65_536)]));
     events.case("1,000 lists of 30 samples and 6 points", || timers::events(&vec![lists::even(30, 6); 1_000]));
     events.case("accepted ones of 10,000 random lists", || timers::events(&lists::accepted(10_000)));
-    let mut reading = bench.group("reading a book", "keldurap_check_book. The reference's is its reading into vectors, rows 1 to 7.");
+    let mut reading = bench.group("reading a book", "keldurap_raw_check_book. The reference's is its reading into vectors, rows 1 to 7.");
     for places in [192, 65_535] {
         reading.case(&format!("largest, legs in a chain, {places} places"), || timers::reading(&large::chain(), places));
         reading.case(&format!("largest, legs under one parent, {places} places"), || timers::reading(&large::fan(), places));
@@ -126,7 +126,7 @@ fn parts(bench: &Bench) {
     for legs in [1_000, 10_000] {
         reading.size(&format!("{legs} legs in a chain, 192 places"), legs, || timers::reading(&large::book(legs, 15, true), 192));
     }
-    let mut roots = bench.group("409,600 roots", "keldurap_root; beside it the machine's instruction.");
+    let mut roots = bench.group("409,600 roots", "keldurap_raw_root; beside it the machine's instruction.");
     roots.case("roots", || timers::roots(false));
     roots.case("roots, each of the one before", || timers::roots(true));
 }

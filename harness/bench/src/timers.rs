@@ -30,7 +30,7 @@ fn took<T>(work: impl FnOnce() -> T) -> Duration {
     start.elapsed()
 }
 
-/// The whole job on books, one after the other in one table of so many places and the work space that the largest asks for: ours is the whole of `keldurap_make_est_times`, in which table and
+/// The whole job on books, one after the other in one table of so many places and the work space that the largest asks for: ours is the whole of `keldurap_raw_make_est_times`, in which table and
 /// work space are made zero; the reference's is its reading and the published function into vectors of its own.
 pub fn sheets(books: &[Vec<u8>], places: usize) -> Times {
     let mut room = Room::default();
@@ -61,7 +61,7 @@ pub fn clearing(bytes: &[u8], places: usize) -> Times {
     best(|| took(|| room.call(Entry::Make, bytes)), || took(|| cleared(&mut other)))
 }
 
-/// Growth alone, in a table of 65,535 places: ours is the whole of `keldurap_grow_network`, the reference's is its reading and the published function up to the checks.
+/// Growth alone, in a table of 65,535 places: ours is the whole of `keldurap_raw_grow_network`, the reference's is its reading and the published function up to the checks.
 pub fn growth(bytes: &[u8]) -> Times {
     let mut room = Room::default();
     room.lend(Lengths::of(65_535, replay::books::asked(bytes, 65_535)));
@@ -78,7 +78,7 @@ pub fn network(bytes: &[u8]) -> Vec<u8> {
     room.item(report[0])
 }
 
-/// Node tables: ours is the whole of `keldurap_update_times`, the reference's is rows 4 and 5, the checks and both passes.
+/// Node tables: ours is the whole of `keldurap_raw_update_times`, the reference's is rows 4 and 5, the checks and both passes.
 pub fn passes(items: &[Vec<u8>]) -> Times {
     let lent: Vec<_> = items.iter().map(|item| replay::tables::Lent::new(item)).collect();
     let mut work = replay::books::Work::default();
@@ -93,7 +93,7 @@ pub fn passes(items: &[Vec<u8>]) -> Times {
     best(|| lent.iter().map(&mut one).sum(), || items.iter().map(|item| uncounted::time_table(item).0).sum())
 }
 
-/// Event lists: ours is the whole of `keldurap_make_events`; the reference's is the same tests but 12, and `update_est_times_add` into its own vector.
+/// Event lists: ours is the whole of `keldurap_raw_make_events`; the reference's is the same tests but 12, and `update_est_times_add` into its own vector.
 pub fn events(items: &[Vec<u8>]) -> Times {
     let mut lent: Vec<_> = items.iter().map(|item| replay::events::Lent::new(item)).collect();
     for (lent, item) in lent.iter_mut().zip(items) {

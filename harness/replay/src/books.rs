@@ -3,7 +3,7 @@ use generator::{book, limits, BookItem};
 use std::collections::BTreeMap;
 
 extern "C" {
-    fn keldurap_check_book(
+    fn keldurap_raw_check_book(
         book: *const u8,
         book_len: usize,
         places: usize,
@@ -70,7 +70,7 @@ pub fn asked(bytes: &[u8], places: usize) -> u64 {
 pub fn number_in(work: &mut Work, bytes: &[u8], places: usize) -> u32 {
     // Pointers and lengths are those of slices that nothing else uses during the call.
     unsafe {
-        keldurap_check_book(
+        keldurap_raw_check_book(
             bytes.as_ptr(),
             bytes.len(),
             places,

@@ -4,7 +4,7 @@ use std::fmt::Write as _;
 use std::io;
 
 extern "C" {
-    fn keldurap_make_events(
+    fn keldurap_raw_make_events(
         length: f64,
         samples: *const u8,
         samples_len: usize,
@@ -53,7 +53,7 @@ impl Lent {
         let mut count = [u32::MAX];
         // Pointers and lengths are those of vectors that nothing else uses during the call.
         let number = unsafe {
-            keldurap_make_events(
+            keldurap_raw_make_events(
                 self.length,
                 self.samples.as_ptr(),
                 self.samples.len(),

@@ -1,4 +1,5 @@
-//! Drives the proved static library, and holds it to outside answers.
+//! Drives the proved static library, and holds it to outside answers. It calls the archive's own functions, `keldurap_raw_..`, which compute in the
+//! caller's floating-point mode: this process never leaves the default one.
 pub mod books;
 pub mod events;
 pub mod jobs;

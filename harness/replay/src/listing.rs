@@ -2,7 +2,7 @@
 use crate::{FLOATS, NUMBERS};
 
 extern "C" {
-    fn keldurap_list_sheet(
+    fn keldurap_raw_list_sheet(
         floats: *const f64,
         floats_len: usize,
         numbers: *const u32,
@@ -14,12 +14,16 @@ extern "C" {
     ) -> u32;
 }
 
+/// Its answers where there is no listing: the slice is too short, or the table has fewer nodes than the report says.
+const SHORT: u32 = 101;
+const UNFILLED: u32 = 102;
+
 /// The library's answer, all of a lent slice of so many bytes, and the length.
 fn listed(floats: &[f64], numbers: &[u32], report: [usize; 5], size: usize) -> (u32, Vec<u8>, usize) {
     let (mut out, mut length) = (vec![0xa5; size], usize::MAX);
     // Pointers and lengths are those of slices that nothing else uses during the call.
     let answer = unsafe {
-        keldurap_list_sheet(
+        keldurap_raw_list_sheet(
             floats.as_ptr(),
             floats.len(),
             numbers.as_ptr(),
@@ -34,7 +38,7 @@ fn listed(floats: &[f64], numbers: &[u32], report: [usize; 5], size: usize) -> (
 }
 
 /// Whether the library lists a sheet as the text does: into a slice of the text's size, with zeros behind it into a longer one,
-/// with 1 and zeros alone into one that is a byte short, and with 2 and zeros alone from a table of which either slice is an element short.
+/// with zeros alone into one that is a byte short, and from a table of which either slice is an element short.
 pub fn is_listed(floats: &[f64], numbers: &[u32], report: [usize; 5], text: &[u8]) -> bool {
     let (nodes, size) = (report[0], text.len());
     let whole = |more: usize| {
@@ -46,8 +50,8 @@ pub fn is_listed(floats: &[f64], numbers: &[u32], report: [usize; 5], text: &[u8
     };
     whole(0)
         && whole(9)
-        && none(1, floats, numbers, size - 1)
-        && none(1, floats, numbers, 0)
-        && none(2, &floats[..FLOATS * nodes - 1], numbers, size)
-        && none(2, floats, &numbers[..NUMBERS * nodes - 1], size)
+        && none(SHORT, floats, numbers, size - 1)
+        && none(SHORT, floats, numbers, 0)
+        && none(UNFILLED, &floats[..FLOATS * nodes - 1], numbers, size)
+        && none(UNFILLED, floats, &numbers[..NUMBERS * nodes - 1], size)
 }

@@ -24,14 +24,14 @@ macro_rules! entries {
     };
 }
 
-entries! { keldurap_grow_network keldurap_make_est_times }
+entries! { keldurap_raw_grow_network keldurap_raw_make_est_times }
 
 /// An entry that takes a book to nodes.
 #[derive(Clone, Copy)]
 pub enum Entry {
-    /// `keldurap_grow_network`
+    /// `keldurap_raw_grow_network`
     Grow,
-    /// `keldurap_make_est_times`
+    /// `keldurap_raw_make_est_times`
     Make,
 }
 
@@ -79,8 +79,8 @@ impl Room {
     /// The entry's number, and its report: nodes, added, splits, joined, finished.
     pub fn call(&mut self, entry: Entry, bytes: &[u8]) -> (u32, [usize; 5]) {
         let entry = match entry {
-            Entry::Grow => keldurap_grow_network,
-            Entry::Make => keldurap_make_est_times,
+            Entry::Grow => keldurap_raw_grow_network,
+            Entry::Make => keldurap_raw_make_est_times,
         };
         let work = &mut self.work;
         let mut report = [usize::MAX; 5];
@@ -119,7 +119,7 @@ impl Room {
         self.work.reals.fill(0.0);
     }
 
-    /// The first nodes as an item for `keldurap_update_times`, with a departure of 0.
+    /// The first nodes as an item for `keldurap_raw_update_times`, with a departure of 0.
     pub fn item(&self, nodes: usize) -> Vec<u8> {
         let mut item = vec![0; 8];
         for (floats, numbers) in self.floats.chunks(FLOATS).zip(self.numbers.chunks(NUMBERS)).take(nodes) {

@@ -5,7 +5,7 @@ use std::io::{self, BufWriter, Read, Write};
 const NAN: u64 = 0x7ff8_0000_0000_0000;
 
 extern "C" {
-    fn keldurap_root(x: f64) -> f64;
+    fn keldurap_raw_root(x: f64) -> f64;
 }
 
 /// One pattern for every NaN. `black_box`, since rustc has been seen to drop the test and keep the raw pattern.
@@ -21,7 +21,7 @@ fn pattern(x: f64) -> u64 {
 /// The library's root.
 pub fn root(x: f64) -> f64 {
     // The function takes any f64, and is proved for every one.
-    unsafe { keldurap_root(x) }
+    unsafe { keldurap_raw_root(x) }
 }
 
 /// The library's root of a pattern.

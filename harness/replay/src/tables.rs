@@ -8,7 +8,7 @@ use std::fmt::Write as _;
 use std::io;
 
 extern "C" {
-    fn keldurap_update_times(
+    fn keldurap_raw_update_times(
         floats: *mut f64,
         floats_len: usize,
         numbers: *mut u32,
@@ -61,7 +61,7 @@ impl Lent {
         let mut nodes = [u32::MAX];
         // Pointers and lengths are those of vectors that nothing else uses during the call.
         let number = unsafe {
-            keldurap_update_times(
+            keldurap_raw_update_times(
                 self.floats.as_mut_ptr(),
                 self.floats.len(),
                 self.numbers.as_mut_ptr(),

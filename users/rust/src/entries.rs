@@ -1,4 +1,5 @@
 //! The entries over books and node tables.
+use crate::mode::in_default_mode;
 use crate::sys::{self, FromBook};
 use crate::{Refusal, Table, WorkSpace};
 
@@ -15,18 +16,18 @@ pub struct Report {
 
 /// The sheet of a book, into the table. On a refusal (1 to 16) the table is zero.
 pub fn make_est_times(book: &[u8], table: &mut Table, work: &mut WorkSpace) -> Result<Report, Refusal> {
-    run(sys::keldurap_make_est_times, book, table, work)
+    run(sys::keldurap_raw_make_est_times, book, table, work)
 }
 
 /// The network of a book before its times are known, for tests. On a refusal (1 to 13) the table is zero.
 pub fn grow_network(book: &[u8], table: &mut Table, work: &mut WorkSpace) -> Result<Report, Refusal> {
-    run(sys::keldurap_grow_network, book, table, work)
+    run(sys::keldurap_raw_grow_network, book, table, work)
 }
 
 fn run(entry: FromBook, book: &[u8], table: &mut Table, work: &mut WorkSpace) -> Result<Report, Refusal> {
     let mut report = Report::default();
     // SAFETY: pointers and lengths are those of slices; the borrows keep them and the report apart from each other and from all else.
-    let number = unsafe {
+    let number = in_default_mode(|| unsafe {
         entry(
             book.as_ptr(),
             book.len(),
@@ -42,7 +43,7 @@ fn run(entry: FromBook, book: &[u8], table: &mut Table, work: &mut WorkSpace) ->
             work.marks.len(),
             &mut report,
         )
-    };
+    });
     table.nodes = report.nodes.min(table.places());
     Refusal::unless_zero(number).map(|()| report)
 }
@@ -50,8 +51,8 @@ fn run(entry: FromBook, book: &[u8], table: &mut Table, work: &mut WorkSpace) ->
 /// Whether rows 1 to 8 hold of a book that is to be lent a table of so many places.
 pub fn check_book(book: &[u8], places: usize, work: &mut WorkSpace) -> Result<(), Refusal> {
     // SAFETY: as above.
-    let number = unsafe {
-        sys::keldurap_check_book(
+    let number = in_default_mode(|| unsafe {
+        sys::keldurap_raw_check_book(
             book.as_ptr(),
             book.len(),
             places,
@@ -62,7 +63,7 @@ pub fn check_book(book: &[u8], places: usize, work: &mut WorkSpace) -> Result<()
             work.marks.as_mut_ptr(),
             work.marks.len(),
         )
-    };
+    });
     Refusal::unless_zero(number)
 }
 
@@ -71,8 +72,8 @@ pub fn update_times(table: &mut Table, departure: f64, work: &mut WorkSpace) -> 
     let (floats, numbers) = table.filled_mut();
     let mut nodes = 0;
     // SAFETY: as above.
-    let number = unsafe {
-        sys::keldurap_update_times(
+    let number = in_default_mode(|| unsafe {
+        sys::keldurap_raw_update_times(
             floats.as_mut_ptr(),
             floats.len(),
             numbers.as_mut_ptr(),
@@ -86,7 +87,7 @@ pub fn update_times(table: &mut Table, departure: f64, work: &mut WorkSpace) -> 
             work.marks.len(),
             &mut nodes,
         )
-    };
+    });
     table.nodes = table.nodes.min(nodes as usize);
     Refusal::unless_zero(number)
 }

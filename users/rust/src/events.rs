@@ -1,5 +1,6 @@
 //! The event maker.
-use crate::{sys, Kind, Refusal};
+use crate::mode::in_default_mode;
+use crate::{sys, Kind, Refusal, EVENTS_MAX, POINTS_MAX, SAMPLES_MAX};
 
 /// Where a train's front is, how fast, and when: s, m, m/s.
 #[derive(Clone, Copy, Debug, PartialEq)]
@@ -27,15 +28,18 @@ pub struct Event {
 }
 
 /// The events of one leg along the points of its path, or a refusal: 3, 4, 7, 11, and 12 if there are more than `places`.
+/// Nothing is lent beyond what can matter: one sample or point more than there may be gets 3, and no call has more than [`EVENTS_MAX`] events.
 pub fn make_events(train_length: f64, samples: &[Sample], points: &[Point], places: usize) -> Result<Vec<Event>, Refusal> {
-    let samples: Vec<u8> = samples.iter().flat_map(|s| [s.time, s.offset, s.speed]).flat_map(f64::to_le_bytes).collect();
-    let (offsets, links): (Vec<f64>, Vec<u32>) = points.iter().map(|point| (point.offset, point.link)).unzip();
-    let mut floats = vec![0.0; places.saturating_mul(3)];
-    let mut numbers = vec![0; places.saturating_mul(2)];
+    let samples = samples.iter().take(SAMPLES_MAX + 1).flat_map(|s| [s.time, s.offset, s.speed]);
+    let samples: Vec<u8> = samples.flat_map(f64::to_le_bytes).collect();
+    let (offsets, links): (Vec<f64>, Vec<u32>) = points.iter().take(POINTS_MAX + 1).map(|point| (point.offset, point.link)).unzip();
+    let places = places.min(EVENTS_MAX);
+    let mut floats = vec![0.0; 3 * places];
+    let mut numbers = vec![0; 2 * places];
     let mut count = 0;
     // SAFETY: pointers and lengths are those of vectors that nothing else uses during the call.
-    let number = unsafe {
-        sys::keldurap_make_events(
+    let number = in_default_mode(|| unsafe {
+        sys::keldurap_raw_make_events(
             train_length,
             samples.as_ptr(),
             samples.len(),
@@ -49,7 +53,7 @@ pub fn make_events(train_length: f64, samples: &[Sample], points: &[Point], plac
             numbers.len(),
             &mut count,
         )
-    };
+    });
     Refusal::unless_zero(number)?;
     let rows = floats.chunks_exact(3).zip(numbers.chunks_exact(2)).take(count as usize);
     Ok(rows.map(|(floats, numbers)| event(floats, numbers)).collect())

@@ -19,10 +19,14 @@
 //! ```
 //!
 //! Table and work space may be kept from call to call: whatever they held, an answer depends on the book and on their sizes alone.
+//!
+//! No function panics, whatever it is given, unless there is no memory for what a `new`, a listing or an event list needs (some megabytes at most). Whatever
+//! floating-point mode the caller is in, every call computes in the default mode, and gives the caller its mode and exception flags back.
 
 mod entries;
 mod events;
 mod listing;
+mod mode;
 mod refusal;
 mod sys;
 mod table;
@@ -51,8 +55,14 @@ pub const PLACES_MAX: usize = 65_535;
 /// The most units of work space that row 3 can ask for.
 pub const UNITS_MAX: usize = work::UNITS_MIN + LINKS_MAX + ORIGINS_MAX + DESTINATIONS_MAX + LEGS_MAX + PLACES_MAX;
 
+/// The most events that [`make_events`] can give: two at each point but the last.
+pub const EVENTS_MAX: usize = 2 * (POINTS_MAX - 1);
+
+/// The most points that a path may have for [`make_events`].
+pub const POINTS_MAX: usize = 65_536;
+
 /// The square root of x, rounded to nearest, a tie to even (IEEE 754 binary64), for every x.
 pub fn root(x: f64) -> f64 {
     // SAFETY: the function takes every f64.
-    unsafe { sys::keldurap_root(x) }
+    mode::in_default_mode(|| unsafe { sys::keldurap_raw_root(x) })
 }

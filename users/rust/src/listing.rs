@@ -1,4 +1,5 @@
 //! The listing of a sheet.
+use crate::mode::in_default_mode;
 use crate::{sys, Report, Table};
 use std::error::Error;
 use std::fmt;
@@ -23,9 +24,9 @@ impl fmt::Display for NotListed {
 
 impl Error for NotListed {}
 
-/// The longest listing of a sheet of so many nodes, in bytes.
+/// The longest listing of a sheet of so many nodes, in bytes; `usize::MAX` for more than memory could hold.
 pub const fn listing_max(nodes: usize) -> usize {
-    65 + 106 * nodes
+    nodes.saturating_mul(106).saturating_add(65)
 }
 
 /// The longest head and line of any table and report, whose numbers may have every size, up to ten digits for a node.
@@ -37,8 +38,8 @@ pub fn list_sheet<'a>(table: &Table, report: &Report, out: &'a mut [u8]) -> Resu
     let (floats, numbers) = table.filled();
     let mut length = 0;
     // SAFETY: pointers and lengths are those of slices; the borrows keep `out` and `length` apart from all else.
-    let answer = unsafe {
-        sys::keldurap_list_sheet(
+    let answer = in_default_mode(|| unsafe {
+        sys::keldurap_raw_list_sheet(
             floats.as_ptr(),
             floats.len(),
             numbers.as_ptr(),
@@ -48,11 +49,12 @@ pub fn list_sheet<'a>(table: &Table, report: &Report, out: &'a mut [u8]) -> Resu
             out.len(),
             &mut length,
         )
-    };
+    });
     match answer {
-        0 => Ok(std::str::from_utf8(&out[..length]).expect("a listing is ASCII")),
-        1 => Err(NotListed::Short),
-        _ => Err(NotListed::Unfilled),
+        0 => Ok(std::str::from_utf8(&out[..length]).expect("proved: as many bytes of ASCII as `length` says")),
+        sys::LISTING_SHORT => Err(NotListed::Short),
+        sys::TABLE_UNFILLED => Err(NotListed::Unfilled),
+        _ => unreachable!("proved: no other answer"),
     }
 }
 

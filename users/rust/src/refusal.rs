@@ -40,7 +40,7 @@ impl Refusal {
 
     /// What the row means, in a line.
     pub fn meaning(self) -> &'static str {
-        MEANINGS.get(self.0 as usize - 1).copied().unwrap_or("no row has this number")
+        MEANINGS.get((self.0 as usize).wrapping_sub(1)).copied().unwrap_or("no row has this number")
     }
 }
 

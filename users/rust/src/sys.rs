@@ -1,4 +1,4 @@
-//! The functions of libkeldurap.a, as include/keldurap.h declares them.
+//! The archive's own functions, as include/keldurap.h declares them. They compute in the caller's floating-point mode: each is called by `mode::in_default_mode`.
 use crate::Report;
 
 /// An entry from a book to nodes: book, table, work space, report.
@@ -40,12 +40,16 @@ macro_rules! from_book {
     };
 }
 
-from_book! { keldurap_grow_network keldurap_make_est_times }
+/// Why there is no listing: the slice is too short, or the table has fewer nodes than the report says (include/keldurap.h).
+pub const LISTING_SHORT: u32 = 101;
+pub const TABLE_UNFILLED: u32 = 102;
+
+from_book! { keldurap_raw_grow_network keldurap_raw_make_est_times }
 
 extern "C" {
-    pub fn keldurap_root(x: f64) -> f64;
+    pub fn keldurap_raw_root(x: f64) -> f64;
 
-    pub fn keldurap_check_book(
+    pub fn keldurap_raw_check_book(
         book: *const u8,
         book_len: usize,
         places: usize,
@@ -57,7 +61,7 @@ extern "C" {
         marks_len: usize,
     ) -> u32;
 
-    pub fn keldurap_make_events(
+    pub fn keldurap_raw_make_events(
         train_length: f64,
         samples: *const u8,
         samples_len: usize,
@@ -72,7 +76,7 @@ extern "C" {
         count: *mut u32,
     ) -> u32;
 
-    pub fn keldurap_update_times(
+    pub fn keldurap_raw_update_times(
         floats: *mut f64,
         floats_len: usize,
         numbers: *mut u32,
@@ -87,7 +91,7 @@ extern "C" {
         nodes: *mut u32,
     ) -> u32;
 
-    pub fn keldurap_list_sheet(
+    pub fn keldurap_raw_list_sheet(
         floats: *const f64,
         floats_len: usize,
         numbers: *const u32,

@@ -116,11 +116,12 @@ impl Table {
     }
 }
 
-/// A table of one's own: just as many places as nodes.
+/// A table of one's own: just as many places as nodes. One node more than a table may have is still taken, so that [`update_times`](crate::update_times)
+/// refuses such a table with 3; what comes behind it is not.
 impl FromIterator<Node> for Table {
     fn from_iter<I: IntoIterator<Item = Node>>(nodes: I) -> Table {
         let mut table = Table::default();
-        for node in nodes {
+        for node in nodes.into_iter().take(PLACES_MAX + 1) {
             table.floats.extend([node.time, node.time_to_next, node.dist_to_next, node.speed]);
             table.numbers.extend([node.next, node.next_alt, node.prev, node.prev_alt, node.link, node.kind as u32]);
             table.nodes += 1;
