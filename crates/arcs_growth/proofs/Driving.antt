@@ -246,8 +246,10 @@ module _ {b : List ℕ} (r : Read b) where
           waits = f .waits;
           at-event = d .others;
           notes = (
-            (record { from = inr (has-real b (at (net .table)) (net .nodes) (a .last) (run .place .«idx_prev») (a .here) (a .real)); to = inl refl },
-            inl (record { run = inl (fin, last-here a); to = refl; time = refl; distance = refl })),
+            (
+              record { from = inr (has-real b (at (net .table)) (net .nodes) (a .last) (run .place .«idx_prev») (a .here) (a .real)); to = inl refl },
+              inl (record { run = inl (fin, last-here a); to = refl; time = refl; distance = refl }),
+            ),
             notes-on b (at (net .table)) (net .nodes) (run ∷ saved) saved (net .runs) (soFar run ∷ net .runs) (out-more b (soFar run) (net .runs)) (covers-end b (soFar run) (soFar run) (no-further b (soFar run)) saved (net .runs)) (net .noted) (d .notes),
           );
           taken = (record { taken = a .taken; visits = visits-here a }, d .taken);

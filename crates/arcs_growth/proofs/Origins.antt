@@ -214,10 +214,13 @@ module _ {b : List ℕ} (r : Read b) (places : ℕ) (idx : ℕ) (kept : memberOf
           where
             go : (a .net .noted ≡ net .noted) ⊎ (a .net .noted ≡ arcTo (originRun b .place) x (arrive b link) ∷ net .noted) → All Noted (a .net .noted)
             go (inl e) = subst (All Noted) (sym e) old-notes
-            go (inr e) = subst (All Noted) (sym e) ((
-              record { from = inl refl; to = inr (has-real b (at (c .net .table)) (c .net .nodes) (arrive b link) x has-arrive-then refl) },
-              inr (inl (record { idx = idx; kept = kept; run = inl first-here; from = refl; to-event = has-arrive-then .event; time = refl; distance = refl })),
-            ), old-notes)
+            go (inr e) = subst (All Noted) (sym e) (
+              (
+                record { from = inl refl; to = inr (has-real b (at (c .net .table)) (c .net .nodes) (arrive b link) x has-arrive-then refl) },
+                inr (inl (record { idx = idx; kept = kept; run = inl first-here; from = refl; to-event = has-arrive-then .event; time = refl; distance = refl })),
+              ),
+              old-notes,
+            )
 
         leads-here : LeadsOn (runEventsTo b (suc k)) (c .run .nodes) (arcTo (a .run .place) y (clear b link))
         unfolding arcTo
@@ -232,13 +235,16 @@ module _ {b : List ℕ} (r : Read b) (places : ℕ) (idx : ℕ) (kept : memberOf
           where
             go : (c .net .noted ≡ a .net .noted) ⊎ (c .net .noted ≡ arcTo (a .run .place) y (clear b link) ∷ a .net .noted) → All Noted (c .net .noted)
             go (inl e) = subst (All Noted) (sym e) arrive-notes
-            go (inr e) = subst (All Noted) (sym e) ((
-              record {
-                from = inr (has-real b (at (c .net .table)) (c .net .nodes) (arrive b link) x has-arrive-then refl);
-                to = inr (has-real b (at (c .net .table)) (c .net .nodes) (clear b link) y has-clear refl);
-              },
-              inr (inr (inl leads-here)),
-            ), arrive-notes)
+            go (inr e) = subst (All Noted) (sym e) (
+              (
+                record {
+                  from = inr (has-real b (at (c .net .table)) (c .net .nodes) (arrive b link) x has-arrive-then refl);
+                  to = inr (has-real b (at (c .net .table)) (c .net .nodes) (clear b link) y has-clear refl);
+                },
+                inr (inr (inl leads-here)),
+              ),
+              arrive-notes,
+            )
 
         -- the leg is new among the saved runs', as its link is
         origin-kids : Kids b 0 (legCount (onLeg (c .run) (suc k) false ∷ saved))

@@ -127,8 +127,8 @@ module _ {b : List ℕ} {places : ℕ} {net : Net} {run : Run} {saved : List Run
         notes = (
           (ends-next (d .at-event) n (j .kept) target there real, inr (inr (some-ended (λ (r : EndedRun). LeadsOn (runEventsTo b (r .leg)) (r .nodes) (arcTo (run .place) target e)) saved (net .runs) ended (leads-next (d .at-event) target)))),
           notes-on b (at (more .table)) (more .nodes) (run ∷ saved) saved (net .runs) (ended ∷ net .runs) (out-more b ended (net .runs))
-          (covers-end b (soFar run) ended (nodes-further b (soFar run) ended refl (target ∷ []) refl) saved (net .runs)) (net .noted)
-          (notes-more b (at (net .table)) (at (more .table)) some-nodes n (j .kept) (run ∷ saved) (net .runs) (net .noted) (d .notes)),
+              (covers-end b (soFar run) ended (nodes-further b (soFar run) ended refl (target ∷ []) refl) saved (net .runs)) (net .noted)
+              (notes-more b (at (net .table)) (at (more .table)) some-nodes n (j .kept) (run ∷ saved) (net .runs) (net .noted) (d .notes)),
         );
         taken = (
           record { taken = d .at-event .taken; visits = visits-next at-event target there },
