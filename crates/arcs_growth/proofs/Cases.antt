@@ -5,7 +5,7 @@ use mathlib.Core.Bool.{Bool, true, false}
 use mathlib.Core.List.{List, [], _∷_}
 use Prim.Native.Nat.{ℕ, zero, suc}
 use native.Mathlib.Omega.{arith}
-use lib.Ieee.{binary64, ofBits, toBits}
+use lib.Ieee.{binary64, ofBits, toBits, sub}
 use Rattle.laws.proofs.Truth.{not-both}
 use Rattle.net_node.specs.declared.EstType.the-variants.{Arrive, Clear}
 use Rattle.net_node.specs.declared.EstTime.{EstTime}
@@ -108,6 +108,7 @@ arcWith from to time distance = record { from = from; to = to; time = ofBits bin
 
 -- the second arc: from node 3 to node 5 in 2 s over 2 m
 leads-second : LeadsOn events nodes (arcWith 3 5 two two)
+unfolding ofBits sub
 leads-second = inr (inl (record { from = refl; to = refl; time = refl; distance = refl }))
 
 -- not from the first to the third
@@ -118,6 +119,7 @@ leads-not-over (inr (inr d)) = d
 
 -- not with another time
 leads-not-timed : LeadsOn events nodes (arcWith 3 5 one two) → ⊥
+unfolding ofBits sub toBits
 leads-not-timed (inl d) = let e = d .from in omega arith
 leads-not-timed (inr (inl d)) = let e : one ≡ two = ap (toBits binary64) (d .time) in omega arith
 leads-not-timed (inr (inr d)) = d
@@ -174,9 +176,11 @@ ends-not-outside d = go (d .to)
 
 -- a finish that takes time, or leads over some way, or to a node
 out-not-timed : (b : List ℕ) (runs : List EndedRun) → LeadsOut b runs (arcWith 5 0 one 0) → ⊥
+unfolding ofBits toBits
 out-not-timed b runs o = let e : one ≡ 0 = ap (toBits binary64) (o .time) in omega arith
 
 out-not-far : (b : List ℕ) (runs : List EndedRun) → LeadsOut b runs (arcWith 5 0 0 one) → ⊥
+unfolding ofBits toBits
 out-not-far b runs o = let e : one ≡ 0 = ap (toBits binary64) (o .distance) in omega arith
 
 out-not-node : (b : List ℕ) (runs : List EndedRun) → LeadsOut b runs (arcWith 5 4 0 0) → ⊥
