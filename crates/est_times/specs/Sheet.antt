@@ -34,7 +34,13 @@ job b z = andThen (network b z) (timedFrom b)
 
 -- "a report of nodes, added (origins' nodes included), splits, joined, finished"
 abbrev pub reportOf : Grown → Report
-reportOf g = record { nodes = g .nodes; added = g .added; splits = g .splits; joined = g .joined; finished = g .finished }
+reportOf g = record {
+  nodes = g .nodes;
+  added = g .added;
+  splits = g .splits;
+  joined = g .joined;
+  finished = g .finished;
+}
 
 abbrev pub answered : Answer Finished → Sheet
 answered (refused k) = Refused k

@@ -34,5 +34,6 @@ grownReport (Stopped k) = noReport
 pub record NetworkGrown (b : List ℕ) (lent left : Slices) (r : GrownBook) : Type 0 where
   pub answer : r ≡ counted (network b (sizesOf lent))
   pub floats : left .table .floats ≡ floatsLeft (nodesGrown (network b (sizesOf lent))) (length (lent .table .floats))
-  pub numbers : left .table .numbers ≡ numbersLeft (nodesGrown (network b (sizesOf lent))) (length (lent .table .numbers))
+  pub numbers : left .table .numbers ≡ numbersLeft (nodesGrown (network b (sizesOf lent)))
+      (length (lent .table .numbers))
   pub work : Cleared (lent .work) (left .work)

@@ -138,7 +138,8 @@ pub extern "C" fn keldurap_raw_check_book(
     cells: &mut [u32],
     marks: &mut [u32],
 ) -> u32
-    ensures { λ r. ⌜ Checked (now (book .entry)) places (workAtEntry reals cells marks) (workAtExit reals cells marks) r ⌝ }
+    ensures { λ r. ⌜ Checked (now (book .entry)) places (workAtEntry reals cells marks)
+        (workAtExit reals cells marks) r ⌝ }
 {
     book_reader::check_book(book, places, reals, cells, marks)
 }

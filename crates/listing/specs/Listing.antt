@@ -83,7 +83,8 @@ line i n =
     (behind (decimal (n .«idx_next_alt»))
     (behind (decimal (n .«idx_prev»))
     (behind (decimal (n .«idx_prev_alt»))
-    (behind (float (n .«time_sched»)) (behind (float (n .«time_to_next»)) (behind (float (n .«dist_to_next»)) (behind (float (n .speed)) (10 ∷ []))))))))))
+    (behind (float (n .«time_sched»)) (behind (float (n .«time_to_next»))
+    (behind (float (n .«dist_to_next»)) (behind (float (n .speed)) (10 ∷ []))))))))))
 
 -- the lines of the first n nodes
 unfoldable pub lines : (ℕ → EstTime) → ℕ → List ℕ
@@ -102,7 +103,8 @@ head r =
     ++ ((32 ∷ 115 ∷ 112 ∷ 108 ∷ 105 ∷ 116 ∷ 115 ∷ 32 ∷ [])
     ++ (decimal (r .splits)
     ++ ((32 ∷ 106 ∷ 111 ∷ 105 ∷ 110 ∷ 101 ∷ 100 ∷ 32 ∷ [])
-    ++ (decimal (r .joined) ++ ((32 ∷ 102 ∷ 105 ∷ 110 ∷ 105 ∷ 115 ∷ 104 ∷ 101 ∷ 100 ∷ 32 ∷ []) ++ (decimal (r .finished) ++ (10 ∷ []))))))))))
+    ++ (decimal (r .joined) ++ ((32 ∷ 102 ∷ 105 ∷ 110 ∷ 105 ∷ 115 ∷ 104 ∷ 101 ∷ 100 ∷ 32 ∷ []) ++
+    (decimal (r .finished) ++ (10 ∷ []))))))))))
 
 -- a sheet: its report, then its nodes
 unfoldable pub sheetText : Report → (ℕ → EstTime) → List ℕ

@@ -136,7 +136,8 @@ fn put_line(out: &mut [u8], at: usize, i: usize, node: EstTime) -> usize
 // Puts the lines of the first n nodes behind a text.
 fn put_lines(out: &mut [u8], at: usize, floats: &[f64], numbers: &[u32], n: usize) -> usize
     requires { ⌜ n ≤ filled (length (now floats)) (length (now numbers)) ⌝ }
-    ensures { λ r. ⌜ Puts (now (out .entry)) at (lines (nodeAt (now (floats .entry)) (now (numbers .entry))) n) (now (out .exit)) r ⌝ }
+    ensures { λ r. ⌜ Puts (now (out .entry)) at (lines (nodeAt (now (floats .entry)) (now (numbers .entry))) n)
+        (now (out .exit)) r ⌝ }
 {
     let mut to = at;
     let mut i = 0;
@@ -186,7 +187,8 @@ fn finish(s: &mut [u8], at: usize) -> Listed
 // Lists a sheet: its report, then as many nodes as that says. A slice that is too short is left zero, and so is one for
 // a table that has fewer nodes.
 pub fn list_sheet(floats: &[f64], numbers: &[u32], report: Report, out: &mut [u8]) -> Listed
-    ensures { λ r. ⌜ TextListed (sheetIn report (tableAtEntry floats numbers)) (now (out .entry)) (now (out .exit)) r ⌝ }
+    ensures { λ r. ⌜ TextListed (sheetIn report (tableAtEntry floats numbers)) (now (out .entry))
+        (now (out .exit)) r ⌝ }
 {
     let n = report.nodes;
     let filled = net_node::nodes_filled(floats.len(), numbers.len());

@@ -26,8 +26,8 @@ fn closer_at(
 }
 
 // "Of entries with m = 0 the first with the smallest gap, strictly below J": its gap and its node, or J and 0 if there
-// is none. An inner function, no entry for users: its caller must have seen to it that both slices have room for `nodes`
-// nodes, at most 65,535, and that each entry names one of these.
+// is none. An inner function, no entry for users: its caller must have seen to it that both slices have room for
+// `nodes` nodes, at most 65,535, and that each entry names one of these.
 pub fn closest_of(
     floats: &[f64],
     numbers: &[u32],

@@ -75,7 +75,8 @@ nodeAt fs us i = record {
 unfoldable pub putFloats : List Float → ℕ → EstTime → List Float
 putFloats fs i n =
     let f = i * floatWidth in
-    set (set (set (set fs f (n .«time_sched»)) (f + 1) (n .«time_to_next»)) (f + 2) (n .«dist_to_next»)) (f + 3) (n .speed)
+    set (set (set (set fs f (n .«time_sched»)) (f + 1) (n .«time_to_next»)) (f + 2) (n .«dist_to_next»)) (f + 3)
+    (n .speed)
 
 unfoldable pub putNumbers : List ℕ → ℕ → EstTime → List ℕ
 putNumbers us i n =

@@ -4,7 +4,8 @@ ghost use Prim.Native.Nat.{_+_, _*_, _≤_};
 ghost use lib.ListN.{length};
 ghost use Rattle.net_node.specs.Lent.{tableAtEntry};
 ghost use Rattle.net_node.specs.Left.{filled, placesOf, kindAt, floatsKept, numbersKept};
-ghost use Rattle.net_node.specs.Table.{floatWidth, numberWidth, kindOf, kindNumber, fakeKind, sameKind, sameEvent};
+ghost use Rattle.net_node.specs.Table.{floatWidth, numberWidth, kindOf, kindNumber, fakeKind, sameKind};
+ghost use Rattle.net_node.specs.Table.{sameEvent};
 ghost use Rattle.net_node.specs.Table.{nodeAt, putFloats, putNumbers, Table, setTime, setArc, setNext, setPrev};
 ghost use Rattle.net_node.specs.Table.{noLinkEvent, blank, withNextAlt, withPrevAlt};
 
@@ -266,7 +267,8 @@ pub fn kind_at(numbers: &[u32], i: usize) -> u32
 pub fn clear_behind(floats: &mut [f64], numbers: &mut [u32], n: usize)
     requires { ⌜ n ≤ 65535 ⌝ }
     ensures floats { λ _. ⌜ now (floats .exit) ≡ floatsKept n (now (floats .entry)) (length (now (floats .entry))) ⌝ }
-    ensures numbers { λ _. ⌜ now (numbers .exit) ≡ numbersKept n (now (numbers .entry)) (length (now (numbers .entry))) ⌝ }
+    ensures numbers { λ _. ⌜ now (numbers .exit) ≡ numbersKept n (now (numbers .entry))
+        (length (now (numbers .entry))) ⌝ }
 {
     space::clear_floats_from(floats, n * FLOAT_WIDTH);
     space::clear_numbers_from(numbers, n * NUMBER_WIDTH);

@@ -1,4 +1,5 @@
-// The checks and both time passes over a network: rows 14 to 16. Contracts: pass_rules' specs/Passes.antt, specs/Answers.antt.
+// The checks and both time passes over a network: rows 14 to 16. Contracts: pass_rules' specs/Passes.antt,
+// specs/Answers.antt.
 ghost use mathlib.Core.Path.{_≡_};
 ghost use mathlib.Core.Bool.{false};
 ghost use Prim.Native.Nat.{ℕ, _+_, _*_, _≤_};
@@ -12,7 +13,8 @@ ghost use Rattle.pass_rules.specs.Backward.{backward};
 ghost use Rattle.pass_rules.specs.Passes.{someLeft, allZero, afterBackward, passes};
 ghost use Rattle.pass_all.specs.Answers.{TimedAs, sixteenIf};
 
-// Row 15: whether a pass has left a node out. A node is done whose cell is set. All cells are looked at, whatever is found: that is faster than stopping.
+// Row 15: whether a pass has left a node out. A node is done whose cell is set. All cells are looked at, whatever is
+// found: that is faster than stopping.
 fn some_left(cells: &[u32], done_at: usize, n: usize) -> bool
     requires { ⌜ «done_at» + n ≤ length (now cells) ⌝ }
     ensures { λ r. ⌜ r ≡ someLeft (doneIn (now (cells .entry)) «done_at») n ⌝ }
@@ -65,7 +67,8 @@ fn pass_backward(
     requires { ⌜ n * 2 ≤ length (now cells) ⌝ }
     requires { ⌜ n ≤ length (now marks) ⌝ }
     requires { ⌜ ((i : ℕ) → doneIn (now cells) n i ≡ false) ⌝ }
-    ensures { λ r. ⌜ TimedAs (andThen (backward (tableAtEntry floats numbers) n) (afterBackward n)) r (tableAtExit floats numbers) ⌝ }
+    ensures { λ r. ⌜ TimedAs (andThen (backward (tableAtEntry floats numbers) n) (afterBackward n)) r
+        (tableAtExit floats numbers) ⌝ }
 {
     if !pass_backward::update_times_backward(floats, numbers, n, cells, n, reals, marks) {
         return 15;
@@ -76,8 +79,8 @@ fn pass_backward(
     sixteen_if(all_zero(floats, numbers, n))
 }
 
-// Checks a network of n nodes and times it: 0, or the number of a refusal. The queues lie in `reals` and `marks`, the flags of both
-// passes in `cells`, which are zero before.
+// Checks a network of n nodes and times it: 0, or the number of a refusal. The queues lie in `reals` and `marks`, the
+// flags of both passes in `cells`, which are zero before.
 pub fn run_passes(
     floats: &mut [f64],
     numbers: &mut [u32],

@@ -19,11 +19,13 @@ abbrev pub relinking : ℕ → Float → ℕ → Pass → Answer At
 relinking n less curr p =
     let prev = at (p .table) curr .«idx_prev» in
     asserting (p .done curr)
-    (asserting (not (p .done prev)) (andThen (relinkWalk n p prev) (λ (found : ℕ). given (relinked p curr prev less found))))
+    (asserting (not (p .done prev)) (andThen (relinkWalk n p prev)
+    (λ (found : ℕ). given (relinked p curr prev less found))))
 
 -- .. whatever is taken off
 abbrev pub Relinked : Table → Table → List ℕ → ℕ → ℕ → ℕ → Walked → Type 0
-Relinked t t′ cells n done-at curr r = (less : Float) → FindsIn t t′ cells true n done-at (relinking n less curr) (standing less curr) r
+Relinked t t′ cells n done-at curr r = (less : Float) → FindsIn t t′ cells true n done-at (relinking n less curr)
+    (standing less curr) r
 
 -- a node's previous alternative, a step, all steps up to a split, and what becomes of the node that they end on
 abbrev pub alternating : ℕ → Pass → Answer Pass

@@ -1,5 +1,5 @@
-// The backward time pass: `update_times_backward`. Contracts: pass_rules' specs/Backward.antt, pass_state's specs/Held.antt and
-// specs/Promises.antt, specs/Strands.antt.
+// The backward time pass: `update_times_backward`. Contracts: pass_rules' specs/Backward.antt, pass_state's
+// specs/Held.antt and specs/Promises.antt, specs/Strands.antt.
 use pass_queue::Entry;
 use pass_rules::Walked;
 use pass_state::Passed;
@@ -14,7 +14,8 @@ ghost use Rattle.pass_rules.specs.Walks.{Inside, doneIn};
 ghost use Rattle.pass_rules.specs.Backward.{backward};
 ghost use Rattle.pass_state.specs.Held.{slices, Working};
 ghost use Rattle.pass_state.specs.Promises.{lent, stopsBy, noMore, fewer, PassTo, StandsTo, EndsTo, PassEnds};
-ghost use Rattle.pass_backward.specs.Strands.{standing, Relinked, alternating, stepping, stranding, settling, turning, turningAll};
+ghost use Rattle.pass_backward.specs.Strands.{standing, Relinked, alternating, stepping, stranding, settling};
+ghost use Rattle.pass_backward.specs.Strands.{turning, turningAll};
 
 // Relinks the split that an entry's node reaches first: the node is passed and its previous is not.
 fn relink(
@@ -29,7 +30,8 @@ fn relink(
     requires { ⌜ Inside (nodeAt (now floats) (now numbers)) n ⌝ }
     requires { ⌜ «done_at» + n ≤ length (now cells) ⌝ }
     requires { ⌜ curr < n ⌝ }
-    ensures { λ r. ⌜ Relinked (tableAtEntry floats numbers) (tableAtExit floats numbers) (now (cells .entry)) n «done_at» curr r ⌝ }
+    ensures { λ r. ⌜ Relinked (tableAtEntry floats numbers) (tableAtExit floats numbers) (now (cells .entry)) n
+        «done_at» curr r ⌝ }
 {
     let node = net_node::load(floats, numbers, curr as usize);
     let prev = node.idx_prev;
@@ -69,9 +71,11 @@ fn alternate(
     count: usize,
     curr: u32,
 ) -> Passed
-    requires { ⌜ Working true n «done_at» (slices (now floats) (now numbers) (now cells) (now times) (now nodes)) count (n - 2) ⌝ }
+    requires { ⌜ Working true n «done_at» (slices (now floats) (now numbers) (now cells) (now times) (now nodes)) count
+        (n - 2) ⌝ }
     requires { ⌜ curr < n ⌝ }
-    ensures { λ r. ⌜ PassTo (lent floats numbers cells times nodes) true n «done_at» count (alternating curr) noMore r ⌝ }
+    ensures { λ r. ⌜ PassTo (lent floats numbers cells times nodes) true n «done_at» count
+        (alternating curr) noMore r ⌝ }
 {
     let node = net_node::load(floats, numbers, curr as usize);
     let alt = node.idx_prev_alt;
@@ -104,10 +108,12 @@ fn step(
     prev: u32,
     less: f64,
 ) -> Stands
-    requires { ⌜ Working true n «done_at» (slices (now floats) (now numbers) (now cells) (now times) (now nodes)) count (n - 2) ⌝ }
+    requires { ⌜ Working true n «done_at» (slices (now floats) (now numbers) (now cells) (now times) (now nodes)) count
+        (n - 2) ⌝ }
     requires { ⌜ curr < n ⌝ }
     requires { ⌜ prev < n ⌝ }
-    ensures { λ r. ⌜ StandsTo (lent floats numbers cells times nodes) true n «done_at» count (stepping less curr prev) (standing less) r ⌝ }
+    ensures { λ r. ⌜ StandsTo (lent floats numbers cells times nodes) true n «done_at» count (stepping less curr prev)
+        (standing less) r ⌝ }
 {
     let Passed::Queued(queued) = alternate(
         floats,
@@ -159,10 +165,12 @@ fn strand(
     prev: u32,
     less: f64,
 ) -> Stands
-    requires { ⌜ Working true n «done_at» (slices (now floats) (now numbers) (now cells) (now times) (now nodes)) count (n - 2) ⌝ }
+    requires { ⌜ Working true n «done_at» (slices (now floats) (now numbers) (now cells) (now times) (now nodes)) count
+        (n - 2) ⌝ }
     requires { ⌜ curr < n ⌝ }
     requires { ⌜ prev < n ⌝ }
-    ensures { λ r. ⌜ StandsTo (lent floats numbers cells times nodes) true n «done_at» count (stranding n less curr prev) (standing less) r ⌝ }
+    ensures { λ r. ⌜ StandsTo (lent floats numbers cells times nodes) true n «done_at» count
+        (stranding n less curr prev) (standing less) r ⌝ }
 {
     let mut here = curr;
     let mut ahead = prev;
@@ -192,7 +200,8 @@ fn strand(
     }
 }
 
-// What becomes of the node that a strand ends on: the split is done, or the first two nodes are passed, or the node goes into the queue.
+// What becomes of the node that a strand ends on: the split is done, or the first two nodes are passed, or the node
+// goes into the queue.
 fn settle(
     floats: &mut [f64],
     numbers: &mut [u32],
@@ -206,10 +215,12 @@ fn settle(
     prev: u32,
     less: f64,
 ) -> Passed
-    requires { ⌜ Working true n «done_at» (slices (now floats) (now numbers) (now cells) (now times) (now nodes)) count (n - 2) ⌝ }
+    requires { ⌜ Working true n «done_at» (slices (now floats) (now numbers) (now cells) (now times) (now nodes)) count
+        (n - 2) ⌝ }
     requires { ⌜ curr < n ⌝ }
     requires { ⌜ prev < n ⌝ }
-    ensures { λ r. ⌜ PassTo (lent floats numbers cells times nodes) true n «done_at» count (settling less curr prev) noMore r ⌝ }
+    ensures { λ r. ⌜ PassTo (lent floats numbers cells times nodes) true n «done_at» count
+        (settling less curr prev) noMore r ⌝ }
 {
     let node = net_node::load(floats, numbers, curr as usize);
     let ahead = net_node::load(floats, numbers, prev as usize);
@@ -253,9 +264,11 @@ fn turn(
     curr: u32,
     less: f64,
 ) -> Passed
-    requires { ⌜ Working true n «done_at» (slices (now floats) (now numbers) (now cells) (now times) (now nodes)) count (n - 2) ⌝ }
+    requires { ⌜ Working true n «done_at» (slices (now floats) (now numbers) (now cells) (now times) (now nodes)) count
+        (n - 2) ⌝ }
     requires { ⌜ curr < n ⌝ }
-    ensures { λ r. ⌜ PassTo (lent floats numbers cells times nodes) true n «done_at» count (turning n less curr) fewer r ⌝ }
+    ensures { λ r. ⌜ PassTo (lent floats numbers cells times nodes) true n «done_at» count
+        (turning n less curr) fewer r ⌝ }
 {
     let Walked::Found(found) = relink(floats, numbers, n, cells, done_at, curr) else {
         return Passed::Fails;
@@ -301,7 +314,8 @@ fn turns(
     nodes: &mut [u32],
     count: usize,
 ) -> bool
-    requires { ⌜ Working true n «done_at» (slices (now floats) (now numbers) (now cells) (now times) (now nodes)) count (n - 1) ⌝ }
+    requires { ⌜ Working true n «done_at» (slices (now floats) (now numbers) (now cells) (now times) (now nodes)) count
+        (n - 1) ⌝ }
     requires { ⌜ 0 < n ⌝ }
     ensures { λ r. ⌜ EndsTo (lent floats numbers cells times nodes) true n «done_at» count (turningAll n) r ⌝ }
 {
@@ -327,8 +341,8 @@ fn turns(
     true
 }
 
-// Takes what is to be subtracted off the times of a network of n, if no assertion fails. Nodes that are passed are flagged in `cells`
-// from `done_at` on, where no flag is set before; the queue lies in `times` and `nodes`.
+// Takes what is to be subtracted off the times of a network of n, if no assertion fails. Nodes that are passed are
+// flagged in `cells` from `done_at` on, where no flag is set before; the queue lies in `times` and `nodes`.
 pub fn update_times_backward(
     floats: &mut [f64],
     numbers: &mut [u32],

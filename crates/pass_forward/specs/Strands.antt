@@ -7,7 +7,8 @@ use Rattle.net_node.specs.Table.{Table, at}
 use Rattle.pass_queue.specs.declared.Entry.{Entry}
 use Rattle.laws.specs.Answer.{Answer, given, andThen}
 use Rattle.pass_rules.specs.Net.{asserting, Pass}
-use Rattle.pass_rules.specs.Forward.{At, timeNext, relinkWalk, relinked, alternatedBy, step, strand, settle, turn, turns}
+use Rattle.pass_rules.specs.Forward.{At, timeNext, relinkWalk, relinked, alternatedBy, step, strand, settle, turn}
+use Rattle.pass_rules.specs.Forward.{turns}
 use Rattle.pass_rules.specs.declared.Walked.{Walked}
 use Rattle.pass_state.specs.Promises.{FindsIn}
 
@@ -24,7 +25,8 @@ abbrev pub relinking : ℕ → ℕ → Pass → Answer At
 relinking n curr p =
     let next = at (p .table) curr .«idx_next» in
     asserting (p .done curr)
-    (asserting (not (p .done next)) (andThen (relinkWalk n p n next) (λ (found : ℕ). given (relinked p curr next found))))
+    (asserting (not (p .done next)) (andThen (relinkWalk n p n next)
+    (λ (found : ℕ). given (relinked p curr next found))))
 
 abbrev pub Relinked : Table → Table → List ℕ → ℕ → ℕ → ℕ → Walked → Type 0
 Relinked t t′ cells n done-at curr r = FindsIn t t′ cells false n done-at (relinking n curr) (standing curr) r

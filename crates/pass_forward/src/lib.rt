@@ -1,5 +1,5 @@
-// The forward time pass: `update_times_forward`. Contracts: pass_rules' specs/Forward.antt, pass_state's specs/Held.antt and
-// specs/Promises.antt, specs/Strands.antt.
+// The forward time pass: `update_times_forward`. Contracts: pass_rules' specs/Forward.antt, pass_state's
+// specs/Held.antt and specs/Promises.antt, specs/Strands.antt.
 use pass_queue::Entry;
 use pass_rules::Walked;
 use pass_state::Passed;
@@ -14,7 +14,8 @@ ghost use Rattle.pass_rules.specs.Walks.{Inside, doneIn};
 ghost use Rattle.pass_rules.specs.Forward.{forward};
 ghost use Rattle.pass_state.specs.Held.{slices, Working};
 ghost use Rattle.pass_state.specs.Promises.{lent, stopsBy, Enqueues, noMore, fewer, PassTo, StandsTo, EndsTo, PassEnds};
-ghost use Rattle.pass_forward.specs.Strands.{standing, reaching, Relinked, alternating, stepping, stranding, settling, turning, turningAll};
+ghost use Rattle.pass_forward.specs.Strands.{standing, reaching, Relinked, alternating, stepping, stranding};
+ghost use Rattle.pass_forward.specs.Strands.{settling, turning, turningAll};
 
 // Puts a node into the queue, at the time at which its next is reached.
 fn enqueue_node(
@@ -54,7 +55,8 @@ fn relink(
     requires { ⌜ Inside (nodeAt (now floats) (now numbers)) n ⌝ }
     requires { ⌜ «done_at» + n ≤ length (now cells) ⌝ }
     requires { ⌜ curr < n ⌝ }
-    ensures { λ r. ⌜ Relinked (tableAtEntry floats numbers) (tableAtExit floats numbers) (now (cells .entry)) n «done_at» curr r ⌝ }
+    ensures { λ r. ⌜ Relinked (tableAtEntry floats numbers) (tableAtExit floats numbers) (now (cells .entry)) n
+        «done_at» curr r ⌝ }
 {
     let node = net_node::load(floats, numbers, curr as usize);
     let next = node.idx_next;
@@ -94,9 +96,11 @@ fn alternate(
     count: usize,
     curr: u32,
 ) -> Passed
-    requires { ⌜ Working false n «done_at» (slices (now floats) (now numbers) (now cells) (now times) (now nodes)) count (n - 2) ⌝ }
+    requires { ⌜ Working false n «done_at» (slices (now floats) (now numbers) (now cells) (now times) (now nodes)) count
+        (n - 2) ⌝ }
     requires { ⌜ curr < n ⌝ }
-    ensures { λ r. ⌜ PassTo (lent floats numbers cells times nodes) false n «done_at» count (alternating curr) noMore r ⌝ }
+    ensures { λ r. ⌜ PassTo (lent floats numbers cells times nodes) false n «done_at» count
+        (alternating curr) noMore r ⌝ }
 {
     let node = net_node::load(floats, numbers, curr as usize);
     let alt = node.idx_next_alt;
@@ -120,10 +124,12 @@ fn step(
     curr: u32,
     next: u32,
 ) -> Stands
-    requires { ⌜ Working false n «done_at» (slices (now floats) (now numbers) (now cells) (now times) (now nodes)) count (n - 2) ⌝ }
+    requires { ⌜ Working false n «done_at» (slices (now floats) (now numbers) (now cells) (now times) (now nodes)) count
+        (n - 2) ⌝ }
     requires { ⌜ curr < n ⌝ }
     requires { ⌜ next < n ⌝ }
-    ensures { λ r. ⌜ StandsTo (lent floats numbers cells times nodes) false n «done_at» count (stepping curr next) standing r ⌝ }
+    ensures { λ r. ⌜ StandsTo (lent floats numbers cells times nodes) false n «done_at» count (stepping curr next)
+        standing r ⌝ }
 {
     let Passed::Queued(queued) = alternate(
         floats,
@@ -174,10 +180,12 @@ fn strand(
     curr: u32,
     next: u32,
 ) -> Stands
-    requires { ⌜ Working false n «done_at» (slices (now floats) (now numbers) (now cells) (now times) (now nodes)) count (n - 2) ⌝ }
+    requires { ⌜ Working false n «done_at» (slices (now floats) (now numbers) (now cells) (now times) (now nodes)) count
+        (n - 2) ⌝ }
     requires { ⌜ curr < n ⌝ }
     requires { ⌜ next < n ⌝ }
-    ensures { λ r. ⌜ StandsTo (lent floats numbers cells times nodes) false n «done_at» count (stranding n curr next) standing r ⌝ }
+    ensures { λ r. ⌜ StandsTo (lent floats numbers cells times nodes) false n «done_at» count (stranding n curr next)
+        standing r ⌝ }
 {
     let mut here = curr;
     let mut ahead = next;
@@ -206,7 +214,8 @@ fn strand(
     }
 }
 
-// What becomes of the node that a strand ends on: the join is done, or the end is timed, or the node goes into the queue.
+// What becomes of the node that a strand ends on: the join is done, or the end is timed, or the node goes into the
+// queue.
 fn settle(
     floats: &mut [f64],
     numbers: &mut [u32],
@@ -219,10 +228,12 @@ fn settle(
     curr: u32,
     next: u32,
 ) -> Passed
-    requires { ⌜ Working false n «done_at» (slices (now floats) (now numbers) (now cells) (now times) (now nodes)) count (n - 2) ⌝ }
+    requires { ⌜ Working false n «done_at» (slices (now floats) (now numbers) (now cells) (now times) (now nodes)) count
+        (n - 2) ⌝ }
     requires { ⌜ curr < n ⌝ }
     requires { ⌜ next < n ⌝ }
-    ensures { λ r. ⌜ PassTo (lent floats numbers cells times nodes) false n «done_at» count (settling curr next) noMore r ⌝ }
+    ensures { λ r. ⌜ PassTo (lent floats numbers cells times nodes) false n «done_at» count
+        (settling curr next) noMore r ⌝ }
 {
     let node = net_node::load(floats, numbers, curr as usize);
     let ahead = net_node::load(floats, numbers, next as usize);
@@ -257,7 +268,8 @@ fn turn(
     count: usize,
     curr: u32,
 ) -> Passed
-    requires { ⌜ Working false n «done_at» (slices (now floats) (now numbers) (now cells) (now times) (now nodes)) count (n - 2) ⌝ }
+    requires { ⌜ Working false n «done_at» (slices (now floats) (now numbers) (now cells) (now times) (now nodes)) count
+        (n - 2) ⌝ }
     requires { ⌜ curr < n ⌝ }
     ensures { λ r. ⌜ PassTo (lent floats numbers cells times nodes) false n «done_at» count (turning n curr) fewer r ⌝ }
 {
@@ -303,7 +315,8 @@ fn turns(
     nodes: &mut [u32],
     count: usize,
 ) -> bool
-    requires { ⌜ Working false n «done_at» (slices (now floats) (now numbers) (now cells) (now times) (now nodes)) count (n - 1) ⌝ }
+    requires { ⌜ Working false n «done_at» (slices (now floats) (now numbers) (now cells) (now times) (now nodes)) count
+        (n - 1) ⌝ }
     requires { ⌜ 0 < n ⌝ }
     ensures { λ r. ⌜ EndsTo (lent floats numbers cells times nodes) false n «done_at» count (turningAll n) r ⌝ }
 {
@@ -328,8 +341,8 @@ fn turns(
     true
 }
 
-// Times the nodes of a network of n, if no assertion fails. Nodes that are timed are flagged in `cells` from `done_at` on, where no flag
-// is set before; the queue lies in `times` and `nodes`.
+// Times the nodes of a network of n, if no assertion fails. Nodes that are timed are flagged in `cells` from `done_at`
+// on, where no flag is set before; the queue lies in `times` and `nodes`.
 pub fn update_times_forward(
     floats: &mut [f64],
     numbers: &mut [u32],

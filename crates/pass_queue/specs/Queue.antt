@@ -1,6 +1,6 @@
--- The queue of a time pass, the source's `BinaryHeap`. Document 01 under "Passes": "Forward takes the smaller time, ties the smaller
--- index; backward the greatest by `EstTimePrev`'s `partial_cmp`": time, sub, index. The definition is a list, out of which the best
--- entry is taken; where entries stand in it says nothing.
+-- The queue of a time pass, the source's `BinaryHeap`. Document 01 under "Passes": "Forward takes the smaller time,
+-- ties the smaller index; backward the greatest by `EstTimePrev`'s `partial_cmp`": time, sub, index. The definition is
+-- a list, out of which the best entry is taken; where entries stand in it says nothing.
 use mathlib.Core.Path.{_≡_}
 use mathlib.Core.Bool.{Bool, true, false, _&&_, cond}
 use mathlib.Core.List.{List, [], _∷_}
@@ -21,20 +21,23 @@ thenBy false false rest = rest
 -- Entries that differ in nothing but the sign of a zero: by their bits, so that the order is total. Both name one node.
 unfoldable pub byBits : Entry → Entry → Bool
 byBits a b =
-    thenBy (ltb (toBits binary64 (a .time)) (toBits binary64 (b .time))) (ltb (toBits binary64 (b .time)) (toBits binary64 (a .time)))
+    thenBy (ltb (toBits binary64 (a .time)) (toBits binary64 (b .time)))
+    (ltb (toBits binary64 (b .time)) (toBits binary64 (a .time)))
     (ltb (toBits binary64 (a .sub)) (toBits binary64 (b .sub)))
 
 -- "Forward takes the smaller time, ties the smaller index"
 unfoldable pub beforeForward : Entry → Entry → Bool
 unfolding byBits
-beforeForward a b = thenBy (lt (a .time) (b .time)) (lt (b .time) (a .time)) (thenBy (ltb (a .node) (b .node)) (ltb (b .node) (a .node)) (byBits a b))
+beforeForward a b = thenBy (lt (a .time) (b .time)) (lt (b .time) (a .time))
+    (thenBy (ltb (a .node) (b .node)) (ltb (b .node) (a .node)) (byBits a b))
 
 -- "backward the greatest": by time, then by sub, then by index
 unfoldable pub beforeBackward : Entry → Entry → Bool
 unfolding byBits
 beforeBackward a b =
     thenBy (lt (b .time) (a .time)) (lt (a .time) (b .time))
-    (thenBy (lt (b .sub) (a .sub)) (lt (a .sub) (b .sub)) (thenBy (ltb (b .node) (a .node)) (ltb (a .node) (b .node)) (byBits a b)))
+    (thenBy (lt (b .sub) (a .sub)) (lt (a .sub) (b .sub))
+    (thenBy (ltb (b .node) (a .node)) (ltb (a .node) (b .node)) (byBits a b)))
 
 -- whether a is taken before b
 unfoldable pub before : Bool → Entry → Entry → Bool
@@ -100,8 +103,9 @@ abbrev pub Each : (Entry → Type 0) → List Entry → Type 0
 Each P [] = Unit {0}
 Each P (x ∷ xs) = P x × Each P xs
 
--- The first n slots are a heap that holds this list: no slot is taken before the one above it, slot i being above slots 2 i + 1 and
--- 2 i + 2, and each entry is in it as often as in the list. Entries are told apart by their bits, so those of the list are f64s too.
+-- The first n slots are a heap that holds this list: no slot is taken before the one above it, slot i being above slots
+-- 2 i + 1 and 2 i + 2, and each entry is in it as often as in the list. Entries are told apart by their bits, so those
+-- of the list are f64s too.
 pub record Holds (backward : Bool) (ts : List Float) (ns : List ℕ) (n : ℕ) (es : List Entry) : Type 0 where
   pub above : (i k : ℕ) → k < n → i * 2 < k → k ≤ i * 2 + 2 → before backward (slot ts ns k) (slot ts ns i) ≡ false
   pub ordered : (i : ℕ) → i < n → Ordered (slot ts ns i)
@@ -117,14 +121,17 @@ SameEntries xs ys = (length xs ≡ length ys) × ((e : Entry) → timesIn e xs �
 
 -- an entry is put into a heap of n
 abbrev pub Added : Bool → List Float → List ℕ → List Float → List ℕ → ℕ → Entry → Type 0
-Added backward ts ns ts′ ns′ n e = (es : List Entry) → Holds backward ts ns n es → Holds backward ts′ ns′ (n + 1) (e ∷ es)
+Added backward ts ns ts′ ns′ n e = (es : List Entry) → Holds backward ts ns n es → Holds backward ts′ ns′ (n + 1)
+    (e ∷ es)
 
 -- the best entry is taken out, so that n are left
 abbrev pub Dropped : Bool → List Float → List ℕ → List Float → List ℕ → ℕ → Type 0
 Dropped backward ts ns ts′ ns′ n =
-    (x : Entry) (es : List Entry) → Holds backward ts ns (n + 1) (x ∷ es) → Holds backward ts′ ns′ n (others backward x es)
+    (x : Entry) (es : List Entry) → Holds backward ts ns (n + 1) (x ∷ es) → Holds backward ts′ ns′ n
+    (others backward x es)
 
 -- r is the best entry of a heap of n, and is taken out
 abbrev pub TakenOut : Bool → List Float → List ℕ → List Float → List ℕ → ℕ → Entry → Type 0
 TakenOut backward ts ns ts′ ns′ n r =
-    (x : Entry) (es : List Entry) → Holds backward ts ns n (x ∷ es) → (r ≡ best backward x es) × Holds backward ts′ ns′ (n - 1) (others backward x es)
+    (x : Entry) (es : List Entry) → Holds backward ts ns n (x ∷ es) → (r ≡ best backward x es) × Holds backward ts′ ns′
+    (n - 1) (others backward x es)

@@ -2,7 +2,8 @@
 ghost use mathlib.Core.Path.{_≡_};
 ghost use Prim.Native.Nat.{_+_, _*_, _-_, _≤_, _<_};
 ghost use lib.ListN.{length};
-ghost use Rattle.pass_queue.specs.Queue.{byBits, beforeForward, beforeBackward, before, Ordered, slot, Added, Dropped, TakenOut};
+ghost use Rattle.pass_queue.specs.Queue.{byBits, beforeForward, beforeBackward, before, Ordered, slot, Added};
+ghost use Rattle.pass_queue.specs.Queue.{Dropped, TakenOut};
 ghost use Rattle.pass_queue.specs.Slots.{putTimes, putNodes, BestChild};
 
 // An entry: a time, what is subtracted behind it (backward only), and a node.
@@ -110,7 +111,8 @@ fn rise(times: &mut [f64], nodes: &mut [u32], n: usize, backward: bool, e: Entry
     requires { ⌜ n < length (now nodes) ⌝ }
     requires { ⌜ Ordered e ⌝ }
     ensures within { λ r. ⌜ r ≤ n ⌝ }
-    ensures held { λ r. ⌜ Added backward (now (times .entry)) (now (nodes .entry)) (putTimes (now (times .exit)) r e) (putNodes (now (nodes .exit)) r e) n e ⌝ }
+    ensures held { λ r. ⌜ Added backward (now (times .entry)) (now (nodes .entry)) (putTimes (now (times .exit)) r e)
+        (putNodes (now (nodes .exit)) r e) n e ⌝ }
 {
     let mut i = n;
     while 0 < i {
@@ -130,7 +132,8 @@ pub fn push(times: &mut [f64], nodes: &mut [u32], n: usize, backward: bool, e: E
     requires { ⌜ (n + 1) * 2 ≤ length (now times) ⌝ }
     requires { ⌜ n < length (now nodes) ⌝ }
     requires { ⌜ Ordered e ⌝ }
-    ensures { λ _. ⌜ Added backward (now (times .entry)) (now (nodes .entry)) (now (times .exit)) (now (nodes .exit)) n e ⌝ }
+    ensures { λ _. ⌜ Added backward (now (times .entry)) (now (nodes .entry)) (now (times .exit))
+        (now (nodes .exit)) n e ⌝ }
 {
     let i = rise(times, nodes, n, backward, e);
     put_entry(times, nodes, i, e);
@@ -163,7 +166,8 @@ fn sink(times: &mut [f64], nodes: &mut [u32], n: usize, backward: bool, e: Entry
     requires { ⌜ n < length (now nodes) ⌝ }
     requires { ⌜ e ≡ slot (now times) (now nodes) n ⌝ }
     ensures within { λ r. ⌜ r < n ⌝ }
-    ensures held { λ r. ⌜ Dropped backward (now (times .entry)) (now (nodes .entry)) (putTimes (now (times .exit)) r e) (putNodes (now (nodes .exit)) r e) n ⌝ }
+    ensures held { λ r. ⌜ Dropped backward (now (times .entry)) (now (nodes .entry)) (putTimes (now (times .exit)) r e)
+        (putNodes (now (nodes .exit)) r e) n ⌝ }
 {
     let mut i = 0;
     while i < n / 2 {
@@ -183,7 +187,8 @@ pub fn pop(times: &mut [f64], nodes: &mut [u32], n: usize, backward: bool) -> En
     requires { ⌜ 0 < n ⌝ }
     requires { ⌜ n * 2 ≤ length (now times) ⌝ }
     requires { ⌜ n ≤ length (now nodes) ⌝ }
-    ensures { λ r. ⌜ TakenOut backward (now (times .entry)) (now (nodes .entry)) (now (times .exit)) (now (nodes .exit)) n r ⌝ }
+    ensures { λ r. ⌜ TakenOut backward (now (times .entry)) (now (nodes .entry)) (now (times .exit)) (now (nodes .exit))
+        n r ⌝ }
 {
     let top = entry_at(times, nodes, 0);
     let last = n - 1;

@@ -1,5 +1,6 @@
--- `update_times_backward`: "backward the greatest by `EstTimePrev`'s `partial_cmp`". Each turn takes an entry, relinks the split that it
--- reaches first, with the times and distances to next, and takes what is to be subtracted off the times before it, up to the next split.
+-- `update_times_backward`: "backward the greatest by `EstTimePrev`'s `partial_cmp`". Each turn takes an entry, relinks
+-- the split that it reaches first, with the times and distances to next, and takes what is to be subtracted off the
+-- times before it, up to the next split.
 use mathlib.Core.Bool.{Bool, true, false, not, _&&_, _||_}
 use mathlib.Core.List.{List, [], _∷_}
 use Prim.Native.Nat.{ℕ, zero, suc, _-_}
@@ -52,7 +53,8 @@ relinkWalk (suc k) p i =
     let later = relinkWalk k p (at (p .table) i .«idx_prev») in
     walkedOn (isPassable p i) i later
 
--- "swap the links appropriately": the node and the base of the split that is reached exchange their previous, and time and distance to next go along
+-- "swap the links appropriately": the node and the base of the split that is reached exchange their previous, and time
+-- and distance to next go along
 unfoldable pub swapSplit : Table → ℕ → ℕ → ℕ → Table
 unfolding setNext setPrev setArc
 swapSplit t curr save found =
@@ -92,7 +94,12 @@ unfoldable pub stepOn : At → Pass → Answer At
 unfolding passed
 stepOn a p =
     let q = passed p (a .prev) (sub binary64 (at (p .table) (a .prev) .«time_sched») (a .less)) in
-    asserting (not (p .done (a .prev))) (given (record { pass = q; curr = a .prev; prev = at (q .table) (a .prev) .«idx_prev»; less = a .less }))
+    asserting (not (p .done (a .prev))) (given (record {
+      pass = q;
+      curr = a .prev;
+      prev = at (q .table) (a .prev) .«idx_prev»;
+      less = a .less;
+    }))
 
 unfoldable pub step : At → Answer At
 unfolding stepOn enqueue passed
@@ -123,10 +130,12 @@ addedIf true fake a =
     given (passed (passed (a .pass) (a .prev) time) 0 time)
 addedIf false fake a =
     asserting (not fake)
-    (enqueue (a .pass) (sub binary64 (at (a .pass .table) (a .curr) .«time_sched») (at (a .pass .table) (a .prev) .«time_to_next»)) (a .less) (a .curr))
+    (enqueue (a .pass) (sub binary64 (at (a .pass .table) (a .curr) .«time_sched»)
+    (at (a .pass .table) (a .prev) .«time_to_next»)) (a .less) (a .curr))
 
 abbrev pub settledBy : Bool → At → Answer Pass
-settledBy false a = addedIf (eqb (at (a .pass .table) (a .prev) .«idx_prev») 0) (isFake (at (a .pass .table) (a .curr))) a
+settledBy false a =
+    addedIf (eqb (at (a .pass .table) (a .prev) .«idx_prev») 0) (isFake (at (a .pass .table) (a .curr))) a
 settledBy true a =
     asserting (isFake (at (a .pass .table) (a .curr)))
     (asserting (eqb (a .curr) (at (a .pass .table) (a .prev) .«idx_next_alt»)) (given (a .pass)))

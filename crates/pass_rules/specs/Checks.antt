@@ -1,5 +1,5 @@
--- Row 14: "a check or assertion before the passes fails". The checks of `make_est_times` on each node of a network of n, behind
--- "Validate that all linked indices are correct and consistent".
+-- Row 14: "a check or assertion before the passes fails". The checks of `make_est_times` on each node of a network of
+-- n, behind "Validate that all linked indices are correct and consistent".
 use mathlib.Core.Bool.{Bool, true, false, not, _&&_, _||_}
 use Prim.Native.Nat.{ℕ, _-_}
 use lib.Dec.{eqb, leb}

@@ -1,5 +1,5 @@
--- `update_times_forward`: "Forward takes the smaller time, ties the smaller index." Each turn takes an entry, relinks the join that it
--- reaches first, and times the nodes behind it up to the next join.
+-- `update_times_forward`: "Forward takes the smaller time, ties the smaller index." Each turn takes an entry, relinks
+-- the join that it reaches first, and times the nodes behind it up to the next join.
 use mathlib.Core.Bool.{Bool, true, false, not, _&&_, _||_}
 use mathlib.Core.List.{List, [], _∷_}
 use Prim.Native.Nat.{ℕ, zero, suc, _-_}
@@ -23,7 +23,8 @@ queued false p e = given (record { table = p .table; done = p .done; queue = e �
 
 unfoldable pub enqueue : Pass → ℕ → Answer Pass
 unfolding timeNext
-enqueue p i = queued (isNan (timeNext (p .table) i)) p (record { time = timeNext (p .table) i; sub = ofBits binary64 0; node = i })
+enqueue p i = queued (isNan (timeNext (p .table) i)) p
+    (record { time = timeNext (p .table) i; sub = ofBits binary64 0; node = i })
 
 -- a node is timed
 unfoldable pub timed : Pass → ℕ → Float → Pass
@@ -56,7 +57,8 @@ relinkWalk (suc k) p n i =
     let later = relinkWalk k p n (at (p .table) i .«idx_next») in
     walkedOn (isPassable p n i) i later
 
--- "swap the links appropriately": the node and the base of the join that is reached exchange their nexts. Times stay where they are.
+-- "swap the links appropriately": the node and the base of the join that is reached exchange their nexts. Times stay
+-- where they are.
 unfoldable pub swapJoin : Table → ℕ → ℕ → ℕ → Table
 unfolding setNext setPrev
 swapJoin t curr save found =
@@ -90,7 +92,11 @@ unfoldable pub stepOn : At → Pass → Answer At
 unfolding timed
 stepOn a p =
     let q = timed p (a .next) (timeNext (p .table) (a .curr)) in
-    asserting (not (p .done (a .next))) (given (record { pass = q; curr = a .next; next = at (q .table) (a .next) .«idx_next» }))
+    asserting (not (p .done (a .next))) (given (record {
+      pass = q;
+      curr = a .next;
+      next = at (q .table) (a .next) .«idx_next»;
+    }))
 
 unfoldable pub step : At → Answer At
 unfolding stepOn enqueue timed
@@ -120,7 +126,8 @@ addedIf false fake a = asserting (not fake) (enqueue (a .pass) (a .curr))
 
 -- "If the node has not been passed, add it"; "If this is the last node, finish it and do not add it"
 abbrev pub settledBy : Bool → At → Answer Pass
-settledBy false a = addedIf (eqb (at (a .pass .table) (a .next) .«idx_next») 0) (isFake (at (a .pass .table) (a .curr))) a
+settledBy false a =
+    addedIf (eqb (at (a .pass .table) (a .next) .«idx_next») 0) (isFake (at (a .pass .table) (a .curr))) a
 settledBy true a =
     asserting (isFake (at (a .pass .table) (a .curr)))
     (asserting (eqb (a .curr) (at (a .pass .table) (a .next) .«idx_prev_alt»)) (given (a .pass)))
@@ -159,4 +166,5 @@ unfoldable pub forward : Table → ℕ → Float → Answer Pass
 unfolding turns setTime
 forward t n departure =
     asserting (not (isNan departure))
-    (turns n n (setTime (setTime t 0 departure) 1 departure) firstTwo (record { time = departure; sub = ofBits binary64 0; node = 1 } ∷ []))
+    (turns n n (setTime (setTime t 0 departure) 1 departure) firstTwo
+    (record { time = departure; sub = ofBits binary64 0; node = 1 } ∷ []))

@@ -1,5 +1,5 @@
--- What both passes work on: the table's nodes, of which some fields are set, and for each node whether it is timed (forward) or passed
--- (backward): "Untimed is a state of its own."
+-- What both passes work on: the table's nodes, of which some fields are set, and for each node whether it is timed
+-- (forward) or passed (backward): "Untimed is a state of its own."
 use mathlib.Core.Bool.{Bool, true, false, _||_}
 use mathlib.Core.List.{List}
 use Prim.Native.Nat.{ℕ}

@@ -1,5 +1,6 @@
--- The code's tests of row 14. Most nodes pass one short test: an event that is neither first nor last, with a node on either side that
--- leads to it, and no next alternative; every check of row 14 holds of it. Only contracts use these words.
+-- The code's tests of row 14. Most nodes pass one short test: an event that is neither first nor last, with a node on
+-- either side that leads to it, and no next alternative; every check of row 14 holds of it. Only contracts use these
+-- words.
 use mathlib.Core.Bool.{Bool, not, _&&_, _||_}
 use Prim.Native.Nat.{ℕ, _-_}
 use lib.Dec.{eqb, ltb}

@@ -123,8 +123,8 @@ fn end_of(n: usize, backward: bool) -> usize
     if backward { 0 } else { n - 1 }
 }
 
-// Whether a node is a Fake that leads to a node which is neither done nor the walk's end. A node is done (timed forward, passed
-// backward) whose cell is set.
+// Whether a node is a Fake that leads to a node which is neither done nor the walk's end. A node is done (timed
+// forward, passed backward) whose cell is set.
 fn is_passable(
     floats: &[f64],
     numbers: &[u32],
@@ -138,7 +138,8 @@ fn is_passable(
     requires { ⌜ Inside (nodeAt (now floats) (now numbers)) n ⌝ }
     requires { ⌜ «done_at» + n ≤ length (now cells) ⌝ }
     requires { ⌜ i < n ⌝ }
-    ensures { λ r. ⌜ r ≡ passable backward (passOf (tableAtEntry floats numbers) (doneIn (now (cells .entry)) «done_at»)) n i ⌝ }
+    ensures { λ r. ⌜ r ≡ passable backward (passOf (tableAtEntry floats numbers)
+        (doneIn (now (cells .entry)) «done_at»)) n i ⌝ }
 {
     let node = net_node::load(floats, numbers, i as usize);
     let event = node.link_event;
@@ -206,7 +207,8 @@ pub fn swap_join(
     net_node::set_prev(floats, numbers, found as usize, curr);
 }
 
-// Backward: the node and the base of the split that is reached exchange their previous, and time and distance to next go along.
+// Backward: the node and the base of the split that is reached exchange their previous, and time and distance to next
+// go along.
 pub fn swap_split(
     floats: &mut [f64],
     numbers: &mut [u32],

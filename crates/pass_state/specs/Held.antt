@@ -1,5 +1,5 @@
--- A time pass at work in the lent slices: the table's nodes, a flag for each node that is done (timed or passed), one after the other,
--- and the queue.
+-- A time pass at work in the lent slices: the table's nodes, a flag for each node that is done (timed or passed), one
+-- after the other, and the queue.
 use mathlib.Core.Path.{_≡_}
 use mathlib.Core.Logic.{_≢_}
 use mathlib.Core.Bool.{Bool, true, false, not, _||_}
@@ -20,7 +20,8 @@ use Rattle.pass_state.specs.declared.Passed.the-variants.{Queued, Fails}
 use Rattle.pass_state.specs.declared.Stands.{Stands}
 use Rattle.pass_state.specs.declared.Stands.the-variants.{On, Nowhere}
 
--- the slices that a pass is lent: the table in `floats` and `numbers`, the flags in `cells`, the queue in `times` and `nodes`
+-- the slices that a pass is lent: the table in `floats` and `numbers`, the flags in `cells`, the queue in `times` and
+-- `nodes`
 pub record PassSlices : Type 0 where
   pub floats : List Float
   pub numbers : List ℕ
@@ -39,9 +40,10 @@ unfoldable pub left : (ℕ → Bool) → ℕ → ℕ
 left done zero = 0
 left done (suc n) = one (not (done n)) + left done n
 
--- A pass over n nodes is what the slices hold. The queue has `count` entries, and entries and nodes left are at most `most` together:
--- below n, so the queue has room. Of the cells only the flags have changed since `start`.
-pub record PassIn (backward : Bool) (n done-at : ℕ) (start : List ℕ) (held : PassSlices) (count most : ℕ) (p : Pass) : Type 0 where
+-- A pass over n nodes is what the slices hold. The queue has `count` entries, and entries and nodes left are at most
+-- `most` together: below n, so the queue has room. Of the cells only the flags have changed since `start`.
+pub record PassIn (backward : Bool) (n done-at : ℕ) (start : List ℕ) (held : PassSlices) (count most : ℕ) (p : Pass) :
+    Type 0 where
   pub table : p .table ≡ tableIn held
   pub room : Room (held .floats) (held .numbers) n
   pub inside : Inside (nodeAt (held .floats) (held .numbers)) n
@@ -60,9 +62,10 @@ pub record Working (backward : Bool) (n done-at : ℕ) (held : PassSlices) (coun
   pub start : List ℕ
   pub holds : PassIn backward n done-at start held count most pass
 
--- An answer's pass is what the slices hold then, and fewer nodes than `bound` are left. Where the answer is more than a pass, `at` puts
--- it together.
-pub record Gives {A : Type 0} (answer : Answer A) (at : Pass → A) (backward : Bool) (n done-at : ℕ) (start : List ℕ) (held : PassSlices)
+-- An answer's pass is what the slices hold then, and fewer nodes than `bound` are left. Where the answer is more than a
+-- pass, `at` puts it together.
+pub record Gives {A : Type 0} (answer : Answer A) (at : Pass → A) (backward : Bool) (n done-at : ℕ) (start : List ℕ)
+    (held : PassSlices)
     (count most bound : ℕ) : Type 0 where
   pub pass : Pass
   pub is : answer ≡ given (at pass)
@@ -71,25 +74,30 @@ pub record Gives {A : Type 0} (answer : Answer A) (at : Pass → A) (backward : 
 
 -- a pass, or that an assertion fails
 abbrev pub PassBy : Answer Pass → Bool → ℕ → ℕ → List ℕ → PassSlices → ℕ → ℕ → Passed → Type 0
-PassBy answer backward n done-at start held most bound (Queued count) = Gives answer (λ p. p) backward n done-at start held count most bound
+PassBy answer backward n done-at start held most bound (Queued count) = Gives answer (λ p. p) backward n done-at start
+    held count most bound
 PassBy answer backward n done-at start held most bound Fails = answer ≡ failed
 
-pub record PassAs (answer : Answer Pass) (backward : Bool) (n done-at : ℕ) (start : List ℕ) (held : PassSlices) (most bound : ℕ)
+pub record PassAs (answer : Answer Pass) (backward : Bool) (n done-at : ℕ) (start : List ℕ) (held : PassSlices)
+    (most bound : ℕ)
     (r : Passed) : Type 0 where
   pub told : PassBy answer backward n done-at start held most bound r
 
 -- a walk stands on one node and looks at another
-abbrev pub StandsBy : {A : Type 0} → Answer A → (ℕ → ℕ → Pass → A) → Bool → ℕ → ℕ → List ℕ → PassSlices → ℕ → ℕ → Stands → Type 0
+abbrev pub StandsBy : {A : Type 0} → Answer A → (ℕ → ℕ → Pass → A) → Bool → ℕ → ℕ → List ℕ → PassSlices → ℕ → ℕ → Stands
+    → Type 0
 StandsBy answer at backward n done-at start held most bound (On curr to count) =
     Gives answer (at curr to) backward n done-at start held count most bound × ((curr < n) × (to < n))
 StandsBy answer at backward n done-at start held most bound Nowhere = answer ≡ failed
 
-pub record StandsAs {A : Type 0} (answer : Answer A) (at : ℕ → ℕ → Pass → A) (backward : Bool) (n done-at : ℕ) (start : List ℕ)
+pub record StandsAs {A : Type 0} (answer : Answer A) (at : ℕ → ℕ → Pass → A) (backward : Bool) (n done-at : ℕ)
+    (start : List ℕ)
     (held : PassSlices) (most bound : ℕ) (r : Stands) : Type 0 where
   pub told : StandsBy answer at backward n done-at start held most bound r
 
 -- a walk looks at the node that a relink walk found
-abbrev pub FindsBy : {A : Type 0} → Answer A → (ℕ → Pass → A) → Bool → ℕ → ℕ → List ℕ → PassSlices → ℕ → ℕ → ℕ → Walked → Type 0
+abbrev pub FindsBy : {A : Type 0} → Answer A → (ℕ → Pass → A) → Bool → ℕ → ℕ → List ℕ → PassSlices → ℕ → ℕ → ℕ → Walked
+    → Type 0
 FindsBy answer at backward n done-at start held count most bound (Found i) =
     Gives answer (at i) backward n done-at start held count most bound × (i < n)
 FindsBy answer at backward n done-at start held count most bound Endless = answer ≡ failed
@@ -100,10 +108,12 @@ unordered e = isNan (e .time) || isNan (e .sub)
 
 abbrev pub EnqueuedBy : Bool → List Float → List ℕ → List Float → List ℕ → ℕ → Entry → Passed → Type 0
 EnqueuedBy backward ts ns ts′ ns′ count e (Queued k) =
-    (unordered e ≡ false) × ((k ≡ count + 1) × ((es : List Entry) → Holds backward ts ns count es → Holds backward ts′ ns′ k (e ∷ es)))
+    (unordered e ≡ false) × ((k ≡ count + 1) × ((es : List Entry) → Holds backward ts ns count es → Holds backward ts′
+    ns′ k (e ∷ es)))
 EnqueuedBy backward ts ns ts′ ns′ count e Fails = unordered e ≡ true
 
-pub record EnqueuedAs (backward : Bool) (ts : List Float) (ns : List ℕ) (ts′ : List Float) (ns′ : List ℕ) (count : ℕ) (e : Entry)
+pub record EnqueuedAs (backward : Bool) (ts : List Float) (ns : List ℕ) (ts′ : List Float) (ns′ : List ℕ) (count : ℕ)
+    (e : Entry)
     (r : Passed) : Type 0 where
   pub told : EnqueuedBy backward ts ns ts′ ns′ count e r
 

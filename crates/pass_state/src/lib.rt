@@ -14,7 +14,8 @@ pub enum Passed {
     Fails,
 }
 
-// Which node a walk stands on, which one it looks at, and how many entries the queue has then; or that an assertion fails.
+// Which node a walk stands on, which one it looks at, and how many entries the queue has then; or that an assertion
+// fails.
 pub enum Stands {
     On(u32, u32, usize),
     Nowhere,

@@ -1,5 +1,6 @@
--- The table entry, document 01: "The passes also accept a lent node table of 3 to 65,535 nodes and a departure (row 4, either sign);
--- each node's time is checked, then read as untimed. It gives 3, 4, 5, 14, 15 or 16. Its report: nodes alone."
+-- The table entry, document 01: "The passes also accept a lent node table of 3 to 65,535 nodes and a departure (row 4,
+-- either sign); each node's time is checked, then read as untimed. It gives 3, 4, 5, 14, 15 or 16. Its report: nodes
+-- alone."
 use mathlib.Core.Path.{_≡_}
 use mathlib.Core.Bool.{Bool, not, _||_}
 use mathlib.Core.List.{List, [], _∷_}
@@ -20,7 +21,8 @@ use Rattle.pass_rules.specs.Passes.{passes}
 use Rattle.pass_table.specs.declared.TimedTable.{TimedTable}
 use Rattle.pass_table.specs.declared.TimedTable.the-variants.{Whole, Refused}
 
--- Row 3: "table handed to the passes outside 3 to 65,535 nodes; work space below 36,864 + 64 times (.. table places up to 65,535) bytes"
+-- Row 3: "table handed to the passes outside 3 to 65,535 nodes; work space below 36,864 + 64 times (.. table places up
+-- to 65,535) bytes"
 unfoldable pub tableRow3 : ℕ → ℕ → Bool
 tableRow3 n bytes = ltb n 3 || ltb 65535 n || ltb bytes (36864 + 64 * min n 65535)
 
@@ -68,7 +70,8 @@ wholly n t = given (record { table = t; nodes = n })
 -- what becomes of the table that is lent
 unfoldable pub timesOf : Slices → Float → Answer Network
 unfolding tableTimes
-timesOf lent departure = andThen (tableTimes (lent .table) departure (bytesIn (lent .work))) (wholly (nodesIn (lent .table)))
+timesOf lent departure = andThen (tableTimes (lent .table) departure (bytesIn (lent .work)))
+    (wholly (nodesIn (lent .table)))
 
 abbrev pub timedAnswer : Answer Network → TimedTable
 timedAnswer (refused k) = Refused k
@@ -83,8 +86,8 @@ abbrev pub tableNodes : TimedTable → ℕ
 tableNodes (Whole n) = n
 tableNodes (Refused k) = 0
 
--- "Accepted: nodes in the lent table (.. as many places as both slices fill, all else zero)"; "Refused: the number; every lent table ..
--- zero"; "Work space is zero either way."
+-- "Accepted: nodes in the lent table (.. as many places as both slices fill, all else zero)"; "Refused: the number;
+-- every lent table .. zero"; "Work space is zero either way."
 pub record TimesUpdated (lent left : Slices) (departure : Float) (r : TimedTable) : Type 0 where
   pub answer : r ≡ timedAnswer (timesOf lent departure)
   pub floats : left .table .floats ≡ floatsLeft (timesOf lent departure) (length (lent .table .floats))

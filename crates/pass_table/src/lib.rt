@@ -113,7 +113,8 @@ fn time_nodes(
     marks: &mut [u32],
 ) -> u32
     requires { ⌜ n ≡ nodesIn (record { floats = now floats; numbers = now numbers }) ⌝ }
-    ensures { λ r. ⌜ TimedAs (tableTimes (tableAtEntry floats numbers) departure (bytesIn (workAtEntry reals cells marks))) r (tableAtExit floats numbers) ⌝ }
+    ensures { λ r. ⌜ TimedAs (tableTimes (tableAtEntry floats numbers) departure
+        (bytesIn (workAtEntry reals cells marks))) r (tableAtExit floats numbers) ⌝ }
 {
     let units = space::units(reals.len(), cells.len(), marks.len());
     let number = first_number(floats, numbers, n, departure, units);
@@ -145,8 +146,8 @@ fn answer_of(number: u32, n: usize) -> TimedTable
     }
 }
 
-// Checks and times a lent node table of as many nodes as both slices fill. What they hold past the nodes is zero afterwards, all of both
-// on a refusal; the work space is zero either way.
+// Checks and times a lent node table of as many nodes as both slices fill. What they hold past the nodes is zero
+// afterwards, all of both on a refusal; the work space is zero either way.
 pub fn update_times(
     floats: &mut [f64],
     numbers: &mut [u32],
@@ -155,7 +156,8 @@ pub fn update_times(
     cells: &mut [u32],
     marks: &mut [u32],
 ) -> TimedTable
-    ensures { λ r. ⌜ TimesUpdated (lentAtEntry floats numbers reals cells marks) (lentAtExit floats numbers reals cells marks) departure r ⌝ }
+    ensures { λ r. ⌜ TimesUpdated (lentAtEntry floats numbers reals cells marks)
+        (lentAtExit floats numbers reals cells marks) departure r ⌝ }
 {
     let n = net_node::nodes_filled(floats.len(), numbers.len());
     let number = time_nodes(floats, numbers, n, departure, reals, cells, marks);

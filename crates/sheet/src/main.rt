@@ -1,7 +1,8 @@
 // Reads a book from standard input and prints the listing of its sheet, or `refused N`: books to 65,536 bytes (longer
 // ones print `too long`), 192 nodes, 65,536 bytes of work space.
-// A program of this language has no exit status to give. Where standard output takes no more, as on a full disk or where
-// it is closed, a line on standard error says so; a write to a pipe that nobody reads ends the program by SIGPIPE.
+// A program of this language has no exit status to give. Where standard output takes no more, as on a full disk or
+// where it is closed, a line on standard error says so; a write to a pipe that nobody reads ends the program by
+// SIGPIPE.
 use libc::STDERR_FILENO;
 use libc::STDIN_FILENO;
 use libc::STDOUT_FILENO;

@@ -21,7 +21,10 @@ textOf (Refused k) t = some (refusedText k)
 
 -- the table that a book's job leaves, of slices of these sizes
 abbrev pub tableLeft : List ℕ → Sizes → Table
-tableLeft b z = record { floats = floatsLeft (sheetOf (job b z)) (z .floats); numbers = numbersLeft (sheetOf (job b z)) (z .numbers) }
+tableLeft b z = record {
+  floats = floatsLeft (sheetOf (job b z)) (z .floats);
+  numbers = numbersLeft (sheetOf (job b z)) (z .numbers);
+}
 
 -- the text of a book
 abbrev pub bookText : List ℕ → Sizes → Option (List ℕ)

@@ -20,10 +20,18 @@ pub record Work : Type 0 where
   pub marks : List ℕ
 
 abbrev pub workAtEntry : Lent (List Float) → Lent (List ℕ) → Lent (List ℕ) → Work
-workAtEntry reals cells marks = record { reals = now (reals .entry); cells = now (cells .entry); marks = now (marks .entry) }
+workAtEntry reals cells marks = record {
+  reals = now (reals .entry);
+  cells = now (cells .entry);
+  marks = now (marks .entry);
+}
 
 abbrev pub workAtExit : Lent (List Float) → Lent (List ℕ) → Lent (List ℕ) → Work
-workAtExit reals cells marks = record { reals = now (reals .exit); cells = now (cells .exit); marks = now (marks .exit) }
+workAtExit reals cells marks = record {
+  reals = now (reals .exit);
+  cells = now (cells .exit);
+  marks = now (marks .exit);
+}
 
 -- its whole units in bytes: what row 3 counts
 abbrev pub bytesIn : Work → ℕ
