@@ -29,5 +29,6 @@ pub mod Alike
 pub mod AlikeRuns
 pub mod AlikeDrives
 pub mod OneGrowth
+pub mod SameArcs
 pub mod Books
 pub mod Examples
