@@ -1,0 +1,88 @@
+-- Two tables of a few nodes, made by hand so that one rule alone decides what becomes of them. What they give was
+-- worked out along the source's update_times.rs, and harness/reference and harness/plain answer the same.
+use mathlib.Core.Path.{_≡_, refl}
+use mathlib.Core.List.{List, [], _∷_}
+use Prim.Native.Nat.{ℕ}
+use lib.IntN.{pos}
+use lib.Ieee.{Float, binary64, ofInt, ofBits, add, sub, lt, le, eq, isNan}
+use Rattle.laws.specs.Answer.{refused, given}
+use Rattle.laws.specs.Below.{someBelow}
+use Rattle.net_node.specs.declared.EstType.{EstType}
+use Rattle.net_node.specs.declared.EstType.the-variants.{Arrive, Clear, Fake}
+use Rattle.net_node.specs.declared.EstTime.{EstTime}
+use Rattle.net_node.specs.Table.{tableOf, at, nodeAt}
+use Rattle.pass_queue.specs.Queue.{before, best, others}
+use Rattle.pass_rules.specs.Passes.{passes}
+use Rattle.pass_rules.specs.Checks.{nodeHolds, row14}
+use Rattle.pass_rules.specs.Forward as Forward
+use Rattle.pass_rules.specs.Backward as Backward
+
+-- whole seconds or metres
+abbrev whole : ℕ → Float
+whole n = ofInt binary64 (pos n)
+
+-- a node: its kind and link; next, next alternative, previous and previous alternative; time, time and distance to next
+abbrev node : EstType → ℕ → ℕ → ℕ → ℕ → ℕ → ℕ → ℕ → ℕ → EstTime
+node kind link next next-alt prev prev-alt time time-to-next dist-to-next = record {
+  «time_sched» = whole time;
+  «time_to_next» = whole time-to-next;
+  «dist_to_next» = whole dist-to-next;
+  speed = whole 0;
+  «idx_next» = next;
+  «idx_next_alt» = next-alt;
+  «idx_prev» = prev;
+  «idx_prev_alt» = prev-alt;
+  «link_event» = record { «link_idx» = link; «est_type» = kind };
+}
+
+-- One chain, 0 1 2 4 3 5. Forward times all of it. Backward starts from the node before the last by number, which is 4,
+-- and so never passes node 3 behind it; none of its assertions fails.
+abbrev unpassed : List EstTime
+unpassed =
+    node Fake 0 1 0 0 0 0 0 0
+    ∷ node Fake 0 2 0 0 0 0 0 0
+    ∷ node Arrive 1 4 0 1 0 0 1 0
+    ∷ node Arrive 2 5 0 4 0 0 1 0
+    ∷ node Clear 1 3 0 2 0 0 1 0
+    ∷ node Fake 0 0 0 3 0 0 0 0
+    ∷ []
+
+-- Node 2 splits: 3 is reached from it after 5 s, 5 from its Fake 4 after 3 s; both are ends. Backward both are queued at
+-- 13 s less the arc that leads to them, which stands at the node before: 3 at 8 s, 5 at 10 s. So 5 goes first, gets
+-- node 2 as its previous, and 3 the Fake; 2 stays at 10 s, and the Fake comes to 8 s. By the nodes' own arcs, which are
+-- 0, both would be queued at 13 s, and 3 would go first, since 2 s are to be taken off it.
+abbrev split : List EstTime
+split =
+    node Fake 0 1 0 0 0 0 0 0
+    ∷ node Fake 0 2 0 0 0 0 0 0
+    ∷ node Arrive 1 3 4 1 0 0 5 50
+    ∷ node Arrive 2 7 0 2 0 0 0 0
+    ∷ node Fake 0 5 0 2 0 0 3 30
+    ∷ node Arrive 3 6 0 4 0 0 0 0
+    ∷ node Fake 0 7 0 5 0 0 0 0
+    ∷ node Fake 0 8 0 3 6 0 0 0
+    ∷ node Fake 0 0 0 7 0 0 0 0
+    ∷ []
+
+abbrev split-timed : List EstTime
+split-timed =
+    node Fake 0 1 0 0 0 10 0 0
+    ∷ node Fake 0 2 0 0 0 10 0 0
+    ∷ node Arrive 1 5 4 1 0 10 3 30
+    ∷ node Arrive 2 6 0 4 0 13 0 0
+    ∷ node Fake 0 3 0 2 0 8 5 50
+    ∷ node Arrive 3 7 0 2 0 13 0 0
+    ∷ node Fake 0 7 0 3 0 13 0 0
+    ∷ node Fake 0 8 0 5 6 13 0 0
+    ∷ node Fake 0 0 0 7 0 13 0 0
+    ∷ []
+
+record SmallTables : Type 0 where
+  -- row 15: "a node .. never passed"
+  never-passed : passes (tableOf unpassed) 6 (whole 10) ≡ refused 15
+  -- the time in the backward queue is taken off by the arc of the node before
+  arc-of-base : passes (tableOf split) 9 (whole 10) ≡ given (tableOf split-timed)
+
+small-tables : SmallTables
+unfolding add sub lt le eq isNan ofBits ofInt someBelow at nodeAt before best others nodeHolds row14 Forward.forward Backward.backward passes
+small-tables = record { never-passed = refl; arc-of-base = refl }
