@@ -1,0 +1,161 @@
+-- Two books made by hand from document 01's worked one and from lines of 100 m. What they give was worked out from
+-- document 01's words, and harness/reference answers the same counts and network for the first and 9 for the second.
+use mathlib.Core.Path.{_≡_, refl}
+use mathlib.Core.List.{List, [], _∷_, _++_}
+use Prim.Native.Nat.{ℕ, zero, suc, _*_}
+use lib.ListN.{replicate}
+use lib.Ieee.{Float, binary64, ofBits, toBits, ofInt, add, sub, mul, div, lt, le, eq, round, sum, isNan, neg, below, level}
+use Rattle.laws.specs.Answer.{Answer, refused, given}
+use Rattle.net_node.specs.declared.EstTime.{EstTime}
+use Rattle.net_node.specs.Table.{kindNumber, Table, put, at, withNextAlt, withPrevAlt, floatWidth, numberWidth}
+use Rattle.grow_rules.specs.Run.{Arc}
+use Rattle.grow_rules.specs.Growth.{Grown}
+use Rattle.laws.specs.Below.{someBelow, sumBelow}
+use Rattle.fields.specs.Fields.{u32At, u64At}
+use Rattle.floats.specs.Floats.{billion, tableFloat, abs, gap, smaller}
+use Rattle.root.specs.Root.{rootDigits, wholeRoot, rootOf, sqrt}
+use Rattle.book_format.specs.Chains.{legBelow}
+use Rattle.book_format.specs.Format.{joinBits, departureBits, lengthBits, links, originsAt, origins, destinationsAt, destinations, legsAt, legs, samplesAt, samples, endOf, sectionsOf, linkLength, linkNext, linkNextAlt, linkPrev, linkPrevAlt, originLink, originOffset, originFront, destinationLink, legLink, legParent, legSamples, sampleTime, sampleOffset, sampleSpeed, firstSample, linkAt, originAt, legAt, sampleFrom, sampleAt, samplePatterns, headPatterns}
+use Rattle.book_options.specs.Options.{member, originBelow, stacked, pushed, enter, search, optionsOf, inSet, keptOrigins}
+use Rattle.event_formula.specs.Event.{eventOffset, clears, twiceAhead, speedAt, timeAt, passingAt, badPassing}
+use Rattle.net_node.specs.Table.{sameKind, sameEvent, nodeAt, putFloats, putNumbers, noLinkEvent, blank}
+use Rattle.event_walk.specs.Course.{courseOf}
+use Rattle.event_walk.specs.Walk.{firstBeyond, startBack, startFront, start, offsetNext, inRange, clearsNext, emits, turned, turn, passedAs, passedNext, walk, turnsLeft, passedFrom, pointsPassed, reachesLast, badPoint, someBad, row11}
+use Rattle.net_insertion.specs.Insertion.{matches, seek, linkedTo, eventNode, splitFake, addBehind, splitAt, placeAt, soughtIn, inserted, insertedTable, flagged}
+use Rattle.net_strands.specs.Entries.{entry, entryAt, entriesIn, push}
+use Rattle.net_strands.specs.Space.{alternatives, strandFrom, strands, extended, extendedAll}
+use Rattle.net_event_map.specs.EventMap.{seenIn, nodesFrom, eventNodes, lastOf, arriveAt, clearAt}
+use Rattle.net_joins.specs.Joins.{closer, closestOf, closest, chainEnd, joinFake, joinAt, joinedTable, names, appendedAll, appended, rebuilt, joinStep}
+use Rattle.grow_path.specs.Path.{legsTo, pathOf, linkOf, pointLink, pointOffset, legCourse, eventAt, eventsAt, legEvents}
+use Rattle.grow_rules.specs.Growth.{fakeNode, firstNodes, originEvent, originRun, seekLeg, growOrigins, badFinish, finishedAt, waiting, onOver, saveOver, goOn, isDestination, finishes, takeLeg, drive, leadsToEnd, endFakes, lastNode, grownWith, grow}
+use Rattle.grow_rules.specs.Run.{arcTo, arcToEnd, addedTo, movedTo, insertEvent, joinedTo, withJoins, runEvent, runEvents}
+use Rattle.book_format.proofs.SmallBooks.{whole, float, number, link, leg, sample, section, book, link0, link2}
+use Rattle.book_format.proofs.SmallBooks as Small
+
+-- a table of so many places, zero
+abbrev lent : ℕ → Table
+lent n = record { floats = replicate (n * floatWidth) (ofBits binary64 0); numbers = replicate (n * numberWidth) 0 }
+
+-- what growth counts and notes, or the refusal's number
+record Answered : Type 0 where
+  number : ℕ
+  nodes : ℕ
+  added : ℕ
+  splits : ℕ
+  joined : ℕ
+  finished : ℕ
+  noted : List Arc
+
+-- the noted arcs are kept the latest first; here the first comes first
+abbrev inOrder : List Arc → List Arc → List Arc
+inOrder [] later = later
+inOrder (a ∷ before) later = inOrder before (a ∷ later)
+
+abbrev answer : Answer Grown → Answered
+answer (refused n) = record { number = n; nodes = 0; added = 0; splits = 0; joined = 0; finished = 0; noted = [] }
+answer (given g) = record {
+  number = 0;
+  nodes = g .nodes;
+  added = g .added;
+  splits = g .splits;
+  joined = g .joined;
+  finished = g .finished;
+  noted = inOrder (g .noted) [];
+}
+
+-- an arc with whole seconds and metres; to 0: the end
+abbrev arc : ℕ → ℕ → ℕ → ℕ → Arc
+arc from to time distance = record { from = from; to = to; time = whole time; distance = whole distance }
+
+-- ---- two forks
+
+-- Links of 100 m: 1 leads to 2 and to 3, both lead to 4, and 4 to 5 and to 6, which are the destinations. A train of
+-- 20 m departs at 0 s; it is at 10 m/s wherever a sample or an event is. J is 1.
+abbrev forks : List ℕ
+forks =
+    book (float 1 ++ float 0 ++ float 20)
+    (section
+    (link0
+    ∷ link (float 100) 2 3 0 0
+    ∷ link (float 100) 4 0 1 0
+    ∷ link (float 100) 4 0 1 0
+    ∷ link (float 100) 5 6 2 3
+    ∷ link (float 100) 0 0 4 0
+    ∷ link (float 100) 0 0 4 0
+    ∷ []))
+    Small.origins (section (number 5 ∷ number 6 ∷ []))
+    (section
+    (leg 1 0 2
+    ∷ leg 2 1 2
+    ∷ leg 4 2 2
+    ∷ leg 5 3 2
+    ∷ leg 6 3 3
+    ∷ leg 3 1 2
+    ∷ leg 4 6 2
+    ∷ leg 5 7 2
+    ∷ leg 6 7 2
+    ∷ []))
+    (section
+    (sample 0 20 10 ∷ sample 7 90 10
+    ∷ sample 7 90 10 ∷ sample 17 190 10
+    ∷ sample 17 190 10 ∷ sample 19 210 10
+    ∷ sample 19 210 10 ∷ sample 37 390 10
+    ∷ sample 19 210 10 ∷ sample 22 230 10 ∷ sample 38 390 10
+    ∷ sample 7 90 10 ∷ sample 18 190 10
+    ∷ sample 18 190 10 ∷ sample 20 210 10
+    ∷ sample 20 210 10 ∷ sample 38 390 10
+    ∷ sample 20 210 10 ∷ sample 39 390 10
+    ∷ []))
+
+-- Four runs, the last saved first. A is an Arrive, C a Clear, each with its link and when and where the run has it.
+abbrev forks-noted : List Arc
+forks-noted =
+    -- 1, 2, 4, 5: A1 (0 s, 0 m) is node 2, C1 (0, 20) 3, A2 (8, 100) 4, C2 (10, 120) 5, A4 (18, 200) 6, C4 (20, 220) 7,
+    -- A5 (28, 300) 8, C5 (30, 320) 9; it finishes there
+    arc 1 2 0 0
+    ∷ arc 2 3 0 20
+    ∷ arc 3 4 8 80
+    ∷ arc 4 5 2 20
+    ∷ arc 5 6 8 80
+    ∷ arc 6 7 2 20
+    ∷ arc 7 8 8 80
+    ∷ arc 8 9 2 20
+    ∷ arc 9 0 0 0
+    -- then 6, saved at A4: C4 (21, 220) moves to node 7, whose own run had it at 20 s; from there by a split, the Fake 10:
+    -- A6 (29, 300) 11, C6 (31, 320) 12; it finishes
+    ∷ arc 7 11 8 80
+    ∷ arc 11 12 2 20
+    ∷ arc 12 0 0 0
+    -- 3, 4, 5, saved at C1: by a split, the Fake 13: A3 (9, 100) 14, C3 (11, 120) 15, A4 (19, 200) 16; C4 (21, 220) joins
+    -- node 7, through the Fake 17
+    ∷ arc 3 14 9 80
+    ∷ arc 14 15 2 20
+    ∷ arc 15 16 8 80
+    ∷ arc 16 7 2 20
+    -- then 6, saved at that A4 with the entry (4, 6): by a split, the Fake 18: C4 (22, 220) 19, A6 (30, 300) 20. There the
+    -- entry leads to node 11, and so it is not appended with 6 for its m; C6 (32, 320) 21 joins nothing; it finishes
+    ∷ arc 16 19 3 20
+    ∷ arc 19 20 8 80
+    ∷ arc 20 21 2 20
+    ∷ arc 21 0 0 0
+    ∷ []
+
+-- ---- row 9: "next is 0"
+
+-- the worked book, but link 2 is the alternative of link 1, which has no next
+abbrev alternative-alone : List ℕ
+alternative-alone =
+    book Small.head (section (link0 ∷ link (float 12) 0 2 0 0 ∷ link2 ∷ [])) Small.origins Small.destinations Small.legs
+    Small.samples
+
+record Forks : Type 0 where
+  forks-grown : answer (grow forks 26 (lent 26))
+      ≡ record { number = 0; nodes = 26; added = 16; splits = 3; joined = 1; finished = 3; noted = forks-noted }
+  -- one place less: row 12
+  forks-short : answer (grow forks 25 (lent 25)) ≡ answer (refused 12)
+  -- a next of 0 is refused although the alternative is in the set
+  next-of-zero : answer (grow alternative-alone 8 (lent 8)) ≡ answer (refused 9)
+
+forks-of : Forks
+unfolding ofInt someBelow sumBelow u32At u64At billion tableFloat abs gap smaller rootDigits wholeRoot rootOf sqrt legBelow joinBits departureBits lengthBits links originsAt origins destinationsAt destinations legsAt legs samplesAt samples endOf sectionsOf linkLength linkNext linkNextAlt linkPrev linkPrevAlt originLink originOffset originFront destinationLink legLink legParent legSamples sampleTime sampleOffset sampleSpeed firstSample linkAt originAt legAt sampleFrom sampleAt samplePatterns headPatterns member originBelow stacked pushed enter search optionsOf inSet keptOrigins eventOffset clears twiceAhead speedAt timeAt passingAt badPassing sameKind sameEvent nodeAt putFloats putNumbers noLinkEvent blank courseOf firstBeyond startBack startFront start offsetNext inRange clearsNext emits turned turn passedAs passedNext walk turnsLeft passedFrom pointsPassed reachesLast badPoint someBad row11 matches seek linkedTo eventNode splitFake put at addBehind splitAt placeAt soughtIn inserted insertedTable flagged entry entryAt entriesIn push alternatives strandFrom strands extended extendedAll seenIn nodesFrom eventNodes lastOf arriveAt clearAt closer closestOf closest chainEnd joinFake joinAt joinedTable names appendedAll appended rebuilt joinStep legsTo pathOf linkOf pointLink pointOffset legCourse eventAt eventsAt legEvents fakeNode firstNodes originEvent originRun seekLeg growOrigins badFinish finishedAt waiting onOver saveOver goOn isDestination finishes takeLeg drive leadsToEnd endFakes lastNode grownWith grow arcTo arcToEnd addedTo movedTo insertEvent joinedTo withJoins runEvent runEvents add sub mul div lt le eq ofBits round sum toBits isNan neg
+forks-of = record { forks-grown = refl; forks-short = refl; next-of-zero = refl }
