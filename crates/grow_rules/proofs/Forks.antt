@@ -1,14 +1,15 @@
--- Two books made by hand from document 01's worked one and from lines of 100 m. What they give was worked out from
--- document 01's words, and harness/reference answers the same counts and network for the first and 9 for the second.
+-- Books with forks, made by hand. What they give was worked out from document 01's words, and harness/reference answers
+-- the same: the counts and the network, or the refusal's number.
 use mathlib.Core.Path.{_≡_, refl}
+use mathlib.Core.Bool.{true, false}
 use mathlib.Core.List.{List, [], _∷_, _++_}
 use Prim.Native.Nat.{ℕ, zero, suc, _*_}
 use lib.ListN.{replicate}
 use lib.Ieee.{Float, binary64, ofBits, toBits, ofInt, add, sub, mul, div, lt, le, eq, round, sum, isNan, neg, below, level}
 use Rattle.laws.specs.Answer.{Answer, refused, given}
 use Rattle.net_node.specs.declared.EstTime.{EstTime}
-use Rattle.net_node.specs.Table.{kindNumber, Table, put, at, withNextAlt, withPrevAlt, floatWidth, numberWidth}
-use Rattle.grow_rules.specs.Run.{Arc}
+use Rattle.net_node.specs.Table.{Table, tableOf, put, at, withNext, withNextAlt, withPrevAlt, floatWidth, numberWidth}
+use Rattle.grow_rules.specs.Run.{Arc, Net, Run}
 use Rattle.grow_rules.specs.Growth.{Grown}
 use Rattle.laws.specs.Below.{someBelow, sumBelow}
 use Rattle.fields.specs.Fields.{u32At, u64At}
@@ -62,6 +63,10 @@ answer (given g) = record {
   finished = g .finished;
   noted = inOrder (g .noted) [];
 }
+
+abbrev refusal : {A : Type 0} → Answer A → ℕ
+refusal (refused n) = n
+refusal (given a) = 0
 
 -- an arc with whole seconds and metres; to 0: the end
 abbrev arc : ℕ → ℕ → ℕ → ℕ → Arc
@@ -121,24 +126,83 @@ forks-noted =
     ∷ arc 7 8 8 80
     ∷ arc 8 9 2 20
     ∷ arc 9 0 0 0
-    -- then 6, saved at A4: C4 (21, 220) moves to node 7, whose own run had it at 20 s; from there by a split, the Fake 10:
-    -- A6 (29, 300) 11, C6 (31, 320) 12; it finishes
+    -- then 6, saved at A4: C4 (21, 220) moves to node 7, whose own run had it at 20 s; from there by a split, the Fake
+    -- 10: A6 (29, 300) 11, C6 (31, 320) 12; it finishes
     ∷ arc 7 11 8 80
     ∷ arc 11 12 2 20
     ∷ arc 12 0 0 0
-    -- 3, 4, 5, saved at C1: by a split, the Fake 13: A3 (9, 100) 14, C3 (11, 120) 15, A4 (19, 200) 16; C4 (21, 220) joins
-    -- node 7, through the Fake 17
+    -- 3, 4, 5, saved at C1: by a split, the Fake 13: A3 (9, 100) 14, C3 (11, 120) 15, A4 (19, 200) 16; C4 (21, 220)
+    -- joins node 7, through the Fake 17
     ∷ arc 3 14 9 80
     ∷ arc 14 15 2 20
     ∷ arc 15 16 8 80
     ∷ arc 16 7 2 20
-    -- then 6, saved at that A4 with the entry (4, 6): by a split, the Fake 18: C4 (22, 220) 19, A6 (30, 300) 20. There the
-    -- entry leads to node 11, and so it is not appended with 6 for its m; C6 (32, 320) 21 joins nothing; it finishes
+    -- then 6, saved at that A4 with the entry (4, 6): by a split, the Fake 18: C4 (22, 220) 19, A6 (30, 300) 20. There
+    -- the entry leads to node 11, which is then not appended with 6 for its m; C6 (32, 320) 21 joins nothing and the
+    -- run finishes
     ∷ arc 16 19 3 20
     ∷ arc 19 20 8 80
     ∷ arc 20 21 2 20
     ∷ arc 21 0 0 0
     ∷ []
+
+-- ---- "Only a run that has added since its pop joins."
+
+-- 1 leads to 2, 2 to 3 and to 4, 3 to 4, the destination. The run over 3 goes first. The other, saved at A2, moves to
+-- its C2; A4, which the first has as node 8, is its own first addition and finds it nothing. So its C4 joins nothing.
+abbrev detour : List ℕ
+detour =
+    book (float 1 ++ float 0 ++ float 20)
+    (section
+    (link0
+    ∷ link (float 100) 2 0 0 0
+    ∷ link (float 100) 3 4 1 0
+    ∷ link (float 100) 4 0 2 0
+    ∷ link (float 100) 0 0 3 2
+    ∷ []))
+    Small.origins (section (number 4 ∷ [])) (section (leg 1 0 2 ∷ leg 2 1 2 ∷ leg 3 2 2 ∷ leg 4 3 2 ∷ leg 4 2 2 ∷ []))
+    (section
+    (sample 0 20 10 ∷ sample 7 90 10
+    ∷ sample 7 90 10 ∷ sample 9 110 10
+    ∷ sample 9 110 10 ∷ sample 27 290 10
+    ∷ sample 27 290 10 ∷ sample 37 390 10
+    ∷ sample 9 110 10 ∷ sample 27 290 10
+    ∷ []))
+
+-- A1 is node 2, C1 3, A2 4, C2 5, A3 6, C3 7, A4 8, C4 9; then behind the Fake 10 A4 11 and C4 12
+abbrev detour-noted : List Arc
+detour-noted =
+    arc 1 2 0 0
+    ∷ arc 2 3 0 20
+    ∷ arc 3 4 8 80
+    ∷ arc 4 5 2 20
+    ∷ arc 5 6 8 80
+    ∷ arc 6 7 2 20
+    ∷ arc 7 8 8 80
+    ∷ arc 8 9 2 20
+    ∷ arc 9 0 0 0
+    ∷ arc 5 11 8 80
+    ∷ arc 11 12 2 20
+    ∷ arc 12 0 0 0
+    ∷ []
+
+-- ---- row 13: "addition behind a finished run's event; finish .. on one .. already an end"
+
+-- 1 leads to 2 and to 3, the destinations. On the way to 2 no event follows C1, node 3, and so the run finishes there.
+-- What the other, saved there too, has over 3 is left open.
+abbrev ended : ℕ → List (List ℕ) → List ℕ
+ended n over =
+    book (float 1 ++ float 0 ++ float 20)
+    (section (link0 ∷ link (float 100) 2 3 0 0 ∷ link (float 100) 0 0 1 0 ∷ link (float 100) 0 0 1 0 ∷ []))
+    Small.origins (section (number 2 ∷ number 3 ∷ [])) (section (leg 1 0 2 ∷ leg 2 1 1 ∷ leg 3 1 n ∷ []))
+    (section (sample 0 20 10 ∷ sample 7 90 10 ∷ sample 7 90 10 ∷ over))
+
+-- no event, so it finishes on the same node; or A3, which is to be added behind it
+abbrev finished-twice : List ℕ
+finished-twice = ended 1 (sample 7 90 10 ∷ [])
+
+abbrev added-behind : List ℕ
+added-behind = ended 2 (sample 7 90 10 ∷ sample 17 190 10 ∷ [])
 
 -- ---- row 9: "next is 0"
 
@@ -148,14 +212,76 @@ alternative-alone =
     book Small.head (section (link0 ∷ link (float 12) 0 2 0 0 ∷ link2 ∷ [])) Small.origins Small.destinations Small.legs
     Small.samples
 
+-- ---- what no small book shows by itself: closed networks and runs
+
+-- a run that has taken leg 1 of the worked book, at a node, with so many join entries
+abbrev runAt : ℕ → ℕ → Run
+runAt i n = record {
+  place = record { «time_to_next» = whole 0; «dist_to_next» = whole 0; «idx_prev» = i };
+  leg = 1;
+  «has_split» = true;
+  joins = replicate n (entry 1 1);
+}
+
+-- the number for saving a run with so many entries, while one with three waits, on a table of 8 places
+abbrev saving : ℕ → ℕ
+saving n = refusal (saveOver Small.worked 8 (runAt 3 n) 2 (runAt 3 3 ∷ []))
+
+-- nodes 0 to 3 in a line, the last with this next, and these ends
+abbrev line : ℕ → List ℕ → Net
+line next ends = record {
+  table = tableOf (withNext blank 1 ∷ withNext blank 2 ∷ withNext blank 3 ∷ withNext blank next ∷ []);
+  nodes = 4;
+  ends = ends;
+  added = 2;
+  splits = 0;
+  joined = 0;
+  noted = [];
+}
+
+record Closed : Type 0 where
+  -- row 12: "entries of all waiting runs beyond the table's places"
+  entries-fit : saving 5 ≡ 0
+  one-entry-more : saving 6 ≡ 12
+  -- row 13: "finish not on the last node, or on one with a next or already an end"
+  finish-on-last : badFinish (line 0 (2 ∷ [])) (runAt 3 0) ≡ false
+  finish-before-last : badFinish (line 0 []) (runAt 2 0) ≡ true
+  finish-with-next : badFinish (line 1 []) (runAt 3 0) ≡ true
+  finish-on-end : badFinish (line 0 (3 ∷ [])) (runAt 3 0) ≡ true
+
 record Forks : Type 0 where
   forks-grown : answer (grow forks 26 (lent 26))
       ≡ record { number = 0; nodes = 26; added = 16; splits = 3; joined = 1; finished = 3; noted = forks-noted }
   -- one place less: row 12
   forks-short : answer (grow forks 25 (lent 25)) ≡ answer (refused 12)
-  -- a next of 0 is refused although the alternative is in the set
+  detour-grown : answer (grow detour 16 (lent 16))
+      ≡ record { number = 0; nodes = 16; added = 10; splits = 1; joined = 0; finished = 2; noted = detour-noted }
+  -- rows 9 and 13 each by this cause alone
   next-of-zero : answer (grow alternative-alone 8 (lent 8)) ≡ answer (refused 9)
+  already-an-end : answer (grow finished-twice 8 (lent 8)) ≡ answer (refused 13)
+  behind-an-end : answer (grow added-behind 8 (lent 8)) ≡ answer (refused 13)
+  -- "Of 12 and 13 at one event: 12"
+  behind-an-end-full : answer (grow added-behind 4 (lent 4)) ≡ answer (refused 12)
 
 forks-of : Forks
 unfolding ofInt someBelow sumBelow u32At u64At billion tableFloat abs gap smaller rootDigits wholeRoot rootOf sqrt legBelow joinBits departureBits lengthBits links originsAt origins destinationsAt destinations legsAt legs samplesAt samples endOf sectionsOf linkLength linkNext linkNextAlt linkPrev linkPrevAlt originLink originOffset originFront destinationLink legLink legParent legSamples sampleTime sampleOffset sampleSpeed firstSample linkAt originAt legAt sampleFrom sampleAt samplePatterns headPatterns member originBelow stacked pushed enter search optionsOf inSet keptOrigins eventOffset clears twiceAhead speedAt timeAt passingAt badPassing sameKind sameEvent nodeAt putFloats putNumbers noLinkEvent blank courseOf firstBeyond startBack startFront start offsetNext inRange clearsNext emits turned turn passedAs passedNext walk turnsLeft passedFrom pointsPassed reachesLast badPoint someBad row11 matches seek linkedTo eventNode splitFake put at addBehind splitAt placeAt soughtIn inserted insertedTable flagged entry entryAt entriesIn push alternatives strandFrom strands extended extendedAll seenIn nodesFrom eventNodes lastOf arriveAt clearAt closer closestOf closest chainEnd joinFake joinAt joinedTable names appendedAll appended rebuilt joinStep legsTo pathOf linkOf pointLink pointOffset legCourse eventAt eventsAt legEvents fakeNode firstNodes originEvent originRun seekLeg growOrigins badFinish finishedAt waiting onOver saveOver goOn isDestination finishes takeLeg drive leadsToEnd endFakes lastNode grownWith grow arcTo arcToEnd addedTo movedTo insertEvent joinedTo withJoins runEvent runEvents add sub mul div lt le eq ofBits round sum toBits isNan neg
-forks-of = record { forks-grown = refl; forks-short = refl; next-of-zero = refl }
+forks-of = record {
+  forks-grown = refl;
+  forks-short = refl;
+  detour-grown = refl;
+  next-of-zero = refl;
+  already-an-end = refl;
+  behind-an-end = refl;
+  behind-an-end-full = refl;
+}
+
+closed : Closed
+unfolding ofInt someBelow sumBelow u32At u64At billion tableFloat abs gap smaller rootDigits wholeRoot rootOf sqrt legBelow joinBits departureBits lengthBits links originsAt origins destinationsAt destinations legsAt legs samplesAt samples endOf sectionsOf linkLength linkNext linkNextAlt linkPrev linkPrevAlt originLink originOffset originFront destinationLink legLink legParent legSamples sampleTime sampleOffset sampleSpeed firstSample linkAt originAt legAt sampleFrom sampleAt samplePatterns headPatterns member originBelow stacked pushed enter search optionsOf inSet keptOrigins eventOffset clears twiceAhead speedAt timeAt passingAt badPassing sameKind sameEvent nodeAt putFloats putNumbers noLinkEvent blank courseOf firstBeyond startBack startFront start offsetNext inRange clearsNext emits turned turn passedAs passedNext walk turnsLeft passedFrom pointsPassed reachesLast badPoint someBad row11 matches seek linkedTo eventNode splitFake put at addBehind splitAt placeAt soughtIn inserted insertedTable flagged entry entryAt entriesIn push alternatives strandFrom strands extended extendedAll seenIn nodesFrom eventNodes lastOf arriveAt clearAt closer closestOf closest chainEnd joinFake joinAt joinedTable names appendedAll appended rebuilt joinStep legsTo pathOf linkOf pointLink pointOffset legCourse eventAt eventsAt legEvents fakeNode firstNodes originEvent originRun seekLeg growOrigins badFinish finishedAt waiting onOver saveOver goOn isDestination finishes takeLeg drive leadsToEnd endFakes lastNode grownWith grow arcTo arcToEnd addedTo movedTo insertEvent joinedTo withJoins runEvent runEvents add sub mul div lt le eq ofBits round sum toBits isNan neg
+closed = record {
+  entries-fit = refl;
+  one-entry-more = refl;
+  finish-on-last = refl;
+  finish-before-last = refl;
+  finish-with-next = refl;
+  finish-on-end = refl;
+}
