@@ -1,16 +1,17 @@
--- Two tables of a few nodes, made by hand so that one rule alone decides what becomes of them. What they give was
--- worked out along the source's update_times.rs, and harness/reference and harness/plain answer the same.
+-- Tables of a few nodes, made by hand so that one rule alone decides what becomes of them. What they give was worked
+-- out along the source, and harness/reference and harness/plain answer the same.
 use mathlib.Core.Path.{_≡_, refl}
+use mathlib.Core.Bool.{false}
 use mathlib.Core.List.{List, [], _∷_}
 use Prim.Native.Nat.{ℕ}
 use lib.IntN.{pos}
 use lib.Ieee.{Float, binary64, ofInt, ofBits, add, sub, lt, le, eq, isNan}
-use Rattle.laws.specs.Answer.{refused, given}
+use Rattle.laws.specs.Answer.{Answer, refused, given}
 use Rattle.laws.specs.Below.{someBelow}
 use Rattle.net_node.specs.declared.EstType.{EstType}
 use Rattle.net_node.specs.declared.EstType.the-variants.{Arrive, Clear, Fake}
 use Rattle.net_node.specs.declared.EstTime.{EstTime}
-use Rattle.net_node.specs.Table.{tableOf, at, nodeAt}
+use Rattle.net_node.specs.Table.{Table, tableOf, at, nodeAt}
 use Rattle.pass_queue.specs.Queue.{before, best, others}
 use Rattle.pass_rules.specs.Passes.{passes}
 use Rattle.pass_rules.specs.Checks.{nodeHolds, row14}
@@ -47,22 +48,26 @@ unpassed =
     ∷ node Fake 0 0 0 3 0 0 0 0
     ∷ []
 
--- Node 2 splits: 3 is reached from it after 5 s, 5 from its Fake 4 after 3 s; both are ends. Backward both are queued at
--- 13 s less the arc that leads to them, which stands at the node before: 3 at 8 s, 5 at 10 s. So 5 goes first, gets
--- node 2 as its previous, and 3 the Fake; 2 stays at 10 s, and the Fake comes to 8 s. By the nodes' own arcs, which are
--- 0, both would be queued at 13 s, and 3 would go first, since 2 s are to be taken off it.
-abbrev split : List EstTime
-split =
+-- nodes 5 and 7 are left open
+abbrev splitWith : EstTime → EstTime → List EstTime
+splitWith node5 node7 =
     node Fake 0 1 0 0 0 0 0 0
     ∷ node Fake 0 2 0 0 0 0 0 0
     ∷ node Arrive 1 3 4 1 0 0 5 50
     ∷ node Arrive 2 7 0 2 0 0 0 0
     ∷ node Fake 0 5 0 2 0 0 3 30
-    ∷ node Arrive 3 6 0 4 0 0 0 0
+    ∷ node5
     ∷ node Fake 0 7 0 5 0 0 0 0
-    ∷ node Fake 0 8 0 3 6 0 0 0
+    ∷ node7
     ∷ node Fake 0 0 0 7 0 0 0 0
     ∷ []
+
+-- Node 2 splits: 3 is reached from it after 5 s, 5 from its Fake 4 after 3 s; both are ends. Backward both are queued
+-- at 13 s less the arc that leads to them, which stands at the node before: 3 at 8 s, 5 at 10 s. So 5 goes first, gets
+-- node 2 as its previous, and 3 the Fake; 2 stays at 10 s, and the Fake comes to 8 s. By the nodes' own arcs, which are
+-- 0, both would be queued at 13 s, and 3 would go first, since 2 s are to be taken off it.
+abbrev split : List EstTime
+split = splitWith (node Arrive 3 6 0 4 0 0 0 0) (node Fake 0 8 0 3 6 0 0 0)
 
 abbrev split-timed : List EstTime
 split-timed =
@@ -76,6 +81,53 @@ split-timed =
     ∷ node Fake 0 8 0 5 6 13 0 0
     ∷ node Fake 0 0 0 7 0 13 0 0
     ∷ []
+
+-- Row 14, one check at a time. A chain of four nodes, of which the first and the last are left open:
+abbrev chain : EstTime → EstTime → List EstTime
+chain first last = first ∷ node Fake 0 2 0 0 0 0 1 0 ∷ node Arrive 1 3 0 1 0 0 1 0 ∷ last ∷ []
+
+-- with these the checks hold
+abbrev first : EstTime
+first = node Fake 0 1 0 0 0 0 0 0
+
+abbrev last : EstTime
+last = node Fake 0 0 0 2 0 0 0 0
+
+-- what the passes give, from 10 s on
+abbrev chainGives : EstTime → EstTime → Answer Table
+chainGives a z = passes (tableOf (chain a z)) 4 (whole 10)
+
+abbrev splitGives : EstTime → EstTime → Answer Table
+splitGives node5 node7 = passes (tableOf (splitWith node5 node7)) 9 (whole 10)
+
+record Row14 : Type 0 where
+  chain-holds : row14 (at (tableOf (chain first last))) 4 ≡ false
+  split-holds : row14 (at (tableOf split)) 9 ≡ false
+  -- node 0 has a previous
+  prev-of-zero : chainGives (node Fake 0 1 0 2 0 0 0 0) last ≡ refused 14
+  -- the last node has a next, itself
+  next-of-last : chainGives first (node Fake 0 3 0 2 0 0 0 0) ≡ refused 14
+  -- node 0, its own previous, has an alternative, so that neither of its nexts is itself
+  prev-leads-elsewhere : chainGives (node Fake 0 1 3 0 0 0 0 0) last ≡ refused 14
+  -- the Fake 6 leads to node 7, which has node 4 for its previous alternative
+  next-led-elsewhere : splitGives (node Arrive 3 6 0 4 0 0 0 0) (node Fake 0 8 0 3 4 0 0 0) ≡ refused 14
+  -- the Fake 7 has both alternatives
+  fake-with-both : splitGives (node Arrive 3 6 0 4 0 0 0 0) (node Fake 0 8 7 3 6 0 0 0) ≡ refused 14
+  -- node 6 is the next alternative of node 5 before it and the previous alternative of node 7 behind it
+  both-alternates : splitGives (node Arrive 3 6 6 4 0 0 0 0) (node Fake 0 8 0 3 6 0 0 0) ≡ refused 14
+
+row14-of : Row14
+unfolding add sub lt le eq isNan ofBits ofInt someBelow at nodeAt before best others nodeHolds row14 Forward.forward Backward.backward passes
+row14-of = record {
+  chain-holds = refl;
+  split-holds = refl;
+  prev-of-zero = refl;
+  next-of-last = refl;
+  prev-leads-elsewhere = refl;
+  next-led-elsewhere = refl;
+  fake-with-both = refl;
+  both-alternates = refl;
+}
 
 record SmallTables : Type 0 where
   -- row 15: "a node .. never passed"
