@@ -212,6 +212,16 @@ alternative-alone =
     book Small.head (section (link0 ∷ link (float 12) 0 2 0 0 ∷ link2 ∷ [])) Small.origins Small.destinations Small.legs
     Small.samples
 
+-- the worked book with another next of link 1, link 3, from which no destination is reached: the run goes on over the
+-- alternative, and the sheet's arcs are the worked book's
+abbrev over-alternative : List ℕ
+over-alternative =
+    book Small.head (section (link0 ∷ link (float 12) 3 2 0 0 ∷ link2 ∷ link (float 50) 0 0 1 0 ∷ [])) Small.origins
+    Small.destinations Small.legs Small.samples
+
+abbrev worked-noted : List Arc
+worked-noted = arc 1 2 0 0 ∷ arc 2 3 0 10 ∷ arc 3 4 2 2 ∷ arc 4 5 3 10 ∷ arc 5 0 0 0 ∷ []
+
 -- ---- what no small book shows by itself: closed networks and runs
 
 -- a run that has taken leg 1 of the worked book, at a node, with so many join entries
@@ -256,6 +266,8 @@ record Forks : Type 0 where
   forks-short : answer (grow forks 25 (lent 25)) ≡ answer (refused 12)
   detour-grown : answer (grow detour 16 (lent 16))
       ≡ record { number = 0; nodes = 16; added = 10; splits = 1; joined = 0; finished = 2; noted = detour-noted }
+  alternative-grown : answer (grow over-alternative 8 (lent 8))
+      ≡ record { number = 0; nodes = 8; added = 4; splits = 0; joined = 0; finished = 1; noted = worked-noted }
   -- rows 9 and 13 each by this cause alone
   next-of-zero : answer (grow alternative-alone 8 (lent 8)) ≡ answer (refused 9)
   already-an-end : answer (grow finished-twice 8 (lent 8)) ≡ answer (refused 13)
@@ -269,6 +281,7 @@ forks-of = record {
   forks-grown = refl;
   forks-short = refl;
   detour-grown = refl;
+  alternative-grown = refl;
   next-of-zero = refl;
   already-an-end = refl;
   behind-an-end = refl;

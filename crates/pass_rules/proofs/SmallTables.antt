@@ -129,7 +129,33 @@ row14-of = record {
   both-alternates = refl;
 }
 
+-- Node 2, a Fake, leads back to node 1, and by its alternative to the end, node 3: forward stops at node 1 and never
+-- times node 3. Backward would pass all four.
+abbrev untimed : List EstTime
+untimed =
+    node Fake 0 1 0 0 0 0 0 0
+    ∷ node Fake 0 2 0 0 2 0 2 0
+    ∷ node Fake 0 1 3 1 0 0 0 0
+    ∷ node Fake 0 0 0 2 0 0 0 0
+    ∷ []
+
+-- Node 1 leads to the Fake 2 by its next and by its alternative. Forward exchanges nexts: 1 leads to 4, and 3 to 2.
+-- Backward comes from node 3, an alternative of 4, to node 2 and finds node 3 before it, which is passed and of which
+-- node 2 is not the next alternative.
+abbrev not-its-alternative : List EstTime
+not-its-alternative =
+    node Fake 0 1 0 0 0 0 3 0
+    ∷ node Fake 0 2 2 0 0 0 2 0
+    ∷ node Fake 0 3 0 1 3 0 1 0
+    ∷ node Fake 0 4 0 2 0 0 1 0
+    ∷ node Arrive 1 5 0 3 3 0 3 0
+    ∷ node Fake 0 0 0 4 0 0 0 0
+    ∷ []
+
 record SmallTables : Type 0 where
+  -- row 15: "a node never timed", and an assertion of the backward pass
+  never-timed : passes (tableOf untimed) 4 (whole 10) ≡ refused 15
+  asserted-alternative : passes (tableOf not-its-alternative) 6 (whole 10) ≡ refused 15
   -- row 15: "a node .. never passed"
   never-passed : passes (tableOf unpassed) 6 (whole 10) ≡ refused 15
   -- the time in the backward queue is taken off by the arc of the node before
@@ -137,4 +163,4 @@ record SmallTables : Type 0 where
 
 small-tables : SmallTables
 unfolding add sub lt le eq isNan ofBits ofInt someBelow at nodeAt before best others nodeHolds row14 Forward.forward Backward.backward passes
-small-tables = record { never-passed = refl; arc-of-base = refl }
+small-tables = record { never-timed = refl; asserted-alternative = refl; never-passed = refl; arc-of-base = refl }
