@@ -152,7 +152,30 @@ not-its-alternative =
     ∷ node Fake 0 0 0 4 0 0 0 0
     ∷ []
 
+-- Node 1 splits: by 2 and by 3, 4 and 5 to the end Fake 6. The alternatives 3 (of node 1) and 5 (of node 6) should be
+-- Fakes; which kinds they have is left open.
+abbrev twoWays : EstType → EstType → List EstTime
+twoWays kind3 kind5 =
+    node Fake 0 1 0 0 0 0 0 0
+    ∷ node Fake 0 2 3 0 0 0 1 0
+    ∷ node Arrive 1 6 0 1 0 0 0 0
+    ∷ node kind3 0 4 0 1 0 0 3 0
+    ∷ node Arrive 1 5 0 3 0 0 3 0
+    ∷ node kind5 0 6 0 4 0 0 0 0
+    ∷ node Fake 0 7 0 2 5 0 0 0
+    ∷ node Fake 0 0 0 6 0 0 0 0
+    ∷ []
+
+-- by number: 0 where the passes give a table
+abbrev refusal : Answer Table → ℕ
+refusal (refused n) = n
+refusal (given t) = 0
+
 record SmallTables : Type 0 where
+  both-fakes : refusal (passes (tableOf (twoWays Fake Fake)) 8 (whole 10)) ≡ 0
+  -- assertions: what comes to a timed node forward, or to a passed node backward, is a Fake
+  asserted-fake-forward : refusal (passes (tableOf (twoWays Fake Arrive)) 8 (whole 10)) ≡ 15
+  asserted-fake-backward : refusal (passes (tableOf (twoWays Arrive Fake)) 8 (whole 10)) ≡ 15
   -- row 15: "a node never timed", and an assertion of the backward pass
   never-timed : passes (tableOf untimed) 4 (whole 10) ≡ refused 15
   asserted-alternative : passes (tableOf not-its-alternative) 6 (whole 10) ≡ refused 15
@@ -163,4 +186,12 @@ record SmallTables : Type 0 where
 
 small-tables : SmallTables
 unfolding add sub lt le eq isNan ofBits ofInt someBelow at nodeAt before best others nodeHolds row14 Forward.forward Backward.backward passes
-small-tables = record { never-timed = refl; asserted-alternative = refl; never-passed = refl; arc-of-base = refl }
+small-tables = record {
+  both-fakes = refl;
+  asserted-fake-forward = refl;
+  asserted-fake-backward = refl;
+  never-timed = refl;
+  asserted-alternative = refl;
+  never-passed = refl;
+  arc-of-base = refl;
+}
