@@ -30,7 +30,7 @@ use Rattle.net_joins.specs.Joins.{closer, closestOf, closest, chainEnd, joinFak
 use Rattle.grow_path.specs.Path.{legsTo, pathOf, linkOf, pointLink, pointOffset, legCourse, eventAt, eventsAt, legEvents}
 use Rattle.grow_rules.specs.Growth.{fakeNode, firstNodes, originEvent, originRun, seekLeg, growOrigins, badFinish, finishedAt, waiting, onOver, saveOver, goOn, isDestination, finishes, takeLeg, drive, leadsToEnd, endFakes, lastNode, grownWith, grow}
 use Rattle.grow_rules.specs.Run.{arcTo, arcToEnd, addedTo, movedTo, insertEvent, joinedTo, withJoins, runEvent, runEvents}
-use Rattle.book_format.proofs.SmallBooks.{whole, float, number, link, leg, sample, section, book, link0, link2}
+use Rattle.book_format.proofs.SmallBooks.{whole, float, number, link, origin, leg, sample, section, book, link0, link2}
 use Rattle.book_format.proofs.SmallBooks as Small
 
 -- a table of so many places, zero
@@ -186,6 +186,38 @@ detour-noted =
     ∷ arc 12 0 0 0
     ∷ []
 
+-- ---- "last saved run first"
+
+-- 1 and 2, the origins, lead to 3, the destination. Link 1's origin is kept first, and so the run from 2 is taken up
+-- first: its A3 (9, 100) is node 7; that from 1 has A3 (8, 100) as node 9.
+abbrev two-origins : List ℕ
+two-origins =
+    book (float 1 ++ float 0 ++ float 20)
+    (section (link0 ∷ link (float 100) 3 0 0 0 ∷ link (float 100) 3 0 0 0 ∷ link (float 100) 0 0 2 1 ∷ []))
+    (section (origin 1 (float 0) 0 ∷ origin 2 (float 0) 0 ∷ [])) (section (number 3 ∷ []))
+    (section (leg 1 0 2 ∷ leg 2 0 2 ∷ leg 3 1 2 ∷ leg 3 2 2 ∷ []))
+    (section
+    (sample 0 20 10 ∷ sample 7 90 10
+    ∷ sample 0 20 10 ∷ sample 7 90 10
+    ∷ sample 7 90 10 ∷ sample 17 190 10
+    ∷ sample 7 90 10 ∷ sample 18 190 10
+    ∷ []))
+
+-- A1 is node 2, C1 3; behind the Fake 4, a split at the start, A2 5 and C2 6
+abbrev two-origins-noted : List Arc
+two-origins-noted =
+    arc 1 2 0 0
+    ∷ arc 2 3 0 20
+    ∷ arc 1 5 0 0
+    ∷ arc 5 6 0 20
+    ∷ arc 6 7 9 80
+    ∷ arc 7 8 2 20
+    ∷ arc 8 0 0 0
+    ∷ arc 3 9 8 80
+    ∷ arc 9 10 2 20
+    ∷ arc 10 0 0 0
+    ∷ []
+
 -- ---- row 13: "addition behind a finished run's event; finish .. on one .. already an end"
 
 -- 1 leads to 2 and to 3, the destinations. On the way to 2 no event follows C1, node 3, and so the run finishes there.
@@ -266,6 +298,8 @@ record Forks : Type 0 where
   forks-short : answer (grow forks 25 (lent 25)) ≡ answer (refused 12)
   detour-grown : answer (grow detour 16 (lent 16))
       ≡ record { number = 0; nodes = 16; added = 10; splits = 1; joined = 0; finished = 2; noted = detour-noted }
+  two-origins-grown : answer (grow two-origins 14 (lent 14))
+      ≡ record { number = 0; nodes = 14; added = 8; splits = 1; joined = 0; finished = 2; noted = two-origins-noted }
   alternative-grown : answer (grow over-alternative 8 (lent 8))
       ≡ record { number = 0; nodes = 8; added = 4; splits = 0; joined = 0; finished = 1; noted = worked-noted }
   -- rows 9 and 13 each by this cause alone
@@ -281,6 +315,7 @@ forks-of = record {
   forks-grown = refl;
   forks-short = refl;
   detour-grown = refl;
+  two-origins-grown = refl;
   alternative-grown = refl;
   next-of-zero = refl;
   already-an-end = refl;
