@@ -32,6 +32,7 @@ pub mod AlikeRuns
 pub mod AlikeDrives
 pub mod OneGrowth
 pub mod Numbered
+pub mod SameArcs
 pub mod Books
 pub mod Examples
 pub mod Cases

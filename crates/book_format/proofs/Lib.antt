@@ -5,3 +5,5 @@ pub mod Measures
 pub mod Given
 mod Same
 pub mod Theorems
+pub mod SmallBooks
+mod Limits

@@ -1,2 +1,3 @@
 pub mod Rooms
 pub mod Numbers
+mod Refusals

@@ -1,2 +1,3 @@
 mod Examples
-pub mod Turns
+mod Turns
+mod Forks

@@ -1,8 +1,9 @@
 -- Worked examples: the choice, the join and the append in networks of a few nodes.
 use mathlib.Core.Path.{_≡_, refl}
 use mathlib.Core.List.{List, [], _∷_}
-use mathlib.Core.Option.{Option, some}
+use mathlib.Core.Option.{Option, none, some}
 use Prim.Native.Nat.{ℕ}
+use lib.ListN.{length}
 use lib.Ieee.{Float, binary64, sub, lt, ofBits}
 use Rattle.laws.specs.Below.{someBelow}
 use Rattle.floats.specs.Floats.{gap}
@@ -71,6 +72,15 @@ joined = joinedTable web 8 2 (event 2s Clear 1)
 abbrev looped : Table
 looped = joinedTable web 8 7 (event 2s Clear 1)
 
+-- what is appended to no entries where each of the first n nodes has the Arrive of link 1
+abbrev crowd : ℕ → Option (List EstJoinPath)
+crowd n = appended (λ i. node 1s Arrive 1 1 0 0) n (record { «link_idx» = 1; «est_type» = Arrive }) []
+
+-- the number of entries, 0 for a refusal
+abbrev size : Option (List EstJoinPath) → ℕ
+size none = 0
+size (some es) = length es
+
 record Examples : Type 0 where
   -- no entries: no join
   no-entries : step 1s (event 2s Clear 1) [] ≡ GoesOn []
@@ -103,6 +113,9 @@ record Examples : Type 0 where
   arrives : step 1s (event 3s Arrive 1) (entry 0 1 ∷ []) ≡ GoesOn (entry 1 1 ∷ entry 1 3 ∷ entry 1 5 ∷ entry 1 7 ∷ [])
   -- a Clear appends nothing
   clear-appends : after Clear (entry 0 6 ∷ []) ≡ some (entry 0 6 ∷ [])
+  -- row 12: 1,024 entries have room, one more has none
+  last-entry : size (crowd 1024) ≡ 1024
+  one-entry-more : crowd 1025 ≡ none
 
 examples : Examples
 unfolding joinStep joinedTable appended closest seenIn someBelow eventNodes extendedAll alternatives strands strandFrom push entry sameEvent at nodeAt putFloats putNumbers linkedTo joinFake gap sub lt ofBits blank noLinkEvent
@@ -127,4 +140,6 @@ examples = record {
   appends-all = refl;
   arrives = refl;
   clear-appends = refl;
+  last-entry = refl;
+  one-entry-more = refl;
 }

@@ -5,3 +5,4 @@ pub mod Walking
 pub mod Extending
 pub mod Kept
 pub mod Examples
+mod Limits

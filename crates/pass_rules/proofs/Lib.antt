@@ -2,3 +2,4 @@ pub mod Sets
 mod Held
 mod Walking
 mod Examples
+mod SmallTables
