@@ -263,6 +263,7 @@ runAt i n = record {
   leg = 1;
   «has_split» = true;
   joins = replicate n (entry 1 1);
+  nodes = [];
 }
 
 -- the number for saving a run with so many entries, while one with three waits, on a table of 8 places
@@ -279,6 +280,7 @@ line next ends = record {
   splits = 0;
   joined = 0;
   noted = [];
+  runs = [];
 }
 
 record Closed : Type 0 where
