@@ -23,7 +23,7 @@ use Rattle.net_node.specs.Table.{kindNumber}
 use Rattle.event_walk.specs.declared.Movement.{Movement}
 use Rattle.event_walk.specs.declared.PassedPoint.{PassedPoint}
 use Rattle.event_walk.specs.Course.{Course, courseOf}
-use Rattle.event_walk.specs.Walk.{pointsPassed, row11}
+use Rattle.event_walk.specs.Walk.{pointsPassed, row11, badLegNumber}
 use Rattle.event_maker.specs.declared.Made.{Made}
 use Rattle.event_maker.specs.declared.Made.the-variants.{Listed, Refused}
 
@@ -105,10 +105,7 @@ falling c =
     someBelow (c .samples - 1) (λ i. sampleFalls (c .sample i) (c .sample (suc i)))
     || someBelow (c .points - 1) (λ k. lt (c .offset (suc k)) (c .offset k))
 
--- the numbers of "any 11, then 12 for a short list"
-abbrev pub badLegNumber : ℕ
-badLegNumber = 11
-
+-- the number of "then 12 for a short list"
 abbrev pub shortNumber : ℕ
 shortNumber = 12
 

@@ -15,10 +15,10 @@ use Rattle.book_format.specs.Rows.{badSampleFrom, sampleFalls}
 use Rattle.net_node.specs.Table.{kindNumber}
 use Rattle.event_walk.specs.declared.PassedPoint.{PassedPoint}
 use Rattle.event_walk.specs.Course.{Course}
-use Rattle.event_walk.specs.Walk.{pointsPassed, reachesLast, someBad}
+use Rattle.event_walk.specs.Walk.{pointsPassed, reachesLast, someBad, badLegNumber}
 use Rattle.event_maker.specs.declared.Made.{Made}
 use Rattle.event_maker.specs.declared.Made.the-variants.{Listed, Refused}
-use Rattle.event_maker.specs.Maker.{badCounts, badFloats, falling, badLegNumber, shortNumber, rowsTo11}
+use Rattle.event_maker.specs.Maker.{badCounts, badFloats, falling, shortNumber, rowsTo11}
 use Rattle.event_maker.specs.Maker.{floatsAs, numbersAs}
 use Rattle.event_maker.specs.Maker.{EventList, placesIn, eventFloatWidth, eventNumberWidth}
 

@@ -152,9 +152,14 @@ unfolding badPoint
 someBad [] = false
 someBad (p ∷ ps) = badPoint p || someBad ps
 
+-- Row 11 of a leg: a sample offset reaches the last point, or an event is bad
 unfoldable pub row11 : Course → Bool
 unfolding reachesLast someBad pointsPassed
 row11 c = reachesLast c || someBad (pointsPassed c)
+
+-- its number
+abbrev pub badLegNumber : ℕ
+badLegNumber = 11
 
 -- ---- what the walking code keeps
 

@@ -19,7 +19,7 @@ use Rattle.grow_path.specs.Kept.{PathIn}
 use Rattle.grow_ends.specs.Ends.{EndsIn, Below}
 use Rattle.grow_rules.specs.Run.{Net, Run, After, memberOf, insertEvent, goesOn, runEvent, runEvents, countIf}
 use Rattle.grow_rules.specs.Run.{Outcome, Ended as Left, On as Goes}
-use Rattle.grow_rules.specs.Growth.{badLegNumber}
+use Rattle.event_walk.specs.Walk.{badLegNumber}
 use denote.Ref.{now}
 use Rattle.space.specs.Lent.{Lent}
 use Rattle.net_node.specs.declared.TimedEvent.{TimedEvent}

@@ -14,7 +14,7 @@ use Rattle.grow_path.specs.Path.{pathOf, linkOf, legCourse, legEvents}
 use Rattle.grow_path.specs.Kept.{PathIn}
 use Rattle.grow_rules.specs.Run.{Net, Run, Outcome, runEvents}
 use Rattle.grow_rules.specs.Growth.{joinGap, onOver, saveOver, finishAs, badFinish, goOn, legEndAs, finishes, takeLeg}
-use Rattle.grow_rules.specs.Growth.{badLegNumber}
+use Rattle.event_walk.specs.Walk.{badLegNumber}
 use Rattle.grow_events.specs.Held.{NetIn, OutcomeAs}
 use Rattle.grow_events.specs.declared.RunAnswer.{RunAnswer}
 use Rattle.grow_state.specs.declared.Plan.{Plan}

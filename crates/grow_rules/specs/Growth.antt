@@ -16,7 +16,7 @@ use Rattle.book_legs.specs.declared.LegSearch.{LegSearch}
 use Rattle.book_legs.specs.declared.LegSearch.the-variants.{Found, Missing}
 use Rattle.book_legs.specs.Legs.{searchOf, legSearch, searchNumber}
 use Rattle.book_options.specs.Options.{inSet, keptOrigins}
-use Rattle.event_walk.specs.Walk.{row11}
+use Rattle.event_walk.specs.Walk.{row11, badLegNumber}
 use Rattle.net_node.specs.declared.EstType.{EstType}
 use Rattle.net_node.specs.declared.EstType.the-variants.{Arrive, Clear}
 use Rattle.net_node.specs.declared.EstTime.{EstTime}
@@ -225,10 +225,6 @@ legEndAs false b places a saved = goOn b places (a .net) (a .run) saved
 abbrev pub legDone : List ℕ → ℕ → List Run → Outcome → Answer Growth
 legDone b places saved (Ended net) = given (record { net = net; saved = saved })
 legDone b places saved (On a) = legEndAs (finishes b (a .run .leg)) b places a saved
-
--- Row 11's number, for a leg
-abbrev pub badLegNumber : ℕ
-badLegNumber = 11
 
 -- by whether row 11 holds of the leg
 abbrev pub legAs : Bool → List ℕ → ℕ → Net → Run → List Run → Answer Growth
