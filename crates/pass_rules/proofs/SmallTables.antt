@@ -11,7 +11,7 @@ use Rattle.laws.specs.Below.{someBelow}
 use Rattle.net_node.specs.declared.EstType.{EstType}
 use Rattle.net_node.specs.declared.EstType.the-variants.{Arrive, Clear, Fake}
 use Rattle.net_node.specs.declared.EstTime.{EstTime}
-use Rattle.net_node.specs.Table.{Table, tableOf, at, nodeAt}
+use Rattle.net_node.specs.Table.{Table, tableOf, at, nodeAt, blank, withTime, withArc, withEvent, withNext, withNextAlt, withPrev, withPrevAlt}
 use Rattle.pass_queue.specs.Queue.{before, best, others}
 use Rattle.pass_rules.specs.Passes.{passes}
 use Rattle.pass_rules.specs.Checks.{nodeHolds, row14}
@@ -24,17 +24,8 @@ whole n = ofInt binary64 (pos n)
 
 -- a node: its kind and link; next, next alternative, previous and previous alternative; time, time and distance to next
 abbrev node : EstType → ℕ → ℕ → ℕ → ℕ → ℕ → ℕ → ℕ → ℕ → EstTime
-node kind link next next-alt prev prev-alt time time-to-next dist-to-next = record {
-  «time_sched» = whole time;
-  «time_to_next» = whole time-to-next;
-  «dist_to_next» = whole dist-to-next;
-  speed = whole 0;
-  «idx_next» = next;
-  «idx_next_alt» = next-alt;
-  «idx_prev» = prev;
-  «idx_prev_alt» = prev-alt;
-  «link_event» = record { «link_idx» = link; «est_type» = kind };
-}
+node kind link next next-alt prev prev-alt time time-to-next dist-to-next =
+    withPrevAlt (withPrev (withNextAlt (withNext (withEvent (withArc (withTime blank (whole time)) (whole time-to-next) (whole dist-to-next)) (record { «link_idx» = link; «est_type» = kind })) next) next-alt) prev) prev-alt
 
 -- One chain, 0 1 2 4 3 5. Forward times all of it. Backward starts from the node before the last by number, which is 4,
 -- and so never passes node 3 behind it; none of its assertions fails.
