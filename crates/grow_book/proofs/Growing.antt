@@ -132,7 +132,7 @@ unfolding placesOf
 places-fit e = record { floats-fit = omega (arith, e); numbers-fit = omega (arith, e); most = omega (arith, e) }
 
 -- nodes 0 and 1 fit
-pub first-fit : {floats numbers places : ℕ} → places ≡ placesOf floats numbers → 2 ≤ places → (8 ≤ floats) × (12 ≤ numbers)
+pub first-fit : {floats numbers places : ℕ} → places ≡ placesOf floats numbers → 2 ≤ places → (2 * floatWidth ≤ floats) × (2 * numberWidth ≤ numbers)
 first-fit e h = let f = places-fit e in (omega (arith, f .floats-fit), omega (arith, f .numbers-fit))
 
 pub book-small : {places : ℕ} (floats numbers : ℕ) → places ≡ placesOf floats numbers → places < 2 → (b : List ℕ) (t : Table) → grow b (placesOf floats numbers) t ≡ refused 12

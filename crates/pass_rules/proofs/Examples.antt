@@ -2,10 +2,12 @@
 -- The answers are those of harness/reference, all fields of all nodes, or a refusal's number. A node's time is checked and then read as untimed, so it stands here as 0.
 use mathlib.Core.Path.{_≡_, refl}
 use mathlib.Core.List.{List, [], _∷_}
-use Prim.Native.Nat.{ℕ, zero, suc}
+use Prim.Native.Nat.{ℕ, zero, suc, _/_}
+use lib.ListN.{length, getD, drop}
 use lib.Ieee.{Float, binary64, ofBits, toBits, add, sub, lt, le, eq, round, sum, isNan, neg, below, level}
 use Rattle.net_node.specs.declared.EstTime.{EstTime}
-use Rattle.net_node.specs.Table.{kindNumber, Table, at, setTime, setNext, setPrev, setArc}
+use Rattle.net_node.specs.Table.{kindNumber, kindOf, Table, tableOf, at, setTime, setNext, setPrev, setArc}
+use Rattle.net_node.specs.Table.{blank, withTime, withArc, withSpeed, withEvent, withNext, withNextAlt, withPrev, withPrevAlt}
 use Rattle.laws.specs.Answer.{Answer, refused, given}
 use Rattle.laws.specs.Below.{someBelow}
 use Rattle.net_node.specs.Table.{nodeAt}
@@ -27,12 +29,20 @@ abbrev summary : ℕ → Answer Table → List ℕ
 summary n (refused m) = m ∷ []
 summary n (given t) = rows n t 0
 
-abbrev floatsOf : List ℕ → List Float
-floatsOf [] = []
-floatsOf (x ∷ xs) = ofBits binary64 x ∷ floatsOf xs
+-- the k-th of a node's floats, by its bits
+abbrev float : List ℕ → ℕ → Float
+float fs k = ofBits binary64 (getD fs k 0)
+
+-- so many nodes, of which the reference has four floats and six numbers each
+abbrev nodes : ℕ → List ℕ → List ℕ → List EstTime
+nodes zero fs us = []
+nodes (suc k) fs us =
+    withPrevAlt (withPrev (withNextAlt (withNext (withEvent (withSpeed (withArc (withTime blank (float fs 0)) (float fs 1) (float fs 2)) (float fs 3))
+    (record { «link_idx» = getD us 4 0; «est_type» = kindOf (getD us 5 0) })) (getD us 0 0)) (getD us 1 0)) (getD us 2 0)) (getD us 3 0)
+    ∷ nodes k (drop 4 fs) (drop 6 us)
 
 abbrev table : List ℕ → List ℕ → Table
-table fs us = record { floats = floatsOf fs; numbers = us }
+table fs us = tableOf (nodes (length fs / 4) fs us)
 
 -- nothing is relinked
 table0 : summary 8 (passes (table (0 ∷ 0 ∷ 0 ∷ 0 ∷ 0 ∷ 0 ∷ 0 ∷ 0 ∷ 0 ∷ 0 ∷ 0 ∷ 0 ∷ 0 ∷ 4633218854145753088 ∷ 4624070917402656768 ∷ 0 ∷ 0 ∷ 0 ∷ 0 ∷ 4611686018427387904 ∷
