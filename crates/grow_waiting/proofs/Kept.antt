@@ -60,6 +60,7 @@ module _ {c c′ : List ℕ} {r r′ : List Float} {w : Rooms} (s : SavedElsewhe
     next = λ i j h g t. first-of j (omega arith) ∙ m .next i j h g t;
     fresh = λ j h g. first-of j g ∙ m .fresh j h g;
     unmarked = λ j h. s .cells (v .«nodes_at» + j * 8 + 1) (λ i t e f g d. omega arith) (λ i t e f g d. omega arith) ∙ m .unmarked j h;
+    ungiven = λ j k h x y. s .cells (v .«nodes_at» + j * 8 + k) (λ i t e f g d. omega arith) (λ i t e f g d. omega arith) ∙ m .ungiven j k h x y;
     zeroth = m .zeroth;
   }
     where

@@ -111,7 +111,7 @@ pub record Agree (c d : List ℕ) (w : Layout) : Type 0 where
   pub first : (l : ℕ) → l < w .links → getD d (w .«links_at» + l * 8) 0 ≡ getD c (w .«links_at» + l * 8) 0
   pub last : (l : ℕ) → l < w .links → getD d (w .«links_at» + l * 8 + 1) 0 ≡ getD c (w .«links_at» + l * 8 + 1) 0
   pub next : (i : ℕ) → i < w .places → getD d (w .«nodes_at» + i * 8) 0 ≡ getD c (w .«nodes_at» + i * 8) 0
-  pub mark : (i : ℕ) → i < w .places → getD d (w .«nodes_at» + i * 8 + 1) 0 ≡ getD c (w .«nodes_at» + i * 8 + 1) 0
+  pub mark : (i k : ℕ) → i < w .places → 0 < k → k < 8 → getD d (w .«nodes_at» + i * 8 + k) 0 ≡ getD c (w .«nodes_at» + i * 8 + k) 0
 
 module _ {c : List ℕ} {w : Layout} {node : ℕ → EstTime} {n : ℕ} (v : Mapped c w node n) where
   -- node 0 is no event
@@ -131,7 +131,8 @@ module _ {c : List ℕ} {w : Layout} {node : ℕ → EstTime} {n : ℕ} (v : Map
     cleared = s;
     next = λ l i h g t. go l i h g t (equal-or-not i n);
     fresh = λ i h g. a .next i g ∙ v .fresh i (omega arith) g;
-    unmarked = λ i h. a .mark i h ∙ v .unmarked i h;
+    unmarked = λ i h. a .mark i 1 h (omega arith) (omega arith) ∙ v .unmarked i h;
+    ungiven = λ i k h f g. a .mark i k h (omega arith) g ∙ v .ungiven i k h f g;
     zeroth = v .zeroth;
   }
     where
@@ -165,7 +166,7 @@ module _ {c : List ℕ} {w : Layout} {node : ℕ → EstTime} {i : ℕ} (l : ℕ
     first = λ k h. getD-set-other c flag (w .«links_at» + k * 8) 1 0 (λ (d : w .«links_at» + k * 8 ≡ flag). omega arith);
     last = λ k h. getD-set-other c flag (w .«links_at» + k * 8 + 1) 1 0 (λ (d : w .«links_at» + k * 8 + 1 ≡ flag). omega arith);
     next = λ j h. getD-set-other c flag (w .«nodes_at» + j * 8) 1 0 (λ (d : w .«nodes_at» + j * 8 ≡ flag). omega (arith, p .apart));
-    mark = λ j h. getD-set-other c flag (w .«nodes_at» + j * 8 + 1) 1 0 (λ (d : w .«nodes_at» + j * 8 + 1 ≡ flag). omega (arith, p .apart));
+    mark = λ j k h f g. getD-set-other c flag (w .«nodes_at» + j * 8 + k) 1 0 (λ (d : w .«nodes_at» + j * 8 + k ≡ flag). omega (arith, p .apart));
   }) (λ k. ap (λ (x : LinkEvent). sameEvent x (arriveAt k)) e ∙ clear-no-arrive l k) (λ k h. go k h (equal-or-not k l))
     where
       go : (k : ℕ) → k < w .links → (k ≡ l) ⊎ (k ≡ l → ⊥) → getD (set c flag 1) (w .«links_at» + k * 8 + 2) 0 ≡ bit (seenIn node (i + 1) (clearAt k))
@@ -186,7 +187,7 @@ record Open (w : Layout) (node : ℕ → EstTime) (i l to : ℕ) : Type 0 where
   last-else : (k : ℕ) → k < w .links → w .«links_at» + k * 8 + 1 ≢ to
   clear-else : (k : ℕ) → k < w .links → w .«links_at» + k * 8 + 2 ≢ to
   node-else : (j : ℕ) → j < w .places → (j < i → has node (arriveAt l) j ≡ true → ⊥) → w .«nodes_at» + j * 8 ≢ to
-  mark-else : (j : ℕ) → j < w .places → w .«nodes_at» + j * 8 + 1 ≢ to
+  mark-else : (j k : ℕ) → j < w .places → 0 < k → k < 8 → w .«nodes_at» + j * 8 + k ≢ to
 
 module _ {c : List ℕ} {w : Layout} {node : ℕ → EstTime} {i : ℕ} (l to : ℕ) (p : CellsApart c w) (b : l < w .links) (m : i < w .places) (e : node i .«link_event» ≡ arriveAt l) (v : Mapped c w node i) where
   abbrev at : ℕ
@@ -215,12 +216,14 @@ module _ {c : List ℕ} {w : Layout} {node : ℕ → EstTime} {i : ℕ} (l to : 
         ∙ ap bit (sym (seen-passed node (clearAt k) i (no-clear k)));
     next = λ k j h q t. next k j h q t (equal-or-not j i) (equal-or-not k l);
     fresh = λ j h q. node-stays j q (λ (x : j < i) y. omega arith) ∙ v .fresh j (omega arith) q;
-    unmarked = λ j h.
-        two-other c to (at + 1) i i (w .«nodes_at» + j * 8 + 1) (o .mark-else j h) (λ (q : w .«nodes_at» + j * 8 + 1 ≡ at + 1). omega (arith, p .apart))
-        ∙ v .unmarked j h;
+    unmarked = λ j h. mark-stays j 1 h (omega arith) (omega arith) ∙ v .unmarked j h;
+    ungiven = λ j k h f g. mark-stays j k h (omega arith) g ∙ v .ungiven j k h f g;
     zeroth = v .zeroth;
   }
     where
+      mark-stays : (j k : ℕ) → j < w .places → 0 < k → k < 8 → getD d (w .«nodes_at» + j * 8 + k) 0 ≡ getD c (w .«nodes_at» + j * 8 + k) 0
+      mark-stays j k h f g = two-other c to (at + 1) i i (w .«nodes_at» + j * 8 + k) (o .mark-else j k h f g) (λ (q : w .«nodes_at» + j * 8 + k ≡ at + 1). omega (arith, p .apart))
+
       node-stays : (j : ℕ) → j < w .places → (j < i → has node (arriveAt l) j ≡ true → ⊥) → getD d (w .«nodes_at» + j * 8) 0 ≡ getD c (w .«nodes_at» + j * 8) 0
       node-stays j h q = two-other c to (at + 1) i i (w .«nodes_at» + j * 8) (o .node-else j h q) (λ (x : w .«nodes_at» + j * 8 ≡ at + 1). omega (arith, p .apart))
 
@@ -271,7 +274,7 @@ module _ {c : List ℕ} {w : Layout} {node : ℕ → EstTime} {i : ℕ} (l to : 
         last-else = λ k h x. omega arith;
         clear-else = λ k h x. omega arith;
         node-else = λ j h q x. omega (arith, p .apart);
-        mark-else = λ j h x. omega (arith, p .apart);
+        mark-else = λ j k h f g x. omega (arith, p .apart);
       })
       (two-first c to (at + 1) i i at (omega (arith, p .links-inside)) (sym s) (λ (q : at ≡ at + 1). omega arith) ∙ sym (head-first (nodesFrom node (arriveAt l) 0 i) i none))
       (λ j h t. absurd (nodes-none node (arriveAt l) 0 i j none (record { from = omega arith; below = omega arith; has-it = t })))
@@ -312,7 +315,7 @@ module _ {c : List ℕ} {w : Layout} {node : ℕ → EstTime} {i : ℕ} (l to : 
             last-else = λ k h x. omega (arith, p .apart);
             clear-else = λ k h x. omega (arith, p .apart);
             node-else = λ j h g x. let f : j ≡ q = omega arith in g (omega arith) (subst (λ (k : ℕ). has node (arriveAt l) k ≡ true) (sym f) (u .has-it));
-            mark-else = λ j h x. omega arith;
+            mark-else = λ j k h f g x. omega arith;
           })
           (two-other c to (at + 1) i i at (λ (x : at ≡ to). omega (arith, p .apart)) (λ (x : at ≡ at + 1). omega arith) ∙ v .first l b ∙ sym (head-kept xs i some))
           (λ j h t. chain j h t (equal-or-not j q) r)

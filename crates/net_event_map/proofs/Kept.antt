@@ -32,7 +32,7 @@ apart-same {c} {d} {w} e p = record {
 module _ {c : List ℕ} {w : Layout} {node : ℕ → EstTime} {n : ℕ} where
   pub mapped-fake : Mapped c w node n → n < w .places → node n .«link_event» .«est_type» ≡ Fake → Mapped c w node (n + 1)
   mapped-fake v h f =
-      mapped-quiet v c (omega arith) (record { first = λ l g. refl; last = λ l g. refl; next = λ i g. refl; mark = λ i g. refl })
+      mapped-quiet v c (omega arith) (record { first = λ l g. refl; last = λ l g. refl; next = λ i g. refl; mark = λ i k g a b. refl })
       (λ l. fake-none (node n .«link_event») (arriveAt l) f (arrive-real l))
       (λ l g. v .cleared l g ∙ ap bit (sym (seen-passed node (clearAt l) n (fake-none (node n .«link_event») (clearAt l) f (clear-real l)))))
 
@@ -60,6 +60,7 @@ module _ (node node′ : ℕ → EstTime) where
         v .next l i h g (ap (λ (x : LinkEvent). sameEvent x (arriveAt l)) (sym (s i g)) ∙ t) ∙ ap headOf (nodes-same (arriveAt l) (suc i) (n - suc i) (λ j f. s j (omega arith)));
     fresh = v .fresh;
     unmarked = v .unmarked;
+    ungiven = v .ungiven;
     zeroth = λ e t. v .zeroth e (ap (λ (x : LinkEvent). sameEvent x e) (sym (s 0 p)) ∙ t);
   }
 
@@ -80,35 +81,41 @@ module _ (c : List ℕ) (w : Layout) (node : ℕ → EstTime) where
         next = λ l i h k t. omega arith;
         fresh = λ i h k. ns (w .«nodes_at» + i * 8) (omega arith) (omega arith);
         unmarked = λ i h. ns (w .«nodes_at» + i * 8 + 1) (omega arith) (omega arith);
+        ungiven = λ i k h a b. ns (w .«nodes_at» + i * 8 + k) (omega arith) (omega arith);
         zeroth = λ e t. fake-only (node 0 .«link_event») e f t;
       }
 
 -- ---- a store elsewhere
 
+-- the columns of a node's unit that the map has: the first two and the last three
+abbrev MapColumn : ℕ → Type 0
+MapColumn k = (k < 2) ⊎ ((5 ≤ k) × (k < 8))
+
 module _ {c : List ℕ} {w : Layout} {node : ℕ → EstTime} {n : ℕ} (v : Mapped c w node n) (p : CellsApart c w) (x : ℕ) where
   -- in none of the map's cells
-  stays : (q : ℕ) → ((l k : ℕ) → l < w .links → k < 3 → w .«links_at» + l * 8 + k ≢ q) → ((i k : ℕ) → i < w .places → k < 2 → w .«nodes_at» + i * 8 + k ≢ q) → n ≤ w .places → Mapped (set c q x) w node n
+  stays : (q : ℕ) → ((l k : ℕ) → l < w .links → k < 3 → w .«links_at» + l * 8 + k ≢ q) → ((i k : ℕ) → i < w .places → MapColumn k → w .«nodes_at» + i * 8 + k ≢ q) → n ≤ w .places → Mapped (set c q x) w node n
   stays q a b m = record {
     first = λ l h. getD-set-other c q (w .«links_at» + l * 8) x 0 (λ (d : w .«links_at» + l * 8 ≡ q). a l 0 h (omega arith) (omega arith)) ∙ v .first l h;
     last = λ l h. getD-set-other c q (w .«links_at» + l * 8 + 1) x 0 (a l 1 h (omega arith)) ∙ v .last l h;
     cleared = λ l h. getD-set-other c q (w .«links_at» + l * 8 + 2) x 0 (a l 2 h (omega arith)) ∙ v .cleared l h;
-    next = λ l i h g t. getD-set-other c q (w .«nodes_at» + i * 8) x 0 (λ (d : w .«nodes_at» + i * 8 ≡ q). b i 0 (omega arith) (omega arith) (omega arith)) ∙ v .next l i h g t;
-    fresh = λ i h g. getD-set-other c q (w .«nodes_at» + i * 8) x 0 (λ (d : w .«nodes_at» + i * 8 ≡ q). b i 0 g (omega arith) (omega arith)) ∙ v .fresh i h g;
-    unmarked = λ i h. getD-set-other c q (w .«nodes_at» + i * 8 + 1) x 0 (b i 1 h (omega arith)) ∙ v .unmarked i h;
+    next = λ l i h g t. getD-set-other c q (w .«nodes_at» + i * 8) x 0 (λ (d : w .«nodes_at» + i * 8 ≡ q). b i 0 (omega arith) (inl (omega arith)) (omega arith)) ∙ v .next l i h g t;
+    fresh = λ i h g. getD-set-other c q (w .«nodes_at» + i * 8) x 0 (λ (d : w .«nodes_at» + i * 8 ≡ q). b i 0 g (inl (omega arith)) (omega arith)) ∙ v .fresh i h g;
+    unmarked = λ i h. getD-set-other c q (w .«nodes_at» + i * 8 + 1) x 0 (b i 1 h (inl (omega arith))) ∙ v .unmarked i h;
+    ungiven = λ i k h f g. getD-set-other c q (w .«nodes_at» + i * 8 + k) x 0 (b i k h (inr (f, g))) ∙ v .ungiven i k h f g;
     zeroth = v .zeroth;
   }
 
   -- in another column of a node
-  pub mapped-else : (i k : ℕ) → i < w .places → 2 ≤ k → k < 8 → n ≤ w .places → Mapped (set c (w .«nodes_at» + i * 8 + k) x) w node n
-  mapped-else i k h a b m = stays (w .«nodes_at» + i * 8 + k) (λ l j f g d. omega (arith, p .apart)) (λ j e f g d. omega arith) m
+  pub mapped-else : (i k : ℕ) → i < w .places → 2 ≤ k → k < 5 → n ≤ w .places → Mapped (set c (w .«nodes_at» + i * 8 + k) x) w node n
+  mapped-else i k h a b m = stays (w .«nodes_at» + i * 8 + k) (λ l j f g d. omega (arith, p .apart)) other m
+    where
+      other : (j t : ℕ) → j < w .places → MapColumn t → w .«nodes_at» + j * 8 + t ≢ w .«nodes_at» + i * 8 + k
+      other j t f (inl g) d = omega arith
+      other j t f (inr g) d = omega (arith, g .0, g .1)
 
   -- before the nodes' cells
   pub mapped-before : (q : ℕ) → q < w .«nodes_at» → n ≤ w .places → Mapped (set c q x) w node n
-  mapped-before q h m = stays q (λ l j f g d. omega (arith, p .apart)) (λ j e f g d. omega arith) m
-
-  -- behind both regions
-  pub mapped-behind : (q : ℕ) → w .«links_at» + w .links * 8 ≤ q → n ≤ w .places → Mapped (set c q x) w node n
-  mapped-behind q h m = stays q (λ l j f g d. omega arith) (λ j e f g d. omega (arith, p .apart)) m
+  mapped-before q h m = stays q (λ l j f g d. omega (arith, p .apart)) (λ j t f g d. omega arith) m
 
 -- ---- a walk along a chain
 

@@ -62,8 +62,8 @@ pub record CellsApart (cells : List ℕ) (w : Layout) : Type 0 where
   pub nodes-inside : w .«nodes_at» + w .places * 8 ≤ length cells
   pub apart : w .«nodes_at» + w .places * 8 ≤ w .«links_at»
 
--- What the cells say of the first n nodes. A node's second cell marks the nodes that a list names, and is 0 between
--- calls.
+-- What the cells say of the first n nodes. A node's second cell marks the nodes that a list names, and its last three
+-- are for what its join entries give at one event; these four are 0 between calls.
 pub record Mapped (cells : List ℕ) (w : Layout) (node : ℕ → EstTime) (n : ℕ) : Type 0 where
   pub first : (l : ℕ) → l < w .links → getD cells (w .«links_at» + l * 8) 0 ≡ headOf (eventNodes node (arriveAt l) n)
   pub last : (l : ℕ) → l < w .links → getD cells (w .«links_at» + l * 8 + 1) 0 ≡ lastOf (eventNodes node (arriveAt l) n)
@@ -72,6 +72,7 @@ pub record Mapped (cells : List ℕ) (w : Layout) (node : ℕ → EstTime) (n : 
       → getD cells (w .«nodes_at» + i * 8) 0 ≡ headOf (nodesFrom node (arriveAt l) (suc i) (n - suc i))
   pub fresh : (i : ℕ) → n ≤ i → i < w .places → getD cells (w .«nodes_at» + i * 8) 0 ≡ 0
   pub unmarked : (i : ℕ) → i < w .places → getD cells (w .«nodes_at» + i * 8 + 1) 0 ≡ 0
+  pub ungiven : (i k : ℕ) → i < w .places → 5 ≤ k → k < 8 → getD cells (w .«nodes_at» + i * 8 + k) 0 ≡ 0
   pub zeroth : (e : LinkEvent) → sameEvent (node 0 .«link_event») e ≡ true → e .«est_type» ≡ Fake
 
 -- where the first node of a link's Arrive is named

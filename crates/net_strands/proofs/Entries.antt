@@ -76,7 +76,7 @@ node-last [] x (suc k) h = absurd (omega arith)
 node-last (y ∷ xs) x zero h = absurd (omega arith)
 node-last (y ∷ xs) x (suc k) h = node-last xs x k (omega arith)
 
-node-in : (s : List ℕ) (n k : ℕ) → k < n → nodeOf (entriesIn s n) k ≡ entryAt s k .«est_idx_next»
+pub node-in : (s : List ℕ) (n k : ℕ) → k < n → nodeOf (entriesIn s n) k ≡ entryAt s k .«est_idx_next»
 unfolding entriesIn
 node-in s zero k h = absurd (not-suc-le-zero h)
 node-in s (suc n) k h = go (eqb k n) refl (node-in s n k)
@@ -94,6 +94,10 @@ node-in s (suc n) k h = go (eqb k n) refl (node-in s n k)
 pub entry-valid : (s : List ℕ) (n nodes k : ℕ) (x : EstJoinPath) → Valid (entriesIn s n) nodes → k < n → x ≡ entryAt s k → x .«est_idx_next» < nodes
 entry-valid s n nodes k x v h e =
     subst (λ (i : ℕ). i < nodes) (node-in s n k h ∙ ap (λ (y : EstJoinPath). y .«est_idx_next») (sym e)) (v .node k (omega (arith, entries-count s n)))
+
+-- the same of more nodes
+pub valid-wider : {es : List EstJoinPath} {n : ℕ} (places : ℕ) → n ≤ places → Valid es n → Valid es places
+valid-wider places h v = record { node = λ k l. omega (arith, v .node k l) }
 
 -- ---- an answer by its count
 

@@ -14,13 +14,9 @@ use Rattle.net_strands.specs.declared.EstJoinPath.{EstJoinPath}
 use Rattle.net_strands.specs.declared.Count.{Count}
 use Rattle.net_strands.specs.declared.Count.the-variants.{Entries, Over}
 use Rattle.net_strands.specs.Entries.{entryAt, entriesIn, push, andThen, EntriesAs}
-use Rattle.net_strands.specs.Space.{isArrive, alternatives, strands, strandFrom, followed, extendedAs, extended, extendedAll}
+use Rattle.net_strands.specs.Space.{isArrive, followed, extendedAs, extended, extendedAll}
 use Rattle.net_strands.specs.Steps.{newMatch}
 use Rattle.net_strands.proofs.Entries.{entries-more, listed-some, listed-none}
-
-followed-strands : (old : ℕ) (node : ℕ → EstTime) (n : ℕ) (e : LinkEvent) (m i : ℕ) (es : List EstJoinPath) → (old ≡ 0 → ⊥) → followed old node n e m i es ≡ strands 4096 node e m (strandFrom i es)
-followed-strands zero node n e m i es h = absurd (h refl)
-followed-strands (suc old) node n e m i es h = refl
 
 -- whether an entry's link is matched at an event
 abbrev pub matched : LinkEvent → EstJoinPath → Bool
@@ -55,7 +51,7 @@ module _ (node : ℕ → EstTime) (n : ℕ) (e : LinkEvent) (seen : Bool) (x : E
           go false false p r z = absurd (true≢false (sym z))
 
       module _ (s : not seen ≡ false) (m : ℕ) (f : m ≡ newMatch arrive (x .«link_idx_match»)) where
-        extended-followed : extended node n e seen x es ≡ followed (x .«link_idx_match») node n e m (x .«est_idx_next») es
+        pub extended-followed : extended node n e seen x es ≡ followed (x .«link_idx_match») node n e m (x .«est_idx_next») es
         extended-followed =
             go arrive (matched e x) (sym q) refl (not-false (arrive || matched e x) o)
             ∙ ap (λ (k : ℕ). followed (x .«link_idx_match») node n e k (x .«est_idx_next») es) (sym f)
@@ -64,12 +60,6 @@ module _ (node : ℕ → EstTime) (n : ℕ) (e : LinkEvent) (seen : Bool) (x : E
             go true c p r z = extended-by false true c true (ne-eqb (y .«idx_next») 0 h) p r (not-false seen s)
             go false true p r z = extended-by false false true true (ne-eqb (y .«idx_next») 0 h) p r (not-false seen s)
             go false false p r z = absurd (true≢false (sym z))
-
-        pub extended-alternatives : x .«link_idx_match» ≡ 0 → extended node n e seen x es ≡ alternatives n node e m (x .«est_idx_next») es
-        extended-alternatives z = extended-followed ∙ ap (λ (k : ℕ). followed k node n e m (x .«est_idx_next») es) z
-
-        pub extended-strands : (x .«link_idx_match» ≡ 0 → ⊥) → extended node n e seen x es ≡ strands 4096 node e m (strandFrom (x .«est_idx_next») es)
-        extended-strands z = extended-followed ∙ followed-strands (x .«link_idx_match») node n e m (x .«est_idx_next») es z
 
 -- ---- the loop over the old list
 

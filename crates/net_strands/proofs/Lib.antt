@@ -2,6 +2,9 @@ pub mod Entries
 pub mod Stacks
 pub mod Alternatives
 pub mod Walking
+pub mod Targets
+pub mod Marks
+mod Given
 pub mod Extending
 pub mod Kept
 pub mod Examples

@@ -1,3 +1,5 @@
 pub mod Entries
 pub mod Space
 pub mod Steps
+pub mod Marks
+pub mod Given

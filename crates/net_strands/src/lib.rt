@@ -1,17 +1,21 @@
 // A run's join entries, followed along the network to the nodes that have an event: `update_join_paths_space`.
-// Contracts: specs/Space.antt.
+// Contracts: specs/Space.antt; of the inner functions specs/Steps.antt, specs/Marks.antt, specs/Given.antt.
+use net_event_map::Layout;
 use net_node::EstTime;
 use net_node::EstType;
 use net_node::LinkEvent;
 ghost use mathlib.Core.Path.{_≡_};
 ghost use mathlib.Core.List.{[]};
-ghost use Prim.Native.Nat.{_+_, _*_, _≤_, _<_};
+ghost use Prim.Native.Nat.{_+_, _-_, _*_, _≤_, _<_};
 ghost use lib.ListN.{length};
 ghost use Rattle.net_node.specs.Table.{nodeAt, Room, Indexed};
+ghost use Rattle.net_event_map.specs.EventMap.{CellsApart};
 ghost use Rattle.net_strands.specs.Entries.{entry, entryAt, entriesIn, push, EntriesAs, Valid, ListBecomes};
 ghost use Rattle.net_strands.specs.Space.{isArrive, pushedIf, alternatives, alternativeStacked, strands};
-ghost use Rattle.net_strands.specs.Space.{strandFrom, extended, extendedAll};
+ghost use Rattle.net_strands.specs.Space.{strandFrom, followed, extended, extendedAll};
 ghost use Rattle.net_strands.specs.Steps.{stackIn, endsStrand, newMatch, nodesAtEntry};
+ghost use Rattle.net_strands.specs.Marks.{columnOf, cellOf, marks};
+ghost use Rattle.net_strands.specs.Given.{pushedAll, nodesIn, spanOf, Given, Extends, Ungiven, OnlyTheirs};
 
 // A join entry: the link to be matched (0: matched already) and a node of the network.
 pub struct EstJoinPath {
@@ -203,13 +207,13 @@ fn new_match(arrive: bool, m: u32) -> u32
     if arrive { m } else { 0 }
 }
 
-// What one entry of the old list gives, behind the n entries so far.
-fn extend(
+// What an entry gives that is followed: by alternatives if it matches already, and else by strands.
+fn follow(
     floats: &[f64],
     numbers: &[u32],
     nodes: usize,
     event: LinkEvent,
-    seen: bool,
+    link_idx_match: u32,
     x: EstJoinPath,
     stack: &mut [u32],
     list: &mut [u32],
@@ -221,11 +225,148 @@ fn extend(
     requires { ⌜ 4096 ≤ length (now stack) ⌝ }
     requires { ⌜ 2048 ≤ length (now list) ⌝ }
     requires { ⌜ n ≤ 1024 ⌝ }
-    ensures { λ r. ⌜ ListBecomes (extended (nodesAtEntry floats numbers) nodes event seen x) list n r ⌝ }
+    ensures { λ r. ⌜ ListBecomes (followed (x .«link_idx_match») (nodesAtEntry floats numbers) nodes event
+        «link_idx_match» (x .«est_idx_next»)) list n r ⌝ }
+{
+    let start = x.est_idx_next;
+    if x.link_idx_match == 0 {
+        return follow_alternatives(
+            floats,
+            numbers,
+            nodes,
+            event,
+            link_idx_match,
+            start,
+            list,
+            n,
+        );
+    }
+    follow_strands(
+        floats,
+        numbers,
+        nodes,
+        event,
+        link_idx_match,
+        start,
+        stack,
+        list,
+        n,
+    )
+}
+
+// An entry for each node of the entries from `begin` to `end`, put behind the n of their list.
+fn push_nodes(list: &mut [u32], n: usize, link_idx_match: u32, begin: usize, end: usize) -> Count
+    requires { ⌜ 2048 ≤ length (now list) ⌝ }
+    requires { ⌜ n ≤ 1024 ⌝ }
+    requires { ⌜ begin ≤ end ⌝ }
+    requires { ⌜ end ≤ n ⌝ }
+    ensures { λ r. ⌜ ListBecomes (pushedAll «link_idx_match» (nodesIn (now (list .entry)) begin (end - begin))) list n
+        r ⌝ }
+{
+    let mut at = n;
+    let mut k = begin;
+    while k < end {
+        let x = EstJoinPath {
+            link_idx_match,
+            est_idx_next: list[k * 2 + 1],
+        };
+        let Count::Entries(more) = push_entry(list, at, x) else {
+            return Count::Over;
+        };
+        at = more;
+        k += 1;
+    }
+    Count::Entries(at)
+}
+
+// The column of the cell of an entry with match link m.
+fn column_of(matched: usize, other: usize, m: u32) -> usize
+    ensures { λ r. ⌜ r ≡ columnOf matched other m ⌝ }
+{
+    if m == 0 { matched } else { other }
+}
+
+// What an entry gives that is followed: worked out and noted in its cell, or copied if the cell says it.
+fn follow_once(
+    floats: &[f64],
+    numbers: &[u32],
+    nodes: usize,
+    event: LinkEvent,
+    link_idx_match: u32,
+    x: EstJoinPath,
+    cells: &mut [u32],
+    w: Layout,
+    stack: &mut [u32],
+    list: &mut [u32],
+    n: usize,
+) -> Count
+    requires { ⌜ Room (now floats) (now numbers) nodes ⌝ }
+    requires { ⌜ Indexed (nodeAt (now floats) (now numbers)) nodes ⌝ }
+    requires { ⌜ x .«est_idx_next» < nodes ⌝ }
+    requires { ⌜ 4096 ≤ length (now stack) ⌝ }
+    requires { ⌜ 2048 ≤ length (now list) ⌝ }
+    requires { ⌜ n ≤ 1024 ⌝ }
+    requires { ⌜ CellsApart (now cells) w ⌝ }
+    requires { ⌜ nodes ≤ w .places ⌝ }
+    requires { ⌜ Given (now cells) w (nodeAt (now floats) (now numbers)) nodes event (now list) n ⌝ }
+    ensures { λ r. ⌜ Extends (followed (x .«link_idx_match») (nodesAtEntry floats numbers) nodes event
+        «link_idx_match» (x .«est_idx_next»)) (cellOf w 5 6 x) w (nodesAtEntry floats numbers) nodes event
+        (now (cells .entry)) (now (list .entry)) n (now (cells .exit)) (now (list .exit)) r ⌝ }
+{
+    let column = column_of(5, 6, x.link_idx_match);
+    let cell = w.nodes_at + x.est_idx_next as usize * 8 + column;
+    let noted = cells[cell];
+    if noted != 0 {
+        let span = noted as usize - 1;
+        return push_nodes(list, n, link_idx_match, span / 2048, span % 2048);
+    }
+    let followed = follow(
+        floats,
+        numbers,
+        nodes,
+        event,
+        link_idx_match,
+        x,
+        stack,
+        list,
+        n,
+    );
+    let Count::Entries(more) = followed else {
+        return Count::Over;
+    };
+    cells[cell] = (n * 2048 + more + 1) as u32;
+    Count::Entries(more)
+}
+
+// What one entry of the old list gives, behind the n entries so far.
+fn extend(
+    floats: &[f64],
+    numbers: &[u32],
+    nodes: usize,
+    event: LinkEvent,
+    seen: bool,
+    x: EstJoinPath,
+    cells: &mut [u32],
+    w: Layout,
+    stack: &mut [u32],
+    list: &mut [u32],
+    n: usize,
+) -> Count
+    requires { ⌜ Room (now floats) (now numbers) nodes ⌝ }
+    requires { ⌜ Indexed (nodeAt (now floats) (now numbers)) nodes ⌝ }
+    requires { ⌜ x .«est_idx_next» < nodes ⌝ }
+    requires { ⌜ 4096 ≤ length (now stack) ⌝ }
+    requires { ⌜ 2048 ≤ length (now list) ⌝ }
+    requires { ⌜ n ≤ 1024 ⌝ }
+    requires { ⌜ CellsApart (now cells) w ⌝ }
+    requires { ⌜ nodes ≤ w .places ⌝ }
+    requires { ⌜ Given (now cells) w (nodeAt (now floats) (now numbers)) nodes event (now list) n ⌝ }
+    ensures { λ r. ⌜ Extends (extended (nodesAtEntry floats numbers) nodes event seen x) (cellOf w 5 6 x) w
+        (nodesAtEntry floats numbers) nodes event (now (cells .entry)) (now (list .entry)) n (now (cells .exit))
+        (now (list .exit)) r ⌝ }
 {
     let m = x.link_idx_match;
-    let i = x.est_idx_next;
-    let node = net_node::load(floats, numbers, i as usize);
+    let node = net_node::load(floats, numbers, x.est_idx_next as usize);
     if node.idx_next == 0 {
         return Count::Entries(n);
     }
@@ -239,14 +380,23 @@ fn extend(
         return Count::Entries(n);
     }
     let new = new_match(arrive, m);
-    if m == 0 {
-        return follow_alternatives(floats, numbers, nodes, event, new, i, list, n);
-    }
-    follow_strands(floats, numbers, nodes, event, new, i, stack, list, n)
+    follow_once(
+        floats,
+        numbers,
+        nodes,
+        event,
+        new,
+        x,
+        cells,
+        w,
+        stack,
+        list,
+        n,
+    )
 }
 
-// The new list for an event, out of the old one's `count` entries. `seen` says whether some node has the event.
-pub fn update_join_paths_space(
+// The new list for an event, out of the old one's `count` entries, each followed; what they give stays noted.
+fn extend_all(
     floats: &[f64],
     numbers: &[u32],
     nodes: usize,
@@ -254,6 +404,8 @@ pub fn update_join_paths_space(
     seen: bool,
     old: &[u32],
     count: usize,
+    cells: &mut [u32],
+    w: Layout,
     stack: &mut [u32],
     list: &mut [u32],
 ) -> Count
@@ -264,15 +416,32 @@ pub fn update_join_paths_space(
     requires { ⌜ 2048 ≤ length (now old) ⌝ }
     requires { ⌜ 4096 ≤ length (now stack) ⌝ }
     requires { ⌜ 2048 ≤ length (now list) ⌝ }
-    ensures { λ r. ⌜ EntriesAs
+    requires { ⌜ CellsApart (now cells) w ⌝ }
+    requires { ⌜ nodes ≤ w .places ⌝ }
+    requires { ⌜ Ungiven (now cells) w ⌝ }
+    ensures list { λ r. ⌜ EntriesAs
         (extendedAll (nodesAtEntry floats numbers) nodes event seen (entriesIn (now (old .entry)) count) [])
         (now (list .exit)) r ⌝ }
+    ensures noted { λ _. ⌜ OnlyTheirs (entriesIn (now (old .entry)) count) w (now (cells .entry))
+        (now (cells .exit)) ⌝ }
 {
     let mut at = 0;
     let mut k = 0;
     while k < count {
         let x = entry_at(old, k);
-        let extended = extend(floats, numbers, nodes, event, seen, x, stack, list, at);
+        let extended = extend(
+            floats,
+            numbers,
+            nodes,
+            event,
+            seen,
+            x,
+            cells,
+            w,
+            stack,
+            list,
+            at,
+        );
         let Count::Entries(more) = extended else {
             return Count::Over;
         };
@@ -280,4 +449,79 @@ pub fn update_join_paths_space(
         k += 1;
     }
     Count::Entries(at)
+}
+
+// Sets the cell of each entry of a list.
+pub fn set_marks(
+    cells: &mut [u32],
+    w: Layout,
+    matched: usize,
+    other: usize,
+    list: &[u32],
+    count: usize,
+    mark: u32,
+)
+    requires { ⌜ CellsApart (now cells) w ⌝ }
+    requires { ⌜ matched < 8 ⌝ }
+    requires { ⌜ other < 8 ⌝ }
+    requires { ⌜ count ≤ 1024 ⌝ }
+    requires { ⌜ 2048 ≤ length (now list) ⌝ }
+    requires { ⌜ Valid (entriesIn (now list) count) (w .places) ⌝ }
+    ensures { λ _. ⌜ now (cells .exit) ≡ marks (cellOf w matched other) mark (entriesIn (now (list .entry)) count)
+        (now (cells .entry)) ⌝ }
+{
+    let mut k = 0;
+    while k < count {
+        let x = entry_at(list, k);
+        let column = column_of(matched, other, x.link_idx_match);
+        cells[w.nodes_at + x.est_idx_next as usize * 8 + column] = mark;
+        k += 1;
+    }
+}
+
+// The new list for an event, out of the old one's `count` entries. `seen` says whether some node has the event. What an
+// entry gives is noted in the cells meanwhile; they are afterwards as they were.
+pub fn update_join_paths_space(
+    floats: &[f64],
+    numbers: &[u32],
+    nodes: usize,
+    event: LinkEvent,
+    seen: bool,
+    old: &[u32],
+    count: usize,
+    cells: &mut [u32],
+    w: Layout,
+    stack: &mut [u32],
+    list: &mut [u32],
+) -> Count
+    requires { ⌜ Room (now floats) (now numbers) nodes ⌝ }
+    requires { ⌜ Indexed (nodeAt (now floats) (now numbers)) nodes ⌝ }
+    requires { ⌜ Valid (entriesIn (now old) count) nodes ⌝ }
+    requires { ⌜ count ≤ 1024 ⌝ }
+    requires { ⌜ 2048 ≤ length (now old) ⌝ }
+    requires { ⌜ 4096 ≤ length (now stack) ⌝ }
+    requires { ⌜ 2048 ≤ length (now list) ⌝ }
+    requires { ⌜ CellsApart (now cells) w ⌝ }
+    requires { ⌜ nodes ≤ w .places ⌝ }
+    requires { ⌜ Ungiven (now cells) w ⌝ }
+    ensures list { λ r. ⌜ EntriesAs
+        (extendedAll (nodesAtEntry floats numbers) nodes event seen (entriesIn (now (old .entry)) count) [])
+        (now (list .exit)) r ⌝ }
+    ensures cells { λ _. ⌜ now (cells .exit) ≡ now (cells .entry) ⌝ }
+{
+    let built = extend_all(
+        floats,
+        numbers,
+        nodes,
+        event,
+        seen,
+        old,
+        count,
+        cells,
+        w,
+        stack,
+        list,
+    );
+    set_marks(cells, w, 5, 6, old, count, 0);
+    built
 }

@@ -1,89 +1,35 @@
--- `net_strands::update_join_paths_space` meets its contract: `Gathering` is the loop's invariant.
+-- `net_strands::update_join_paths_space` meets its contract: the list is `extend_all`'s, and what was noted is taken back.
 use borrow.Author.Needs.{needs}
-use mathlib.Core.Path.{_≡_, refl, _∙_}
-use Prim.Native.Nat.{_-_}
+use mathlib.Core.Path.{_≡_, _∙_}
 use native.Mathlib.Omega.{arith}
-use lib.ListN.{length}
-use Rattle.net_node.specs.Table.{nodeAt}
-use Rattle.net_strands.proofs.Entries.{entry-valid}
-use Rattle.net_strands.proofs.Extending.{Gathering, gathering-start, gathering-whole, gathering-over, gathering-on}
+use Rattle.net_event_map.proofs.Kept.{apart-same}
+use Rattle.net_strands.specs.Entries.{entriesIn}
+use Rattle.net_strands.proofs.Entries.{valid-wider}
+use Rattle.net_strands.proofs.Given.{notes-gone}
 use Rattle.net_strands.proofs.update_join_paths_space.Statement.{statement}
 use Rattle.net_strands.proofs.update_join_paths_space.Tie as tie
 
-abbrev Inv-loop : tie.InvT-loop
-Inv-loop floats numbers nodes event seen old count stack₀ list₀ at₀ k₀ stack list at k =
-    (length stack ≡ length stack₀) × (length list ≡ length list₀) × Gathering (nodeAt floats numbers) nodes event seen old count list at k
+set-marks-requires : tie.Need-set-marks-requires
+set-marks-requires c κs =
+    let r = c .before .before .before .before .before .before .before .before .before .before .before .before .before .before .before .before .before .pre .1 .1 in
+    let s = r .1 .1 .1 .1 .1 in
+    (apart-same (c .before .before .before .before .before .before .before .extend-all .kept .1 .1 .1 .1 .1 .1 .1 .0) (s .0), (omega arith, (omega arith, (r .1 .0, (r .1 .1 .0, valid-wider _ (s .1 .0) (r .0))))))
 
-abbrev μ-loop : tie.MeasureT-loop
-μ-loop floats numbers nodes event seen old count stack₀ list₀ at₀ k₀ stack list at k = count - k
-
-loop-holds : tie.Need-loop-holds Inv-loop μ-loop
-loop-holds c = (refl, refl, gathering-start _ _ _ _ _ _ _)
-
-entry-at-requires : tie.Need-entry-at-requires Inv-loop μ-loop
-entry-at-requires c κs = omega (arith, c .loop-test .taken, c .before .before .before .before .before .before .before .pre .1 .1 .1 .0, c .before .before .before .before .before .before .before .pre .1 .1 .1 .1 .0)
-
-extend-requires : tie.Need-extend-requires Inv-loop μ-loop
-extend-requires c κs =
-    let v = c .before .before .before .before .loop .inv in
-    let r = c .before .before .before .before .before .before .before .before .before .before .pre in
-    let s = r .1 .1 .1 .1 .1 in (
-      r .0,
-      (r .1 .0, (entry-valid _ _ _ _ _ (r .1 .1 .0) (c .before .before .before .loop-test .taken) (c .before .before .entry-at .ensures), (omega (arith, v .0, s .0), (omega (arith, v .1, s .1), v .2 .few)))),
-    )
-
-same-length : tie.Need-same-length Inv-loop μ-loop
-same-length c = c .before .before .before .before .before .before .extend .kept .1 .1 .1 .1 .1 .1 .0 ∙ c .before .before .before .before .before .before .before .before .before .before .before .loop .inv .0
-
-same-length-2 : tie.Need-same-length-2 Inv-loop μ-loop
-same-length-2 c = c .before .before .before .before .before .before .extend .kept .1 .1 .1 .1 .1 .1 .1 .0 ∙ c .before .before .before .before .before .before .before .before .before .before .before .loop .inv .1
-
-returns : tie.Need-returns Inv-loop μ-loop
+returns : tie.Need-returns
 returns c =
-    let x = c .before .before .before .before .before .before .extend in
-    gathering-over (c .before .before .before .before .before .before .before .before .before .before .before .loop .inv .2) (c .before .before .before .before .before .before .before .before .before .before .loop-test .taken) _ (c .before .before .before .before .before .before .before .before .before .entry-at .ensures) (x .last .1 .1 .1 .1 .1 .1 .1 .0) (x .result) (x .ensures) (c .enum-told .given .1)
-
-add-k : tie.Need-add-k Inv-loop μ-loop
-add-k c = omega (arith, c .before .before .before .before .before .before .before .before .before .before .before .loop-test .taken, c .before .before .before .before .before .before .before .before .before .before .before .before .before .before .before .before .before .before .pre .1 .1 .1 .0)
-
-loop-less : tie.Need-loop-less Inv-loop μ-loop
-loop-less c = omega (arith, c .before .before .before .before .before .before .before .before .before .before .before .loop-test .taken)
-
-loop-again : tie.Need-loop-again Inv-loop μ-loop
-loop-again c =
-    let v = c .before .before .before .before .before .before .before .before .before .before .before .before .loop .inv in
-    let x = c .before .before .before .before .before .before .before .extend in (
-      x .kept .1 .1 .1 .1 .1 .1 .0 ∙ v .0,
-      x .kept .1 .1 .1 .1 .1 .1 .1 .0 ∙ v .1,
-      gathering-on (v .2) (c .before .before .before .before .before .before .before .before .before .before .before .loop-test .taken) _ (c .before .before .before .before .before .before .before .before .before .before .entry-at .ensures) (x .last .1 .1 .1 .1 .1 .1 .1 .0) (x .result) (x .ensures) (c .before .extended .given .0 .0) (c .before .extended .given .1),
-    )
-
-same-length-3 : tie.Need-same-length-3 Inv-loop μ-loop
-same-length-3 c = c .before .loop .inv .0
-
-same-length-4 : tie.Need-same-length-4 Inv-loop μ-loop
-same-length-4 c = c .before .loop .inv .1
-
-returns-2 : tie.Need-returns-2 Inv-loop μ-loop
-returns-2 c = gathering-whole (c .before .loop .inv .2) (c .loop-test .left)
+    let a = c .before .before .before .before .before .before .before .before .before .before .before .before .before .before .before .before .before .before .before .before .args in
+    let r = c .before .before .before .before .before .before .before .before .before .before .before .before .before .before .before .before .before .before .before .before .pre .1 .1 in
+    let s = r .1 .1 .1 .1 .1 in
+    let x = c .before .before .before .before .before .before .before .before .before .before .extend-all in
+    (x .ensures .0, c .before .before .set-marks .ensures ∙ notes-gone (entriesIn (a .old .now) (a .count)) (x .kept .1 .1 .1 .1 .1 .1 .1 .0) (valid-wider _ (s .1 .0) (r .0)) (s .1 .1) (x .ensures .1))
 
 pub update-join-paths-space-spec : {M : Type 1} → statement M
 update-join-paths-space-spec =
     tie.close
     (tie.spec
-    Inv-loop
-    μ-loop
-    loop-holds
-    entry-at-requires
-    extend-requires
+    (λ c κs. search needs)
+    set-marks-requires
     (λ c. search needs)
     (λ c. search needs)
-    same-length
-    same-length-2
-    returns
-    add-k
-    loop-less
-    loop-again
-    same-length-3
-    same-length-4
-    returns-2)
+    (λ c. search needs)
+    returns)

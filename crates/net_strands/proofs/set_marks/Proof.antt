@@ -1,0 +1,77 @@
+-- `net_strands::set_marks` meets its contract: `Marking` is the loop's invariant.
+use borrow.Author.Needs.{needs}
+use mathlib.Core.Path.{_≡_, refl, ap, _∙_}
+use Prim.Native.Nat.{ℕ, zero, suc, _+_, _-_, _*_, _≤_, _<_}
+use native.Mathlib.Omega.{arith}
+use Rattle.net_strands.specs.Marks.{columnOf, cellOf}
+use Rattle.net_strands.proofs.Entries.{entry-valid}
+use Rattle.net_strands.proofs.Marks.{Marking, marking-start, marking-on, marking-whole, column-inside, cell-is}
+use Rattle.net_strands.proofs.set_marks.Statement.{statement}
+use Rattle.net_strands.proofs.set_marks.Tie as tie
+
+abbrev Inv-loop : tie.InvT-loop
+Inv-loop cells₀ w matched other list count mark k₀ cells k = Marking (cellOf w matched other) mark list count cells₀ cells k
+
+abbrev μ-loop : tie.MeasureT-loop
+μ-loop cells₀ w matched other list count mark k₀ cells k = count - k
+
+loop-holds : tie.Need-loop-holds Inv-loop μ-loop
+loop-holds c = marking-start _ _ _ _ _
+
+entry-at-requires : tie.Need-entry-at-requires Inv-loop μ-loop
+entry-at-requires c κs = let r = c .before .before .before .before .pre .1 .1 .1 in omega (arith, c .loop-test .taken, r .0, r .1 .0)
+
+-- the entry's cell is inside
+inside : (c : tie.After-struct-known2 Inv-loop μ-loop) → c .before .before .before .before .before .before .before .before .args .w .«nodes_at» + c .before .before .before .entry-at .result .«est_idx_next» * 8 + c .before .before .column-of .result < c .before .before .before .before .before .before .before .before .args .w .«nodes_at» + c .before .before .before .before .before .before .before .before .args .w .places * 8
+inside c =
+    let r = c .before .before .before .before .before .before .before .before .pre in
+    let n = entry-valid _ _ _ _ _ (r .1 .1 .1 .1 .1) (c .before .before .before .before .loop-test .taken) (c .before .before .before .entry-at .ensures) in
+    omega (arith, n, c .before .before .column-of .ensures, column-inside (c .before .before .before .before .before .before .before .before .args .matched) (c .before .before .before .before .before .before .before .before .args .other) (c .before .before .before .entry-at .result .«link_idx_match») (r .1 .0) (r .1 .1 .0))
+
+add-cells : tie.Need-add-cells Inv-loop μ-loop
+add-cells c = omega (arith, inside c, c .before .before .before .before .before .before .before .before .pre .0 .nodes-inside)
+
+add-cells-2 : tie.Need-add-cells-2 Inv-loop μ-loop
+add-cells-2 c = omega (arith, inside c, c .before .before .before .before .before .before .before .before .pre .0 .nodes-inside)
+
+mul-cells-2 : tie.Need-mul-cells-2 Inv-loop μ-loop
+mul-cells-2 c = omega (arith, inside c, c .before .before .before .before .before .before .before .before .pre .0 .nodes-inside)
+
+slice-write-cells : tie.Need-slice-write-cells Inv-loop μ-loop
+slice-write-cells c = omega (arith, inside c, c .before .before .before .before .before .before .before .before .pre .0 .nodes-inside, c .before .before .before .before .before .loop .inv .many)
+
+add-k : tie.Need-add-k Inv-loop μ-loop
+add-k c = omega (arith, c .before .before .before .before .loop-test .taken, c .before .before .before .before .before .before .before .before .pre .1 .1 .1 .0)
+
+loop-less : tie.Need-loop-less Inv-loop μ-loop
+loop-less c = omega (arith, c .before .before .before .before .loop-test .taken)
+
+loop-again : tie.Need-loop-again Inv-loop μ-loop
+loop-again c = marking-on (c .before .before .before .before .before .loop .inv) (c .before .before .before .before .loop-test .taken) _ (c .before .before .before .entry-at .ensures) _ (cell-is (c .before .before .before .before .before .before .before .before .args .w) (c .before .before .before .before .before .before .before .before .args .matched) (c .before .before .before .before .before .before .before .before .args .other) (c .before .before .before .entry-at .result) (c .before .before .column-of .result) (c .before .before .column-of .ensures))
+
+same-length : tie.Need-same-length Inv-loop μ-loop
+same-length c = c .before .loop .inv .many
+
+returns : tie.Need-returns Inv-loop μ-loop
+returns c = marking-whole (c .before .loop .inv) (c .loop-test .left)
+
+pub set-marks-spec : {M : Type 1} → statement M
+set-marks-spec =
+    tie.close
+    (tie.spec
+    Inv-loop
+    μ-loop
+    loop-holds
+    entry-at-requires
+    (λ c κs. search needs)
+    (λ c. search needs)
+    (λ c. search needs)
+    add-cells
+    add-cells-2
+    mul-cells-2
+    slice-write-cells
+    add-k
+    loop-less
+    loop-again
+    same-length
+    returns)
