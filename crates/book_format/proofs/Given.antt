@@ -1,9 +1,9 @@
--- What rows 3 to 7 leave of a book: counts within their limits, floats that can be read, indices that name links, parents above their children.
+-- What rows 3 to 7 leave of a book: counts within their limits, floats that can be read, indices that name links, parents above their children, samples that never fall.
 -- And the fields of a row that was read as a record.
 use mathlib.Core.Path.{_≡_, refl, ap}
 use mathlib.Core.Bool.{Bool, true, false, not, _||_, _&&_}
 use mathlib.Core.List.{List}
-use Prim.Native.Nat.{ℕ, zero, suc, _≤_, _<_}
+use Prim.Native.Nat.{ℕ, zero, suc, _+_, _-_, _≤_, _<_}
 use native.Mathlib.Omega.{arith}
 use borrow.Author.Tests.{ltb-false, leb-false, eqb-false, not-false}
 use lib.Dec.{ltb, eqb}
@@ -13,8 +13,8 @@ use Rattle.floats.specs.Floats.{bookFloat}
 use Rattle.book_format.specs.declared.Link.{Link}
 use Rattle.book_format.specs.declared.Origin.{Origin}
 use Rattle.book_format.specs.declared.Leg.{Leg}
-use Rattle.book_format.specs.Format.{linkAt, originAt, legAt, links, origins, destinations, legs, samples, linkLength, linkNext, linkNextAlt, linkPrev, linkPrevAlt, originLink, originOffset, originFront, destinationLink, legLink, legParent, legSamples, joinBits, departureBits, lengthBits, floatOf}
-use Rattle.book_format.specs.Rows.{outsideLimits, badCount, badOriginValue, badSample, row4, noSuchLink, linkZero, badLink, badLegIndex, row5, badLeg}
+use Rattle.book_format.specs.Format.{linkAt, originAt, legAt, links, origins, destinations, legs, samples, linkLength, linkNext, linkNextAlt, linkPrev, linkPrevAlt, originLink, originOffset, originFront, destinationLink, legLink, legParent, legSamples, firstSample, sampleAt, joinBits, departureBits, lengthBits, floatOf}
+use Rattle.book_format.specs.Rows.{outsideLimits, badCount, badOriginValue, badSample, row4, noSuchLink, linkZero, badLink, badLegIndex, row5, badLeg, someBadLeg, someLegRepeats, sampleFalls, falls, legFalls, legBegins, row7}
 
 -- ---- the limits
 
@@ -151,6 +151,14 @@ module _ (b : List ℕ) (h : row5 b ≡ false) where
 pub leg-above : (b : List ℕ) → someBelow (legs b) (badLeg b) ≡ false → (i : ℕ) → i < legs b → legParent b i ≤ i
 unfolding badLeg
 leg-above b h i g = ltb-false i (legParent b i) (none-right (eqb (legLink b i) 0) (ltb i (legParent b i)) (none-at (legs b) (badLeg b) i g h))
+
+-- no sample of a leg falls against the one before it
+pub leg-rises : (b : List ℕ) → row7 b ≡ false → (i : ℕ) → i < legs b → (k : ℕ) → k < legSamples b i - 1 → sampleFalls (sampleAt b (firstSample b i + k)) (sampleAt b (firstSample b i + k + 1)) ≡ false
+unfolding row7 legFalls falls
+leg-rises b h i g k l =
+    let p = someBadLeg b || someLegRepeats b in
+    let f = someBelow (legs b) (legFalls b) in
+    none-at (legSamples b i - 1) (λ j. falls b (firstSample b i + j)) k l (none-at (legs b) (legFalls b) i g (none-right p f (none-left (p || f) (someBelow (legs b) (λ j. not (legBegins b j))) h)))
 
 -- ---- what is read of a row
 

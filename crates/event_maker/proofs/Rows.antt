@@ -7,17 +7,17 @@ use native.Mathlib.Omega.{arith}
 use borrow.Author.Tests.{not-false}
 use lib.Dec.{T, ltb}
 use lib.ListN.{length, getD}
-use lib.Ieee.{Float, nan, inf, fin, binary64, lt, le, fits, ofBits, toBits, top}
+use lib.Ieee.{Float, nan, binary64, le, fits, ofBits, toBits, top}
 use lib.Ieee.Bits.{ofBits-toBits}
 use lib.Ieee.Scale.{finite}
 use Rattle.laws.specs.Below.{someBelow}
 use Rattle.laws.specs.Refusals.{row, firstOf}
 use Rattle.laws.proofs.Truth.{none-left, none-right, and-right}
 use Rattle.laws.proofs.Refusals.{none-holds}
-use Rattle.laws.proofs.Below.{none-at, none-all, some-at, some-same}
+use Rattle.laws.proofs.Below.{none-at, some-same}
 use Rattle.floats.specs.Floats.{tableFloat, bookFloat, bookValue, Size}
 use Rattle.floats.proofs.Laws.{table-finite}
-use Rattle.floats.proofs.Order.{not-lt, not-le, le-trans, size-of-bits, size-of-value}
+use Rattle.floats.proofs.Order.{not-le, size-of-bits, size-of-value}
 use Rattle.book_format.specs.declared.Sample.{Sample}
 use Rattle.book_format.specs.Format.{sampleFrom}
 use Rattle.book_format.specs.Rows.{outsideLimits, badSampleFrom, sampleFalls}
@@ -26,7 +26,8 @@ use Rattle.book_format.proofs.Given.{within}
 use Rattle.event_walk.specs.declared.Movement.{Movement}
 use Rattle.event_walk.specs.Course.{Course, courseOf, Held, Rises, Walkable}
 use Rattle.event_walk.specs.Walk.{pointsPassed, reachesLast, someBad, row11}
-use Rattle.event_walk.proofs.Searches.{size-number, rises-le}
+use Rattle.event_walk.proofs.Searches.{size-number, rises-of, samples-rise}
+use Rattle.event_walk.proofs.Steps.{reaches-is}
 use Rattle.event_maker.specs.declared.Made.{Made}
 use Rattle.event_maker.specs.declared.Made.the-variants.{Listed, Refused}
 use Rattle.event_maker.specs.Maker.{badCounts, badFloats, falling, rowsTo11, answered, answerOf}
@@ -151,12 +152,13 @@ module _ (b : List ℕ) (offsets : List Float) (m : Movement) where
     unfolding courseOf
     sample-is i = let e : m .at + i * 24 ≡ i * 24 = omega arith in ap (sampleFrom b) e
 
+    falls-is : (i : ℕ) → sampleFalls (course .sample i) (course .sample (suc i)) ≡ fallsAt b i
+    unfolding fallsAt
+    falls-is i = ap (λ (s : Sample). sampleFalls s (course .sample (suc i))) (sample-is i) ∙ ap (sampleFalls (sampleFrom b (i * 24))) (sample-is (suc i))
+
     falling-is : falling course ≡ (samples-fall || points-fall)
-    unfolding falling courseOf offsetFalls fallsAt
-    falling-is = ap (λ (t : Bool). t || points-fall) (some-same (m .samples - 1) (λ i. sampleFalls (course .sample i) (course .sample (suc i))) (fallsAt b) (λ i h. same i))
-      where
-        same : (i : ℕ) → sampleFalls (course .sample i) (course .sample (suc i)) ≡ fallsAt b i
-        same i = ap (λ (s : Sample). sampleFalls s (course .sample (suc i))) (sample-is i) ∙ ap (sampleFalls (sampleFrom b (i * 24))) (sample-is (suc i))
+    unfolding falling courseOf offsetFalls
+    falling-is = ap (λ (t : Bool). t || points-fall) (some-same (m .samples - 1) (λ i. sampleFalls (course .sample i) (course .sample (suc i))) (fallsAt b) (λ i h. falls-is i))
 
     number-is : badCounts course ≡ false → firstNumber course b ≡ numberOf false (bad-train || bad-samples || bad-points) (samples-fall || points-fall) (reachesLast course)
     unfolding firstNumber badFloats courseOf badAt badOffset
@@ -212,58 +214,21 @@ module _ (b : List ℕ) (offsets : List Float) (m : Movement) where
       pub farthest-held : m .samples * 24 ≤ length b → ((m .samples - 1) * 24 + 24 ≤ length b) × (badSampleFrom b ((m .samples - 1) * 24) ≡ false)
       farthest-held h = let c = counts (t .counted) in (omega (arith, c .some), good-at (m .samples - 1) (omega (arith, c .some)))
 
-      sizes : (i : ℕ) → i < m .samples → Size (sampleFrom b (i * 24) .offset)
+      sizes : (i : ℕ) → i < m .samples → Size (course .sample i .offset)
       unfolding sampleFrom
-      sizes i h = size-of-bits _ (sample-floats b (i * 24) (good-at i h) .offset)
-
-      samples-rise : Rises (λ i. sampleFrom b (i * 24) .offset) (m .samples)
-      unfolding fallsAt
-      samples-rise = record {
-        sized = sizes;
-        rising = λ i h.
-            not-lt (sampleFrom b (suc i * 24) .offset) (sampleFrom b (i * 24) .offset) (size-number (sampleFrom b (suc i * 24) .offset) (sizes (suc i) h)) (size-number (sampleFrom b (i * 24) .offset) (sizes i (less i (m .samples) h)))
-            (none-right (not (lt (sampleFrom b (i * 24) .time) (sampleFrom b (suc i * 24) .time))) (lt (sampleFrom b (suc i * 24) .offset) (sampleFrom b (i * 24) .offset)) (none-at (m .samples - 1) (fallsAt b) i (before i (m .samples) h) (t .rising-samples)));
-      }
-        where
-          less : (i n : ℕ) → suc i < n → i < n
-          less i n h = omega arith
-
-          before : (i n : ℕ) → suc i < n → i < n - 1
-          before i n h = omega arith
+      sizes i h = subst (λ (s : Sample). Size (s .offset)) (sym (sample-is i)) (size-of-bits _ (sample-floats b (i * 24) (good-at i h) .offset))
 
       abbrev last : Float
       last = getD offsets (m .points - 1) nan
 
-      abbrev farthest : Float
-      farthest = sampleFrom b ((m .samples - 1) * 24) .offset
+      -- the last sample tells for all
+      last-tells : (s : Sample) → s ≡ sampleFrom b ((m .samples - 1) * 24) → reachesLast course ≡ le last (s .offset)
+      unfolding courseOf
+      last-tells s e =
+          reaches-is course (counts (t .counted) .some) (samples-rise course sizes (λ i h. falls-is i ∙ none-at (m .samples - 1) (fallsAt b) i h (t .rising-samples)))
+          ∙ ap (λ (x : Sample). le last (x .offset)) (sample-is (m .samples - 1) ∙ sym e)
 
-      -- offsets never fall, so the last sample tells for all
-      reaches-is : reachesLast course ≡ le last farthest
-      unfolding reachesLast courseOf
-      reaches-is = go (le last farthest) refl
-        where
-          c : Counted m
-          c = counts (t .counted)
-
-          reached : ℕ → Bool
-          reached i = le last (course .sample i .offset)
-
-          reached-is : (i : ℕ) → reached i ≡ le last (sampleFrom b (i * 24) .offset)
-          reached-is i = ap (λ (s : Sample). le last (s .offset)) (sample-is i)
-
-          none : le last farthest ≡ false → (i : ℕ) → i < m .samples → (r : Bool) → le last (sampleFrom b (i * 24) .offset) ≡ r → r ≡ false
-          none e i h true f =
-              absurd
-              (true≢false
-              (sym (le-trans last (sampleFrom b (i * 24) .offset) farthest f (rises-le samples-rise i (m .samples - 1) (omega arith) (omega (arith, c .some))))
-              ∙ e))
-          none e i h false f = refl
-
-          go : (r : Bool) → le last farthest ≡ r → someBelow (m .samples) reached ≡ r
-          go true e = some-at (m .samples) reached (m .samples - 1) (omega (arith, c .some)) (reached-is (m .samples - 1) ∙ e)
-          go false e = none-all (m .samples) reached (λ i h. reached-is i ∙ none e i h (le last (sampleFrom b (i * 24) .offset)) refl)
-
-      number-left : firstNumber course b ≡ numberOf false false false (le last farthest)
+      number-left : firstNumber course b ≡ numberOf false false false (reachesLast course)
       number-left =
           number-is (t .counted)
           ∙ ap (λ (r : Bool). numberOf false (not r || bad-samples || bad-points) (samples-fall || points-fall) (reachesLast course)) (t .train)
@@ -271,35 +236,23 @@ module _ (b : List ℕ) (offsets : List Float) (m : Movement) where
           ∙ ap (λ (r : Bool). numberOf false r (samples-fall || points-fall) (reachesLast course)) (t .good-points)
           ∙ ap (λ (r : Bool). numberOf false false (r || points-fall) (reachesLast course)) (t .rising-samples)
           ∙ ap (λ (r : Bool). numberOf false false r (reachesLast course)) (t .rising-points)
-          ∙ ap (numberOf false false false) reaches-is
 
       pub first-11 : (s : Sample) → s ≡ sampleFrom b ((m .samples - 1) * 24) → le last (s .offset) ≡ true → 11 ≡ firstNumber course b
       unfolding firstOf
-      first-11 s e h = sym (number-left ∙ ap (numberOf false false false) (ap (λ (x : Sample). le last (x .offset)) (sym e) ∙ h))
+      first-11 s e h = sym (number-left ∙ ap (numberOf false false false) (last-tells s e ∙ h))
 
       pub first-0 : (s : Sample) → s ≡ sampleFrom b ((m .samples - 1) * 24) → le last (s .offset) ≡ false → 0 ≡ firstNumber course b
       unfolding firstOf
-      first-0 s e h = sym (number-left ∙ ap (numberOf false false false) (ap (λ (x : Sample). le last (x .offset)) (sym e) ∙ h))
+      first-0 s e h = sym (number-left ∙ ap (numberOf false false false) (last-tells s e ∙ h))
 
       -- ---- what the number 0 leaves, for the walk
 
       points-rise : ((k : ℕ) → k < m .points → T (fits binary64 (getD offsets k nan))) → Rises (λ k. getD offsets k nan) (m .points)
       unfolding badOffset offsetFalls
-      points-rise f = record {
-        sized = sized;
-        rising = λ k h.
-            not-lt (getD offsets (suc k) nan) (getD offsets k nan) (size-number (getD offsets (suc k) nan) (sized (suc k) h)) (size-number (getD offsets k nan) (sized k (less k (m .points) h)))
-            (none-at (m .points - 1) (offsetFalls offsets) k (before k (m .points) h) (t .rising-points));
-      }
-        where
-          sized : (k : ℕ) → k < m .points → Size (getD offsets k nan)
-          sized k h = size-of-value (getD offsets k nan) (f k h) (not-false (bookValue (getD offsets k nan)) (none-at (m .points) (badOffset offsets) k h (t .good-points)))
-
-          less : (i n : ℕ) → suc i < n → i < n
-          less i n h = omega arith
-
-          before : (i n : ℕ) → suc i < n → i < n - 1
-          before i n h = omega arith
+      points-rise f =
+          rises-of (λ k. getD offsets k nan) (m .points)
+          (λ k h. size-of-value (getD offsets k nan) (f k h) (not-false (bookValue (getD offsets k nan)) (none-at (m .points) (badOffset offsets) k h (t .good-points))))
+          (λ k h. none-at (m .points - 1) (offsetFalls offsets) k h (t .rising-points))
 
       held-of : m .samples * 24 ≤ length b → m .points ≤ length offsets → Held b offsets m
       held-of h g = record {
@@ -317,11 +270,11 @@ module _ (b : List ℕ) (offsets : List Float) (m : Movement) where
         some = c .some;
         some-points = c .some-points;
         rises = p;
-        sizes = size;
+        sizes = sizes;
         train = size-of-value (m .length) g (t .train);
         bounded = value-finite (m .length) g (t .train);
         before-last = λ i h.
-            not-le last (course .sample i .offset) (size-number last (p .sized (m .points - 1) (under (m .points) (c .some-points)))) (size-number (course .sample i .offset) (size i h)) (unreached i h);
+            not-le last (course .sample i .offset) (size-number last (p .sized (m .points - 1) (under (m .points) (c .some-points)))) (size-number (course .sample i .offset) (sizes i h)) (unreached i h);
       }
         where
           c : Counted m
@@ -332,9 +285,6 @@ module _ (b : List ℕ) (offsets : List Float) (m : Movement) where
 
           p : Rises (λ k. getD offsets k nan) (m .points)
           p = points-rise f
-
-          size : (i : ℕ) → i < m .samples → Size (course .sample i .offset)
-          size i h = subst (λ (s : Sample). Size (s .offset)) (sym (sample-is i)) (sizes i h)
 
           unreached : (i : ℕ) → i < m .samples → le last (course .sample i .offset) ≡ false
           unreached i h = none-at (m .samples) (λ j. le last (course .sample j .offset)) i h r

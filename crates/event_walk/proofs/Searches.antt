@@ -1,14 +1,16 @@
 -- The searches: among points that never fall for the first that lies beyond an offset, and among samples for the first that reaches one.
 use mathlib.Core.Path.{_≡_, refl, sym, ap, _∙_, subst}
 use mathlib.Core.Logic.{_⊎_, inl, inr}
-use mathlib.Core.Bool.{Bool, true, false, cond, true≢false}
+use mathlib.Core.Bool.{Bool, true, false, not, cond, true≢false}
 use Prim.Native.Nat.{ℕ, zero, suc, _+_, _-_, _*_, _/_, _≤_, _<_}
 use native.Mathlib.Nat.{le-refl, eq-or-lt-of-le}
 use native.Mathlib.Omega.{arith}
-use lib.Ieee.{Float, le, isNan}
+use lib.Ieee.{Float, lt, le, isNan}
+use Rattle.laws.proofs.Truth.{none-right}
 use Rattle.floats.specs.Floats.{Size}
-use Rattle.floats.proofs.Order.{le-number-right, le-self, le-trans}
-use Rattle.event_walk.specs.Course.{Rises}
+use Rattle.floats.proofs.Order.{not-lt, le-number-right, le-self, le-trans}
+use Rattle.book_format.specs.Rows.{sampleFalls}
+use Rattle.event_walk.specs.Course.{Course, Rises}
 use Rattle.event_walk.specs.Search.{Between, Reached}
 use Rattle.event_walk.specs.Walk.{firstBeyond}
 
@@ -16,6 +18,20 @@ use Rattle.event_walk.specs.Walk.{firstBeyond}
 
 pub size-number : (a : Float) → Size a → isNan a ≡ false
 size-number a s = le-number-right _ a (s .plus)
+
+-- sizes of which none is below the one before it
+pub rises-of : (offset : ℕ → Float) (n : ℕ) → ((k : ℕ) → k < n → Size (offset k)) → ((k : ℕ) → k < n - 1 → lt (offset (suc k)) (offset k) ≡ false) → Rises offset n
+rises-of offset n s f = record {
+  sized = s;
+  rising = λ k h. not-lt (offset (suc k)) (offset k) (size-number (offset (suc k)) (s (suc k) h)) (size-number (offset k) (s k (omega arith))) (f k (omega arith));
+}
+
+-- samples of which none falls against the one before it
+pub samples-rise : (c : Course) → ((i : ℕ) → i < c .samples → Size (c .sample i .offset)) → ((i : ℕ) → i < c .samples - 1 → sampleFalls (c .sample i) (c .sample (suc i)) ≡ false) → Rises (λ i. c .sample i .offset) (c .samples)
+unfolding sampleFalls
+samples-rise c s f =
+    rises-of (λ i. c .sample i .offset) (c .samples) s
+    (λ i h. none-right (not (lt (c .sample i .time) (c .sample (suc i) .time))) (lt (c .sample (suc i) .offset) (c .sample i .offset)) (f i h))
 
 module _ {offset : ℕ → Float} {points : ℕ} (r : Rises offset points) where
   so-many-on : (d j : ℕ) → j + d < points → le (offset j) (offset (j + d)) ≡ true

@@ -11,10 +11,11 @@ use lib.Dec.{T, ltb, eqb}
 use lib.ListN.{length, getD}
 use lib.Ieee.{Float, nan, binary64, le, ofBits, nanBits}
 use Rattle.floats.specs.Floats.{bookFloat}
+use Rattle.floats.proofs.Order.{le-trans}
 use Rattle.fields.specs.Fields.{u64At}
 use Rattle.laws.specs.Below.{someBelow}
 use Rattle.laws.proofs.Truth.{and-left, and-right}
-use Rattle.laws.proofs.Below.{none-more, some-at}
+use Rattle.laws.proofs.Below.{none-all, some-at}
 use Rattle.net_node.specs.declared.EstType.{EstType}
 use Rattle.net_node.specs.declared.EstType.the-variants.{Arrive, Clear}
 use Rattle.book_format.specs.declared.Sample.{Sample}
@@ -28,9 +29,10 @@ use Rattle.event_walk.specs.declared.Movement.{Movement}
 use Rattle.event_walk.specs.declared.PassedPoint.{PassedPoint}
 use Rattle.event_walk.specs.declared.Next.{Next}
 use Rattle.event_walk.specs.declared.Next.the-variants.{Passed, End}
-use Rattle.event_walk.specs.Course.{Course, courseOf, Walkable}
+use Rattle.event_walk.specs.Course.{Course, courseOf, Rises, Walkable}
 use Rattle.event_walk.specs.Search.{Reached, unseen, pointWith}
 use Rattle.event_walk.specs.Walk.{offsetNext, inRange, clearsNext, passedFrom, reachesLast, badPoint, Within, NextOf}
+use Rattle.event_walk.proofs.Searches.{rises-le}
 use Rattle.event_walk.proofs.Turns.{heads, passed-past, point-clear, point-arrive, within-on, within-clear, within-arrive, passed-on, passed-unseen, passed-clear, passed-arrive}
 
 -- ---- a sample
@@ -59,32 +61,30 @@ bad-point-is p r e = e
 
 -- ---- samples that reach the last point
 
-pub record Unreached (b : List ℕ) (m : Movement) (last : Float) (i : ℕ) : Type 0 where
-  pub none : someBelow i (λ k. le last (sampleFrom b (m .at + k * 24) .offset)) ≡ false
-  pub inside : i ≤ m .samples
+-- where offsets never fall, the last sample tells for all
+module _ (c : Course) (some : 0 < c .samples) (r : Rises (λ i. c .sample i .offset) (c .samples)) where
+  abbrev last : Float
+  last = c .offset (c .points - 1)
 
-module _ (b : List ℕ) (offsets : List Float) (m : Movement) where
-  pub last-start : (last : Float) → Unreached b m last 0
-  unfolding someBelow
-  last-start last = record { none = refl; inside = omega arith }
+  abbrev farthest : Float
+  farthest = c .sample (c .samples - 1) .offset
 
-  pub last-on : (last : Float) (i : ℕ) (s : Sample) → Unreached b m last i → i < m .samples → s ≡ sampleFrom b (m .at + i * 24) → le last (s .offset) ≡ false → Unreached b m last (i + 1)
-  last-on last i s v h e f = record {
-    none = none-more i (λ k. le last (sampleFrom b (m .at + k * 24) .offset)) (v .none) (ap (λ (x : Sample). le last (x .offset)) (sym e) ∙ f);
-    inside = omega arith;
-  }
+  pub reaches-is : reachesLast c ≡ le last farthest
+  unfolding reachesLast
+  reaches-is = go (le last farthest) refl
+    where
+      none : le last farthest ≡ false → (i : ℕ) → i < c .samples → (t : Bool) → le last (c .sample i .offset) ≡ t → t ≡ false
+      none e i h true f = absurd (true≢false (sym (le-trans last (c .sample i .offset) farthest f (rises-le r i (c .samples - 1) (omega arith) (omega (arith, some)))) ∙ e))
+      none e i h false f = refl
 
-  pub last-reached : (i : ℕ) (s : Sample) → i < m .samples → s ≡ sampleFrom b (m .at + i * 24) → le (getD offsets (m .points - 1) nan) (s .offset) ≡ true → true ≡ reachesLast (courseOf b offsets m)
-  unfolding reachesLast courseOf
-  last-reached i s h e f =
-      let last = getD offsets (m .points - 1) nan in
-      sym (some-at (m .samples) (λ k. le last (sampleFrom b (m .at + k * 24) .offset)) i h (ap (λ (x : Sample). le last (x .offset)) (sym e) ∙ f))
+      go : (t : Bool) → le last farthest ≡ t → someBelow (c .samples) (λ i. le last (c .sample i .offset)) ≡ t
+      go true e = some-at (c .samples) (λ i. le last (c .sample i .offset)) (c .samples - 1) (omega (arith, some)) e
+      go false e = none-all (c .samples) (λ i. le last (c .sample i .offset)) (λ i h. none e i h (le last (c .sample i .offset)) refl)
 
-  pub last-none : (i : ℕ) → Unreached b m (getD offsets (m .points - 1) nan) i → (i < m .samples → ⊥) → false ≡ reachesLast (courseOf b offsets m)
-  unfolding reachesLast courseOf
-  last-none i v h =
-      let e : i ≡ m .samples = omega (arith, v .inside) in
-      sym (ap (λ (n : ℕ). someBelow n (λ k. le (getD offsets (m .points - 1) nan) (sampleFrom b (m .at + k * 24) .offset))) (sym e) ∙ v .none)
+pub reaches-by : (b : List ℕ) (offsets : List Float) (m : Movement) → 0 < m .samples → Rises (λ i. courseOf b offsets m .sample i .offset) (m .samples) → (x : Float) → x ≡ sampleFrom b (m .at + (m .samples - 1) * 24) .offset
+    → le (getD offsets (m .points - 1) nan) x ≡ reachesLast (courseOf b offsets m)
+unfolding courseOf
+reaches-by b offsets m some r x e = ap (le (getD offsets (m .points - 1) nan)) e ∙ sym (reaches-is (courseOf b offsets m) some r)
 
 -- ---- the event that is not emitted
 

@@ -38,7 +38,7 @@ pub record Held (b : List ℕ) (offsets : List Float) (m : Movement) : Type 0 wh
   pub points : m .points ≤ length offsets
   pub floats : (i : ℕ) → i < m .samples → badSampleFrom b (m .at + i * sampleWidth) ≡ false
 
--- "7 if one falls": points whose offsets are sizes and never fall
+-- "7 if one falls": points or samples whose offsets are sizes and never fall
 pub record Rises (offset : ℕ → Float) (points : ℕ) : Type 0 where
   pub sized : (k : ℕ) → k < points → Size (offset k)
   pub rising : (k : ℕ) → suc k < points → le (offset k) (offset (suc k)) ≡ true

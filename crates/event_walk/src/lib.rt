@@ -42,22 +42,16 @@ pub enum Next {
     End,
 }
 
-// Whether a sample reaches the last point (row 11).
+// Whether a sample reaches the last point (row 11). Offsets never fall, so the last sample tells for all.
 pub fn reaches_last(book: &[u8], offsets: &[f64], m: Movement) -> bool
     requires { ⌜ Held (now book) (now offsets) m ⌝ }
     requires { ⌜ 0 < m .points ⌝ }
+    requires { ⌜ 0 < m .samples ⌝ }
+    requires { ⌜ Rises (λ i. courseOf (now book) (now offsets) m .sample i .offset) (m .samples) ⌝ }
     ensures { λ r. ⌜ r ≡ reachesLast (courseOf (now (book .entry)) (now (offsets .entry)) m) ⌝ }
 {
-    let last = offsets[m.points - 1];
-    let mut i = 0;
-    while i < m.samples {
-        let s = book_format::sample_from(book, m.at + i * book_format::SAMPLE_WIDTH);
-        if last <= s.offset {
-            return true;
-        }
-        i += 1;
-    }
-    false
+    let farthest = sample_offset(book, m.at + (m.samples - 1) * book_format::SAMPLE_WIDTH);
+    offsets[m.points - 1] <= farthest
 }
 
 // The points from `low` on and below `high`: the first that lies beyond an offset is among them, or it is `high`.

@@ -221,7 +221,7 @@ module _ {b : List ℕ} {p : Plan} {fs : List Float} {us : List ℕ} {reals : Li
     walk-held = subst (Held b reals′) (sym moves-are) (leg-held b (p .s) (plan .readable) (run .leg - 1) row reals′ cells′ (pathOf b (run .leg)) kept room lengths)
 
     pub walk-sound : Sound (courseOf b reals′ v)
-    walk-sound = subst (λ (m : Movement). Sound (courseOf b reals′ m)) (sym moves-are) (leg-sound b (p .s) (plan .readable) (run .leg - 1) row reals′ cells′ (pathOf b (run .leg)) kept room lengths)
+    walk-sound = subst (λ (m : Movement). Sound (courseOf b reals′ m)) (sym moves-are) (leg-sound b (p .s) (plan .readable) (run .leg - 1) row reals′ cells′ (pathOf b (run .leg)) kept room lengths (plan .row7))
 
     alike : Alike (courseOf b reals′ v) (legCourse b (run .leg))
     alike =

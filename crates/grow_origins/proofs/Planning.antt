@@ -13,7 +13,7 @@ use Rattle.floats.specs.Floats.{bookFloat}
 use Rattle.book_format.specs.declared.Sections.{Sections}
 use Rattle.book_format.specs.declared.HeadPatterns.{HeadPatterns}
 use Rattle.book_format.specs.Format.{links, origins, samples, legs, linkLength, joinBits, departureBits, lengthBits, headPatterns}
-use Rattle.book_format.specs.Rows.{badOriginValue, badSample, row4}
+use Rattle.book_format.specs.Rows.{badOriginValue, badSample, row4, row7}
 use Rattle.book_format.specs.Chains.{Readable}
 use Rattle.book_format.proofs.Floats.{book-no-nan}
 use Rattle.book_format.proofs.Given.{limits, length-float}
@@ -66,12 +66,13 @@ module _ (b : List ℕ) (s : Sections) (v : Readable b s) (head : HeadPatterns) 
     length = ofBits binary64 (head .length);
   }
 
-  pub plan-holds : (places reals : ℕ) → legs b * 3 + 4 ≤ reals → PlanIn b (planOf places) reals
+  pub plan-holds : row7 b ≡ false → (places reals : ℕ) → legs b * 3 + 4 ≤ reals → PlanIn b (planOf places) reals
   unfolding headPatterns
-  plan-holds places reals h =
+  plan-holds seven places reals h =
       let l : s .legs ≡ legs b = sized-legs (v .sized) in
       record {
         readable = v;
+        row7 = seven;
         join = ap (λ (x : HeadPatterns). ofBits binary64 (x .join)) e;
         departs = ap (λ (x : HeadPatterns). ofBits binary64 (x .departure)) e;
         train = ap (λ (x : HeadPatterns). ofBits binary64 (x .length)) e;

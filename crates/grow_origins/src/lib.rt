@@ -16,11 +16,13 @@ use net_node::EstType;
 use net_node::LinkEvent;
 use net_node::TimedEvent;
 ghost use mathlib.Core.Path.{_≡_};
+ghost use mathlib.Core.Bool.{false};
 ghost use mathlib.Core.Logic.{_≢_};
 ghost use Prim.Native.Nat.{ℕ, _+_, _*_, _≤_, _<_};
 ghost use lib.ListN.{length};
 ghost use Rattle.net_node.specs.Table.{nodeAt};
 ghost use Rattle.book_format.specs.Format.{links, origins, destinations, legs, originLink};
+ghost use Rattle.book_format.specs.Rows.{row7};
 ghost use Rattle.book_format.specs.Chains.{Readable};
 ghost use Rattle.book_legs.specs.Legs.{Started};
 ghost use Rattle.book_options.specs.Options.{OptionsIn, keptOrigins};
@@ -37,6 +39,7 @@ ghost use Rattle.grow_origins.specs.Origins.{SavesOrigin, GrowsOrigin, G
 // first in the reals, then the pairs of the runs that wait.
 pub fn plan_of(book: &[u8], s: Sections, places: usize) -> Plan
     requires { ⌜ Readable (now book) s ⌝ }
+    requires { ⌜ row7 (now book) ≡ false ⌝ }
     requires { ⌜ places ≤ 65535 ⌝ }
     ensures plan { λ r. ⌜ ((reals : ℕ) → legs (now (book .entry)) * 3 + 4 ≤ reals
         → PlanIn (now (book .entry)) r reals) ⌝ }

@@ -20,12 +20,13 @@ use Rattle.floats.proofs.Order.{size-of-bits, add-grows, le-trans}
 use Rattle.book_format.specs.declared.Sample.{Sample}
 use Rattle.book_format.specs.declared.Sections.{Sections}
 use Rattle.book_format.specs.Format.{links, legs, samples, samplesAt, endOf, linkLength, legSamples, firstSample, sampleFrom, sampleAt, lengthBits, floatOf}
-use Rattle.book_format.specs.Rows.{badSampleFrom, badSample}
+use Rattle.book_format.specs.Rows.{badSampleFrom, badSample, sampleFalls, row7}
 use Rattle.book_format.specs.Chains.{Readable}
 use Rattle.book_format.proofs.Floats.{sample-floats}
-use Rattle.book_format.proofs.Given.{link-float, length-float, sample-good}
+use Rattle.book_format.proofs.Given.{link-float, length-float, sample-good, leg-rises}
 use Rattle.event_walk.specs.declared.Movement.{Movement}
 use Rattle.event_walk.specs.Course.{Course, courseOf, Held, Rises}
+use Rattle.event_walk.proofs.Searches.{samples-rise}
 use Rattle.event_walk.proofs.Alike.{Alike}
 use Rattle.grow_path.specs.Path.{pathOf, pointLink, pointOffset, legCourse}
 use Rattle.grow_path.specs.Kept.{PathIn, Sound}
@@ -95,23 +96,30 @@ module _ (b : List ℕ) (s : Sections) (z : Readable b s) (i : ℕ) (h : i < leg
         let at = samplesAt b + firstSample b i * 24 + k * 24 in
         size-of-bits (u64At b (at + 8)) (sample-floats b at (good-sample k l) .offset)
 
-    pub leg-sound : Sound (courseOf b reals (moves path))
+    same-sample : (k : ℕ) → sampleFrom b (samplesAt b + firstSample b i * 24 + k * 24) ≡ sampleAt b (firstSample b i + k)
+    unfolding sampleAt
+    same-sample k = ap (sampleFrom b) (sym (sample-place k))
+
+    sample-rises : row7 b ≡ false → (k : ℕ) → k < legSamples b i - 1 → sampleFalls (sampleFrom b (samplesAt b + firstSample b i * 24 + k * 24)) (sampleFrom b (samplesAt b + firstSample b i * 24 + suc k * 24)) ≡ false
+    sample-rises seven k l =
+        let e : firstSample b i + suc k ≡ firstSample b i + k + 1 = omega arith in
+        ap (λ (x : Sample). sampleFalls x (sampleFrom b (samplesAt b + firstSample b i * 24 + suc k * 24))) (same-sample k)
+        ∙ ap (sampleFalls (sampleAt b (firstSample b i + k))) (same-sample (suc k) ∙ ap (sampleAt b) e)
+        ∙ leg-rises b seven i h k l
+
+    pub leg-sound : row7 b ≡ false → Sound (courseOf b reals (moves path))
     unfolding courseOf
-    leg-sound = record {
+    leg-sound seven = record {
       some = leg-some;
       some-points = omega arith;
       rises = record {
         sized = λ k l. subst Size (sym (p .offsets k (omega arith))) (point-size b path named k (omega arith));
         rising = λ k l. ap (λ (x : Float). le x (getD reals (suc k) nan)) (p .offsets k (omega arith)) ∙ ap (le (pointOffset b path k)) (p .offsets (suc k) (omega arith)) ∙ point-rises b path named k (omega arith);
       };
-      sizes = offset-size;
+      samples-rise = samples-rise (courseOf b reals (moves path)) offset-size (sample-rises seven);
       train = size-of-bits (lengthBits b) (length-float b (z .floats));
       bounded = book-finite (lengthBits b) (length-float b (z .floats));
     }
-
-    same-sample : (k : ℕ) → sampleFrom b (samplesAt b + firstSample b i * 24 + k * 24) ≡ sampleAt b (firstSample b i + k)
-    unfolding sampleAt
-    same-sample k = ap (sampleFrom b) (sym (sample-place k))
 
     -- it is the leg of the definition
     pub leg-alike : path ≡ pathOf b (suc i) → Alike (courseOf b reals (moves path)) (legCourse b (suc i))

@@ -66,10 +66,10 @@ walkable c s e = record {
   some = s .some;
   some-points = s .some-points;
   rises = s .rises;
-  sizes = s .sizes;
+  sizes = s .samples-rise .sized;
   train = s .train;
   bounded = s .bounded;
   before-last = λ i h.
       not-le (c .offset (c .points - 1)) (c .sample i .offset) (size-number (c .offset (c .points - 1)) (s .rises .sized (c .points - 1) (omega (arith, s .some-points))))
-      (size-number (c .sample i .offset) (s .sizes i h)) (none-at (c .samples) (λ k. le (c .offset (c .points - 1)) (c .sample k .offset)) i h (sym e));
+      (size-number (c .sample i .offset) (s .samples-rise .sized i h)) (none-at (c .samples) (λ k. le (c .offset (c .points - 1)) (c .sample k .offset)) i h (sym e));
 }

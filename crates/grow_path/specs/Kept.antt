@@ -28,7 +28,7 @@ pub record Sound (c : Course) : Type 0 where
   pub some : 0 < c .samples
   pub some-points : 0 < c .points
   pub rises : Rises (c .offset) (c .points)
-  pub sizes : (i : ℕ) → i < c .samples → Size (c .sample i .offset)
+  pub samples-rise : Rises (λ i. c .sample i .offset) (c .samples)
   pub train : Size (c .length)
   pub bounded : finite (c .length) ≡ true
 

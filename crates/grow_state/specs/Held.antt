@@ -9,6 +9,7 @@ use lib.ListN.{length}
 use lib.Ieee.{Float}
 use Rattle.laws.specs.Answer.{Answer, refused, given}
 use Rattle.book_format.specs.Format.{links, legs, legParent, lengthBits, floatOf}
+use Rattle.book_format.specs.Rows.{row7}
 use Rattle.book_format.specs.Chains.{Readable, Chained}
 use Rattle.grow_path.specs.Path.{pathOf}
 use Rattle.grow_path.specs.Kept.{PathIn}
@@ -66,6 +67,7 @@ listsAtExit floats numbers reals cells joins = record {
 -- The legs' units of cells stand before the nodes', and those before the links'.
 pub record PlanIn (b : List ℕ) (p : Plan) (reals : ℕ) : Type 0 where
   pub readable : Readable b (p .s)
+  pub row7 : row7 b ≡ false
   pub join : p .join ≡ joinGap b
   pub departs : p .departure ≡ departure b
   pub train : p .length ≡ floatOf (lengthBits b)

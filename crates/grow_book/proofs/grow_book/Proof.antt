@@ -10,7 +10,7 @@ returns : tie.Need-returns
 returns c = book-small _ _ (c .before .places .ensures) (c .if1 .taken) _ _
 
 plan-of-requires : tie.Need-plan-of-requires
-plan-of-requires c κs = (c .before .before .before .before .before .before .before .before .pre .0 .readable, places-fit (c .before .places .ensures) .most)
+plan-of-requires c κs = let r = c .before .before .before .before .before .before .before .before .pre .0 in (r .readable, (r .row7, places-fit (c .before .places .ensures) .most))
 
 first-nodes-requires : tie.Need-first-nodes-requires
 first-nodes-requires c κs = first-fit (c .before .before .before .before .places .ensures) (c .before .before .before .if1 .left)

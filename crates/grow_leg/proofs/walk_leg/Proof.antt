@@ -45,10 +45,9 @@ unfolding courseOf
 reaches-last-requires c κs =
     let s = c .before .before .before .before .before .before .before .before .before .before .before .before .before .before .before .before .before .before .before .before .before .before .before .before .before .before .before .pre in
     let d = some-front (s .1 .1 .0) (s .1 .0) .holds in
-    let k : Looks (c .before .before .before .before .before .before .before .before .before .before .before .before .before .before .before .before .before .before .before .before .before .before .before .before .before .before .before .args .book .now) (c .before .before .before .before .before .before .before .before .before .before .before .before .before .before .before .before .before .before .before .before .before .before .before .before .before .before .before .args .p) (c .before .before .before .before .before .before .before .before .before .before .before .before .before .before .before .before .before .before .before .before .before .before .before .before .before .before .before .args .reals .now) (c .before .before .before .before .before .before .before .before .before .before .before .before .before .before .before .before .before .before .before .before .before .before .before .before .before .before .before .args .cells .now) (c .before .before .before .before .before .before .before .before .before .before .before .before .before .before .before .before .before .before .before .before .before .before .before .before .before .before .before .args .g) (c .before .before .before .before .before .before .before .extend-path .last .1 .1 .0) (c .before .before .before .before .before .before .before .extend-path .last .1 .1 .1 .0) (c .before .movement-of .result) = record { leg = c .before .before .before .before .before .before .before .before .before .before .before .before .leg-at .result; is = c .before .before .before .before .before .before .before .before .before .before .before .before .leg-at .ensures; taken = c .before .before .before .before .before .before .before .before .before .before .leg-samples .result; samples = c .before .before .before .before .before .before .before .before .before .before .leg-samples .ensures; reals-then = c .before .before .before .before .before .before .before .extend-path .ensures .0; cells-then = c .before .before .before .before .before .before .before .extend-path .ensures .1; moves = c .before .movement-of .ensures } in (
-      walk-held (s .0) (s .1 .1 .0) d k,
-      walk-sound (s .0) (s .1 .1 .0) d k .some-points,
-    )
+    let k : Looks (c .before .before .before .before .before .before .before .before .before .before .before .before .before .before .before .before .before .before .before .before .before .before .before .before .before .before .before .args .book .now) (c .before .before .before .before .before .before .before .before .before .before .before .before .before .before .before .before .before .before .before .before .before .before .before .before .before .before .before .args .p) (c .before .before .before .before .before .before .before .before .before .before .before .before .before .before .before .before .before .before .before .before .before .before .before .before .before .before .before .args .reals .now) (c .before .before .before .before .before .before .before .before .before .before .before .before .before .before .before .before .before .before .before .before .before .before .before .before .before .before .before .args .cells .now) (c .before .before .before .before .before .before .before .before .before .before .before .before .before .before .before .before .before .before .before .before .before .before .before .before .before .before .before .args .g) (c .before .before .before .before .before .before .before .extend-path .last .1 .1 .0) (c .before .before .before .before .before .before .before .extend-path .last .1 .1 .1 .0) (c .before .movement-of .result) = record { leg = c .before .before .before .before .before .before .before .before .before .before .before .before .leg-at .result; is = c .before .before .before .before .before .before .before .before .before .before .before .before .leg-at .ensures; taken = c .before .before .before .before .before .before .before .before .before .before .leg-samples .result; samples = c .before .before .before .before .before .before .before .before .before .before .leg-samples .ensures; reals-then = c .before .before .before .before .before .before .before .extend-path .ensures .0; cells-then = c .before .before .before .before .before .before .before .extend-path .ensures .1; moves = c .before .movement-of .ensures } in
+    let w = walk-sound (s .0) (s .1 .1 .0) d k in
+    (walk-held (s .0) (s .1 .1 .0) d k, (w .some-points, (w .some, w .samples-rise)))
 
 returns : tie.Need-returns
 returns c =

@@ -14,7 +14,7 @@ mul-nodes-at : tie.Need-mul-nodes-at
 mul-nodes-at c = omega (arith, legs-small _ _ (c .before .before .before .pre .0) _ (c .before .head-patterns .ensures))
 
 add-t9 : tie.Need-add-t9
-add-t9 c = omega (arith, c .before .before .before .pre .1, legs-small _ _ (c .before .before .before .pre .0) _ (c .before .head-patterns .ensures))
+add-t9 c = omega (arith, c .before .before .before .pre .1 .1, legs-small _ _ (c .before .before .before .pre .0) _ (c .before .head-patterns .ensures))
 
 add-t8 : tie.Need-add-t8
 add-t8 c = omega (arith, legs-small _ _ (c .before .before .before .before .pre .0) _ (c .before .before .head-patterns .ensures))
@@ -29,7 +29,7 @@ float-from-bits-t12 : tie.Need-float-from-bits-t12
 float-from-bits-t12 c = length-number _ _ (c .before .before .before .before .before .before .before .pre .0) _ (c .before .before .before .before .before .head-patterns .ensures)
 
 returns : tie.Need-returns
-returns c = (λ reals h. plan-holds _ _ (c .before .before .before .before .before .before .before .pre .0) _ (c .before .before .before .before .before .head-patterns .ensures) _ reals h, (refl, omega (arith, sized-legs (c .before .before .before .before .before .before .before .pre .0 .sized))))
+returns c = (λ reals h. plan-holds _ _ (c .before .before .before .before .before .before .before .pre .0) _ (c .before .before .before .before .before .head-patterns .ensures) (c .before .before .before .before .before .before .before .pre .1 .0) _ reals h, (refl, omega (arith, sized-legs (c .before .before .before .before .before .before .before .pre .0 .sized))))
 
 pub plan-of-spec : {M : Type 1} → statement M
 plan-of-spec =
