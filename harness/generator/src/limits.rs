@@ -2,6 +2,7 @@
 
 use crate::book::{work_asked, Book, Leg, Link};
 use crate::books::BookItem;
+use crate::hostile::{self, Equal, Shared};
 use crate::random::Random;
 use crate::writer::{link, origins, Writer};
 use crate::{events, tables};
@@ -234,6 +235,8 @@ pub fn limits() -> Vec<Limit> {
     counts(&mut list);
     rooms(&mut list);
     lists_and_walks(&mut list);
+    equal_and_shared(&mut list);
+    long_work(&mut list);
     tables_and_events(&mut list);
     times(&mut list);
     list.0
@@ -306,6 +309,50 @@ fn lists_and_walks(list: &mut List) {
         list.places(&name, &book, 65_535, expected);
         list.places(&name, &book, 100_000, expected);
     }
+}
+
+/// Lists with equal entries, one after the other and in turns; strands that meet, at the limits of lists and walks.
+fn equal_and_shared(list: &mut List) {
+    for (turns, joined, split, saved, expected) in [
+        (1, 60, 50, 40, "nodes 724 "),
+        (2, 60, 50, 40, "nodes 735 "),
+        (7, 63, 70, 40, "nodes 871 "),
+        (1, 997, 9, 5, "nodes 7055 "),
+        (2, 996, 20, 20, "nodes 7137 "),
+    ] {
+        let name = format!("{} entries of {turns} in turns, {split} splits, {saved} runs", turns + joined);
+        list.book(name, &hostile::equal_entries(Equal { turns, joined, split, saved }), expected);
+    }
+    for (turns, tail, entries, is_met, expected) in [
+        (1, 30, 40, false, "nodes 338 "),
+        (1, 30, 40, true, "nodes 339 "),
+        (2, 30, 41, false, "nodes 417 "),
+        (2, 30, 41, true, "nodes 418 "),
+        (3, 30, 41, true, "nodes 493 "),
+        (1, 1, 1_023, false, "nodes 4183 "),
+        (1, 1, 1_023, true, "nodes 4184 "),
+        (1, 1, 1_024, false, "refused 12"),
+        (1, 1, 1_024, true, "refused 12"),
+        (1, 3_998, 96, false, "nodes 12466 "),
+        (1, 3_999, 96, false, "refused 12"),
+    ] {
+        let of = Shared { turns, tail, metres: 1, entries, before: 1, saved: 19, is_met };
+        let met = if is_met { ", met" } else { "" };
+        let name = format!("{entries} strands in {turns} tails of {tail}{met}");
+        list.book(name, &hostile::shared_strands(of), expected);
+    }
+}
+
+/// Books whose work is a product of two counts.
+fn long_work(list: &mut List) {
+    list.book("500 joins at one node, each later", &hostile::chain_ends(500, false), "nodes 1534 ");
+    list.book("500 joins at one node, each sooner", &hostile::chain_ends(500, true), "nodes 1534 ");
+    list.book("500 splits at one node", &hostile::splits_at_one_place(500), "nodes 1534 ");
+    list.book("300 runs saved with 61 entries", &hostile::saved_lists(60, 300), "nodes 1354 ");
+    list.book("101 entries kept over 3 runs of 40 events", &hostile::long_lists(100, 40, 3), "nodes 596 ");
+    list.book("100 runs over 300 events", &hostile::moved_over(300, 100), "nodes 604 ");
+    list.book("101 joins with 600 events left", &hostile::events_left(300, 100), "nodes 323 ");
+    list.book("5,000 legs, 1,000 destinations", &hostile::destinations(5_000, 1_000), "nodes 7 ");
 }
 
 /// Tables of 2 and 3, 65,535 and 65,536 nodes; event lists at each of their counts.
