@@ -163,18 +163,24 @@ fn short<S: FnMut(f64) -> f64>(
     ways.fan(at, runs, pieces, &joins);
 }
 
-/// So many runs join one target one after the other: each seeks the end of its previous alternatives, and before that
-/// splits behind all runs before it. Each is later than the one before, or with `is_falling` sooner: so one of the two
-/// lets the time passes walk over all Fakes that are left. `n * n / 2` of each, `3 * n` nodes.
-pub fn chain_ends(n: usize, is_falling: bool) -> Book {
-    let last = OWN + OWN + n as f64;
-    let speed = |speed| if is_falling || speed < OWN { speed } else { last - speed };
-    equal_entries_at(Equal { turns: 1, joined: 0, split: 0, saved: n }, speed)
+/// Speeds that the runs of a place have for themselves, rising or falling: each run is sooner than the one before, or
+/// later.
+fn ordered(runs: usize, is_sooner: bool) -> impl FnMut(f64) -> f64 {
+    let both = OWN + OWN + runs as f64;
+    move |speed| if is_sooner || speed < OWN { speed } else { both - speed }
 }
 
-/// So many runs split one after the other at one node and finish: `n * n / 2` next alternatives, `3 * n` nodes.
-pub fn splits_at_one_place(n: usize) -> Book {
-    equal_entries(Equal { turns: 1, joined: 0, split: n, saved: 0 })
+/// So many runs join one target one after the other: each seeks the end of its previous alternatives, and before that
+/// splits behind all runs before it. `n * n / 2` of each, `3 * n` nodes. If each is sooner than the one before, the
+/// forward pass walks over all Fakes that are left for each.
+pub fn chain_ends(n: usize, is_sooner: bool) -> Book {
+    equal_entries_at(Equal { turns: 1, joined: 0, split: 0, saved: n }, ordered(n, is_sooner))
+}
+
+/// So many runs split one after the other at one node and finish: `n * n / 2` next alternatives, `3 * n` nodes. The
+/// backward pass walks over Fakes that are left, by the order of their times.
+pub fn splits_at_one_place(n: usize, is_sooner: bool) -> Book {
+    equal_entries_at(Equal { turns: 1, joined: 0, split: n, saved: 0 }, ordered(n, is_sooner))
 }
 
 /// `saved` runs are saved and taken up with `joined` entries each: as many copies as the product, twice. There are
@@ -400,7 +406,10 @@ pub fn small(r: &mut Random) -> Book {
     };
     let mut book = match kind {
         0 => equal_entries_at(Equal { turns, joined: a, split: b, saved: c }, speed),
-        1 => shared_strands_at(Shared { turns, tail: a, metres: 1, entries: b, before: d.min(a), saved: c, is_met }, speed),
+        1 => {
+            let before = d.min(a);
+            shared_strands_at(Shared { turns, tail: a, metres: 1, entries: b, before, saved: c, is_met }, speed)
+        }
         2 => moved_over_at(a, b, speed),
         3 => events_left_at(a + 1, b, speed),
         4 => long_lists(a, b, c),
@@ -448,7 +457,8 @@ mod tests {
         let books = [
             (chain_ends(5, false), 49),
             (chain_ends(5, true), 49),
-            (splits_at_one_place(5), 49),
+            (splits_at_one_place(5, false), 49),
+            (splits_at_one_place(5, true), 49),
             (saved_lists(5, 6), 87),
             (long_lists(5, 6, 2), 72),
             (moved_over(6, 5), 25),

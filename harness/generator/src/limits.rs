@@ -345,9 +345,12 @@ fn equal_and_shared(list: &mut List) {
 
 /// Books whose work is a product of two counts.
 fn long_work(list: &mut List) {
-    list.book("500 joins at one node, each later", &hostile::chain_ends(500, false), "nodes 1534 ");
-    list.book("500 joins at one node, each sooner", &hostile::chain_ends(500, true), "nodes 1534 ");
-    list.book("500 splits at one node", &hostile::splits_at_one_place(500), "nodes 1534 ");
+    for is_sooner in [false, true] {
+        let order = if is_sooner { "each sooner" } else { "each later" };
+        let (joins, splits) = (hostile::chain_ends(500, is_sooner), hostile::splits_at_one_place(500, is_sooner));
+        list.book(format!("500 joins at one node, {order}"), &joins, "nodes 1534 ");
+        list.book(format!("500 splits at one node, {order}"), &splits, "nodes 1534 ");
+    }
     list.book("300 runs saved with 61 entries", &hostile::saved_lists(60, 300), "nodes 1354 ");
     list.book("101 entries kept over 3 runs of 40 events", &hostile::long_lists(100, 40, 3), "nodes 596 ");
     list.book("100 runs over 300 events", &hostile::moved_over(300, 100), "nodes 604 ");
