@@ -17,11 +17,11 @@ const LINE: usize = 7_000;
 type Case = (&'static str, fn() -> Book);
 
 fn equal(turns: usize, split: usize, saved: usize) -> Book {
-    equal_entries(Equal { turns, joined: 998 - turns, split, saved })
+    equal_entries(Equal { turns, joined: 998 - turns, split, saved, is_doubled: false })
 }
 
 fn shared(is_met: bool) -> Book {
-    shared_strands(Shared { turns: 1, tail: 3_069, metres: 1, entries: 1_023, before: 1, saved: 17_400, is_met })
+    shared_strands(Shared { turns: 1, tail: 3_069, metres: 1, entries: 1_023, before: 1, saved: 17_400, is_met, is_branched: false })
 }
 
 /// All of them, in up to 65,535 nodes, legs and links.

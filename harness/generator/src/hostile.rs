@@ -95,7 +95,13 @@ pub struct Equal {
     pub split: usize,
     /// Runs saved with the list.
     pub saved: usize,
+    /// Whether the first of these nodes leads to two nodes with the event that the runs look for, so that each entry
+    /// gives two; else to one.
+    pub is_doubled: bool,
 }
+
+/// The smallest of them.
+const ONE: Equal = Equal { turns: 1, joined: 0, split: 0, saved: 0, is_doubled: false };
 
 /// A list of `turns + joined` entries (0, S), S one of `turns` Clears, each with `split / turns` next alternatives.
 /// `saved` runs have it, and look through it at their second event: `(turns + joined) * split / turns * saved` nexts.
@@ -129,7 +135,7 @@ pub fn equal_entries_at(of: Equal, speed: impl FnMut(f64) -> f64) -> Book {
         let at = made.go(FIRST, at, &[(3.5, clear)]);
         let at = made.go(MATCH, at, &[(5.5, clear)]);
         if way < of.turns {
-            split(&mut made, at, of.split / of.turns, way == 0);
+            split(&mut made, at, of, way == 0);
         } else if way + 1 == ways {
             made.go(BEFORE, at, &[(6.5, EVEN)]);
             short(&mut made, at, of.saved, |own| vec![(6.25, own), (6.75, EVEN)], false);
@@ -139,12 +145,13 @@ pub fn equal_entries_at(of: Equal, speed: impl FnMut(f64) -> f64) -> Book {
 }
 
 /// A run that has added its Clear of `MATCH`: it goes on, and others leave that place over `SHORT`, an event each.
-fn split<S: FnMut(f64) -> f64>(ways: &mut Ways<S>, parent: usize, runs: usize, is_first: bool) {
-    let at = ways.go(BEFORE, parent, &[(6.5, EVEN)]);
+fn split<S: FnMut(f64) -> f64>(ways: &mut Ways<S>, parent: usize, of: Equal, is_first: bool) {
+    let stands = is_first && of.is_doubled;
+    let at = if stands { ways.stand(BEFORE, parent) } else { ways.go(BEFORE, parent, &[(6.5, EVEN)]) };
     if is_first {
         ways.first(at, 7.0);
     }
-    short(ways, parent, runs, |own| vec![(6.25, own)], is_first);
+    short(ways, parent, of.split / of.turns, |own| vec![(6.25, own)], is_first);
 }
 
 /// Runs over `SHORT`. The last of them joins at the Arrive of `BEFORE`; the first origin's has no list, and joins at
@@ -174,19 +181,19 @@ fn ordered(runs: usize, is_sooner: bool) -> impl FnMut(f64) -> f64 {
 /// splits behind all runs before it. `n * n / 2` of each, `3 * n` nodes. If each is sooner than the one before, the
 /// forward pass walks over all Fakes that are left for each.
 pub fn chain_ends(n: usize, is_sooner: bool) -> Book {
-    equal_entries_at(Equal { turns: 1, joined: 0, split: 0, saved: n }, ordered(n, is_sooner))
+    equal_entries_at(Equal { saved: n, ..ONE }, ordered(n, is_sooner))
 }
 
 /// So many runs split one after the other at one node and finish: `n * n / 2` next alternatives, `3 * n` nodes. The
 /// backward pass walks over Fakes that are left, by the order of their times.
 pub fn splits_at_one_place(n: usize, is_sooner: bool) -> Book {
-    equal_entries_at(Equal { turns: 1, joined: 0, split: n, saved: 0 }, ordered(n, is_sooner))
+    equal_entries_at(Equal { split: n, ..ONE }, ordered(n, is_sooner))
 }
 
 /// `saved` runs are saved and taken up with `joined` entries each: as many copies as the product, twice. There are
 /// `7 * joined + 3 * saved` nodes.
 pub fn saved_lists(joined: usize, saved: usize) -> Book {
-    equal_entries(Equal { turns: 1, joined, split: 0, saved })
+    equal_entries(Equal { joined, saved, ..ONE })
 }
 
 /// How many there are of what `shared_strands` is made of.
@@ -206,6 +213,8 @@ pub struct Shared {
     pub saved: usize,
     /// Whether an Arrive stands in front of each tail: then the entries are led to it, and are equal or come in turns.
     pub is_met: bool,
+    /// Whether another run has split in front of the tail and clears it too, so that each strand has two ends.
+    pub is_branched: bool,
 }
 
 /// A list of `entries + turns` entries (m, e), m not 0, whose strands meet in a tail of Clears. `saved` runs have it,
@@ -243,8 +252,10 @@ pub fn shared_strands_at(of: Shared, speed: impl FnMut(f64) -> f64) -> Book {
         }
         if way < of.turns {
             let end = place + made.book.0.links[WHERE].length;
-            at = made.go(WHERE, at, &[(end - 0.25, even(way))]);
-            at = made.go(BEHIND, at, &[(end + train - 0.25, even(way))]);
+            let stops = if of.is_branched { [place + 1.75, end + 0.25] } else { [end - 0.25, end + train - 0.25] };
+            at = made.go(WHERE, at, &[(stops[0], even(way))]);
+            let stands = of.is_branched && !of.is_met;
+            at = if stands { made.stand(BEHIND, at) } else { made.go(BEHIND, at, &[(stops[1], even(way))]) };
             made.first(at, end + train);
         } else {
             at = made.stand(WHERE, at);
@@ -296,7 +307,7 @@ fn shared_links(of: Shared) -> Vec<Link> {
 /// three, and about `events * (runs + 1) + 4 * entries` nodes.
 pub fn long_lists(entries: usize, events: usize, runs: usize) -> Book {
     let saved = runs - 1;
-    shared_strands(Shared { turns: 1, tail: 1, metres: events + 1, entries, before: events, saved, is_met: false })
+    shared_strands(Shared { turns: 1, tail: 1, metres: events + 1, entries, before: events, saved, is_met: false, is_branched: false })
 }
 
 /// So many runs move over the Arrives of so many links that another run has added: their product of events, and
@@ -396,7 +407,7 @@ pub fn small(r: &mut Random) -> Book {
     let most = if r.one_in(3) { 12 } else { 5 };
     let [a, b, c, d] = [(); 4].map(|()| r.between(1, most) as usize);
     let kind = r.weighted(&[50, 30, 8, 4, 4, 4]);
-    let is_met = r.chance(50);
+    let (is_met, is_doubled) = (r.chance(50), r.chance(30));
     let turns = r.pick(&[1, 1, 2, 2, 3, 4]);
     let mut drawn = Random::new(r.bits(), 0);
     let others = r.pick(&[0, 0, 0, 2, 5, 15]);
@@ -405,10 +416,11 @@ pub fn small(r: &mut Random) -> Book {
         true => drawn.pick(&[EVEN, EVEN, OTHER, OWN, speed + 0.25, speed + 1.0]),
     };
     let mut book = match kind {
-        0 => equal_entries_at(Equal { turns, joined: a, split: b, saved: c }, speed),
+        0 => equal_entries_at(Equal { turns, joined: a, split: b, saved: c, is_doubled }, speed),
         1 => {
             let before = d.min(a);
-            shared_strands_at(Shared { turns, tail: a, metres: 1, entries: b, before, saved: c, is_met }, speed)
+            let of = Shared { turns, tail: a, metres: 1, entries: b, before, saved: c, is_met, is_branched: is_doubled };
+            shared_strands_at(of, speed)
         }
         2 => moved_over_at(a, b, speed),
         3 => events_left_at(a + 1, b, speed),
@@ -433,21 +445,36 @@ mod tests {
     #[test]
     fn equal_entries_have_their_runs() {
         for (turns, joined, split, saved) in [(1, 0, 0, 0), (1, 5, 4, 6), (2, 3, 8, 2), (3, 7, 6, 5)] {
-            let counts = counts(&equal_entries(Equal { turns, joined, split, saved }));
-            let nodes = 23 + 11 * turns + 7 * joined + 3 * split + 3 * saved;
-            assert_eq!((counts[0], counts[3]), (nodes, joined + 2 * turns + saved + 2), "{turns} in turns");
-            assert_eq!(counts[4], split + 1);
+            for is_doubled in [false, true] {
+                let counts = counts(&equal_entries(Equal { turns, joined, split, saved, is_doubled }));
+                let nodes = 23 + 11 * turns + 7 * joined + 3 * split + 3 * saved + is_doubled as usize;
+                assert_eq!((counts[0], counts[3]), (nodes, joined + 2 * turns + saved + 2), "{turns} in turns");
+                assert_eq!(counts[4], split + 1);
+            }
         }
     }
 
     #[test]
     fn strands_have_their_runs() {
+        let is_branched = false;
         for (turns, tail, entries, saved) in [(1, 1, 1, 0), (1, 5, 4, 6), (2, 5, 4, 6), (3, 4, 7, 5)] {
             for is_met in [false, true] {
-                let of = Shared { turns, tail, metres: 1, entries, before: 1, saved, is_met };
+                let of = Shared { turns, tail, metres: 1, entries, before: 1, saved, is_met, is_branched };
                 let counts = counts(&shared_strands(of));
-                let nodes = 16 + 15 * turns + (2 * turns + 1) * tail + 4 * entries + 3 * saved;
-                assert_eq!((counts[0], counts[3]), (nodes + is_met as usize, 2 * turns - 1 + entries + saved + 1));
+                let nodes = 16 + 15 * turns + (2 * turns + 1) * tail + 4 * entries + 3 * saved + is_met as usize;
+                assert_eq!((counts[0], counts[3]), (nodes, 2 * turns - 1 + entries + saved + 1));
+            }
+        }
+    }
+
+    #[test]
+    fn branched_strands_have_a_tail_more() {
+        let is_branched = true;
+        for (tail, entries, saved) in [(1, 1, 0), (5, 4, 6), (4, 7, 5)] {
+            for is_met in [false, true] {
+                let of = Shared { turns: 1, tail, metres: 1, entries, before: 1, saved, is_met, is_branched };
+                let counts = counts(&shared_strands(of));
+                assert_eq!((counts[0], counts[3]), (33 + 4 * tail + 4 * entries + 3 * saved, 2 + entries + saved));
             }
         }
     }

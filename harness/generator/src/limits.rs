@@ -235,7 +235,8 @@ pub fn limits() -> Vec<Limit> {
     counts(&mut list);
     rooms(&mut list);
     lists_and_walks(&mut list);
-    equal_and_shared(&mut list);
+    equal_entries(&mut list);
+    shared_strands(&mut list);
     long_work(&mut list);
     tables_and_events(&mut list);
     times(&mut list);
@@ -311,34 +312,48 @@ fn lists_and_walks(list: &mut List) {
     }
 }
 
-/// Lists with equal entries, one after the other and in turns; strands that meet, at the limits of lists and walks.
-fn equal_and_shared(list: &mut List) {
-    for (turns, joined, split, saved, expected) in [
-        (1, 60, 50, 40, "nodes 724 "),
-        (2, 60, 50, 40, "nodes 735 "),
-        (7, 63, 70, 40, "nodes 871 "),
-        (1, 997, 9, 5, "nodes 7055 "),
-        (2, 996, 20, 20, "nodes 7137 "),
+/// Lists with equal entries, one after the other and in turns; at 1,024 where each gives two.
+fn equal_entries(list: &mut List) {
+    for (turns, joined, is_doubled, expected) in [
+        (1, 60, false, "nodes 724 "),
+        (2, 60, false, "nodes 735 "),
+        (7, 60, false, "nodes 787 "),
+        (2, 60, true, "nodes 736 "),
+        (1, 511, true, "nodes 3882 "),
+        (1, 512, true, "refused 12"),
+        (2, 996, false, "nodes 7287 "),
+        (2, 996, true, "nodes 7288 "),
     ] {
-        let name = format!("{} entries of {turns} in turns, {split} splits, {saved} runs", turns + joined);
-        list.book(name, &hostile::equal_entries(Equal { turns, joined, split, saved }), expected);
+        let doubled = if is_doubled { ", doubled" } else { "" };
+        let name = format!("{} entries of {turns} in turns{doubled}", turns + joined);
+        let of = Equal { turns, joined, split: 50, saved: 40, is_doubled };
+        list.book(name, &hostile::equal_entries(of), expected);
     }
-    for (turns, tail, entries, is_met, expected) in [
-        (1, 30, 40, false, "nodes 338 "),
-        (1, 30, 40, true, "nodes 339 "),
-        (2, 30, 41, false, "nodes 417 "),
-        (2, 30, 41, true, "nodes 418 "),
-        (3, 30, 41, true, "nodes 493 "),
-        (1, 1, 1_023, false, "nodes 4183 "),
-        (1, 1, 1_023, true, "nodes 4184 "),
-        (1, 1, 1_024, false, "refused 12"),
-        (1, 1, 1_024, true, "refused 12"),
-        (1, 3_998, 96, false, "nodes 12466 "),
-        (1, 3_999, 96, false, "refused 12"),
+}
+
+/// Strands that meet: lists of 1,024 entries and walks of 4,096 nexts, and one more.
+fn shared_strands(list: &mut List) {
+    for (turns, tail, entries, is_met, is_branched, expected) in [
+        (1, 30, 40, false, false, "nodes 338 "),
+        (1, 30, 40, true, false, "nodes 339 "),
+        (2, 30, 41, false, false, "nodes 417 "),
+        (2, 30, 41, true, false, "nodes 418 "),
+        (3, 30, 41, true, false, "nodes 493 "),
+        (1, 30, 40, false, true, "nodes 370 "),
+        (1, 30, 40, true, true, "nodes 370 "),
+        (1, 1, 1_023, false, false, "nodes 4183 "),
+        (1, 1, 1_023, true, false, "nodes 4184 "),
+        (1, 1, 1_024, false, false, "refused 12"),
+        (1, 1, 1_024, true, false, "refused 12"),
+        (1, 1, 511, false, true, "nodes 2138 "),
+        (1, 1, 512, false, true, "refused 12"),
+        (1, 3_998, 96, false, false, "nodes 12466 "),
+        (1, 3_999, 96, false, false, "refused 12"),
     ] {
-        let of = Shared { turns, tail, metres: 1, entries, before: 1, saved: 19, is_met };
+        let of = Shared { turns, tail, metres: 1, entries, before: 1, saved: 19, is_met, is_branched };
         let met = if is_met { ", met" } else { "" };
-        let name = format!("{entries} strands in {turns} tails of {tail}{met}");
+        let branched = if is_branched { ", branched" } else { "" };
+        let name = format!("{entries} strands in {turns} tails of {tail}{met}{branched}");
         list.book(name, &hostile::shared_strands(of), expected);
     }
 }
