@@ -21,7 +21,8 @@ fn equal(turns: usize, split: usize, saved: usize) -> Book {
 }
 
 fn shared(is_met: bool) -> Book {
-    shared_strands(Shared { turns: 1, tail: 3_069, metres: 1, entries: 1_023, before: 1, saved: 17_400, is_met, is_branched: false })
+    let (tail, entries, saved) = (3_069, 1_023, 17_400);
+    shared_strands(Shared { turns: 1, tail, metres: 1, entries, before: 1, saved, is_met, is_branched: false })
 }
 
 /// All of them, in up to 65,535 nodes, legs and links.
@@ -98,7 +99,8 @@ fn seconds(ms: Option<f64>) -> String {
 /// All cases, or those whose name has the word.
 fn all(word: &str) {
     let (line, _) = timers::fitted(&sidings::book(LINE));
-    println!("\nkeldurap_raw_make_est_times, 65,535 places, each once, time on a processor. A line of {LINE} sidings: {line:.1} ms.");
+    println!("\nkeldurap_raw_make_est_times, 65,535 places, each once, time on a processor.");
+    println!("A line of {LINE} sidings: {line:.1} ms.\n");
     println!("{:<54} {:>9} {:>6} {:>8} {:>8} {:>7}", "hostile books", "bytes", "nodes", "ours, s", "ref., s", "lines");
     for (k, (name, book)) in CASES.iter().enumerate().filter(|(_, case)| case.0.contains(word)) {
         let ours = measured(k, "ours");

@@ -306,8 +306,16 @@ fn shared_links(of: Shared) -> Vec<Link> {
 /// `runs` runs clear `events` links each while their list has `entries` entries that they keep: the product of all
 /// three, and about `events * (runs + 1) + 4 * entries` nodes.
 pub fn long_lists(entries: usize, events: usize, runs: usize) -> Book {
-    let saved = runs - 1;
-    shared_strands(Shared { turns: 1, tail: 1, metres: events + 1, entries, before: events, saved, is_met: false, is_branched: false })
+    shared_strands(Shared {
+        turns: 1,
+        tail: 1,
+        metres: events + 1,
+        entries,
+        before: events,
+        saved: runs - 1,
+        is_met: false,
+        is_branched: false,
+    })
 }
 
 /// So many runs move over the Arrives of so many links that another run has added: their product of events, and
@@ -407,7 +415,7 @@ pub fn small(r: &mut Random) -> Book {
     let most = if r.one_in(3) { 12 } else { 5 };
     let [a, b, c, d] = [(); 4].map(|()| r.between(1, most) as usize);
     let kind = r.weighted(&[50, 30, 8, 4, 4, 4]);
-    let (is_met, is_doubled) = (r.chance(50), r.chance(30));
+    let (is_met, is_doubled, is_branched) = (r.chance(50), r.chance(30), r.chance(30));
     let turns = r.pick(&[1, 1, 2, 2, 3, 4]);
     let mut drawn = Random::new(r.bits(), 0);
     let others = r.pick(&[0, 0, 0, 2, 5, 15]);
@@ -419,7 +427,7 @@ pub fn small(r: &mut Random) -> Book {
         0 => equal_entries_at(Equal { turns, joined: a, split: b, saved: c, is_doubled }, speed),
         1 => {
             let before = d.min(a);
-            let of = Shared { turns, tail: a, metres: 1, entries: b, before, saved: c, is_met, is_branched: is_doubled };
+            let of = Shared { turns, tail: a, metres: 1, entries: b, before, saved: c, is_met, is_branched };
             shared_strands_at(of, speed)
         }
         2 => moved_over_at(a, b, speed),
