@@ -321,8 +321,6 @@ fn equal_entries(list: &mut List) {
         (2, 60, true, "nodes 736 "),
         (1, 511, true, "nodes 3882 "),
         (1, 512, true, "refused 12"),
-        (2, 996, false, "nodes 7287 "),
-        (2, 996, true, "nodes 7288 "),
     ] {
         let doubled = if is_doubled { ", doubled" } else { "" };
         let name = format!("{} entries of {turns} in turns{doubled}", turns + joined);
