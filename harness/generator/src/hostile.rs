@@ -27,7 +27,8 @@ struct Ways<S> {
 }
 
 impl<S: FnMut(f64) -> f64> Ways<S> {
-    /// Origins are destinations too: so each is kept, whatever leads to it, and they run in this order.
+    /// No legs yet. The origins are the links from `first` on. They are destinations too: so each is kept, whatever
+    /// leads to it, and they run in this order.
     fn new(length: f64, links: Vec<Link>, first: usize, speed: S) -> Ways<S> {
         let starts = first..links.len();
         let destinations = starts.clone().chain([GOAL]).map(|link| link as u32).collect();
@@ -64,7 +65,7 @@ impl<S: FnMut(f64) -> f64> Ways<S> {
         self.book.leg(link, parent, &samples)
     }
 
-    /// Runs that leave one place behind a leg, each with these pieces at its number, and one more that ends in `AGAIN`.
+    /// Runs that leave one place behind a leg, each with the pieces of its own speed, and one more that ends in `AGAIN`.
     fn fan(&mut self, parent: usize, runs: usize, pieces: impl Fn(f64) -> Vec<Piece>, last: &[Piece]) {
         let mut at = parent;
         for run in 0..runs {
@@ -74,9 +75,9 @@ impl<S: FnMut(f64) -> f64> Ways<S> {
         self.go(AGAIN, at, last);
     }
 
-    /// The first run of all, from `parent` on, whose place is in front of the Clear of a link at `clear`; the link is a
-    /// metre longer than the train. It finishes, and the run saved in `AGAIN` joins it.
-    fn first(&mut self, parent: usize, clear: f64) {
+    /// A run that finishes behind `parent`, from its place in front of the Clear of the link before `AGAIN` on, which is
+    /// at `clear`; that link is a metre longer than the train. The run saved in `AGAIN` joins it.
+    fn finish(&mut self, parent: usize, clear: f64) {
         let end = clear + self.book.0.length + 1.5;
         let at = self.stand(AGAIN, parent);
         self.go(GOAL, at, &[(end, EVEN)]);
@@ -110,7 +111,7 @@ pub fn equal_entries(of: Equal) -> Book {
     equal_entries_at(of, |speed| speed)
 }
 
-/// The links of `equal_entries` behind `AGAIN`, and where they start on the way without `SHORT`.
+/// The links of `equal_entries` behind `AGAIN`; behind them the origins.
 const BEFORE: usize = 3;
 const SHORT: usize = 4;
 const MATCH: usize = 5;
@@ -149,7 +150,7 @@ fn split<S: FnMut(f64) -> f64>(ways: &mut Ways<S>, parent: usize, of: Equal, is_
     let stands = is_first && of.is_doubled;
     let at = if stands { ways.stand(BEFORE, parent) } else { ways.go(BEFORE, parent, &[(6.5, EVEN)]) };
     if is_first {
-        ways.first(at, 7.0);
+        ways.finish(at, 7.0);
     }
     short(ways, parent, of.split / of.turns, |own| vec![(6.25, own)], is_first);
 }
@@ -191,7 +192,8 @@ pub fn splits_at_one_place(n: usize, is_sooner: bool) -> Book {
 }
 
 /// `saved` runs are saved and taken up with `joined` entries each: as many copies as the product, twice. There are
-/// `7 * joined + 3 * saved` nodes.
+/// `7 * joined + 3 * saved` nodes. Before that each run that joins walks the Fakes of those before it for each of them:
+/// a sixth of the cube of `joined`.
 pub fn saved_lists(joined: usize, saved: usize) -> Book {
     equal_entries(Equal { joined, saved, ..ONE })
 }
@@ -256,7 +258,7 @@ pub fn shared_strands_at(of: Shared, speed: impl FnMut(f64) -> f64) -> Book {
             at = made.go(WHERE, at, &[(stops[0], even(way))]);
             let stands = of.is_branched && !of.is_met;
             at = if stands { made.stand(BEHIND, at) } else { made.go(BEHIND, at, &[(stops[1], even(way))]) };
-            made.first(at, end + train);
+            made.finish(at, end + train);
         } else {
             at = made.stand(WHERE, at);
             at = made.stand(BEHIND, at);
@@ -284,6 +286,7 @@ fn later<S: FnMut(f64) -> f64>(made: &mut Ways<S>, of: Shared, start: usize) {
     made.fan(at, of.saved, pieces, &pieces(OWN + of.saved as f64));
 }
 
+/// The links of `shared_strands`.
 fn shared_links(of: Shared) -> Vec<Link> {
     let train = (of.tail * of.metres) as f64 + 2.5;
     let (own, other) = (TAIL + of.tail, TAIL + of.tail + of.before);
@@ -361,6 +364,7 @@ const PLACE: usize = 3;
 const WAY: usize = 4;
 const LEFT: usize = 5;
 
+/// The links of `events_left`.
 fn links_left(count: usize) -> Vec<Link> {
     let start = LEFT + count;
     let mut links = vec![Link::default(), link(9.0, 0, 0, AGAIN), link(9.0, GOAL, AGAIN, start - 1)];
@@ -383,7 +387,7 @@ fn events_left_at(count: usize, runs: usize, speed: impl FnMut(f64) -> f64) -> B
     let first = made.go(PLACE, first, &[(3.5, EVEN)]);
     let first = made.go(LEFT, first, &[(4.5, EVEN)]);
     let first = (LEFT + 1..start).fold(first, |at, link| made.stand(link, at));
-    made.first(first, 5.0);
+    made.finish(first, 5.0);
     let other = made.start(start + 1);
     let other = made.go(WAY, other, &[(2.25, EVEN)]);
     let other = made.go(PLACE, other, &[(2.75, EVEN)]);
@@ -393,7 +397,8 @@ fn events_left_at(count: usize, runs: usize, speed: impl FnMut(f64) -> f64) -> B
     made.book.0
 }
 
-/// So many legs in a chain, and so many destinations that each leg's link is compared with. Two nodes are added.
+/// So many legs in a chain, and so many destinations that each leg's link is compared with: their product, and 7 nodes.
+/// There are at least 3 legs.
 pub fn destinations(legs: usize, count: usize) -> Book {
     let last = legs - 1;
     let mut links = vec![Link::default(), link(9.0, 0, 0, last)];
