@@ -20,9 +20,9 @@ fn equal(turns: usize, split: usize, saved: usize) -> Book {
     equal_entries(Equal { turns, joined: 998 - turns, split, saved, is_doubled: false })
 }
 
-fn shared(is_met: bool) -> Book {
-    let (tail, entries, saved) = (3_069, 1_023, 17_400);
-    shared_strands(Shared { turns: 1, tail, metres: 1, entries, before: 1, saved, is_met, is_branched: false })
+fn shared(turns: usize, saved: usize, is_met: bool) -> Book {
+    let (tail, entries) = (3_069, 1_024 - turns);
+    shared_strands(Shared { turns, tail, metres: 1, entries, before: 1, saved, is_met, is_branched: false })
 }
 
 /// All of them, in up to 65,535 nodes, legs and links.
@@ -30,8 +30,9 @@ const CASES: &[Case] = &[
     ("998 equal entries, 9,753 splits, 9,754 runs", || equal(1, 9_753, 9_754)),
     ("998 entries of 2 in turns, 9,752 splits, 9,753 runs", || equal(2, 9_752, 9_753)),
     ("998 entries of 32 in turns, 9,600 splits, 9,700 runs", || equal(32, 9_600, 9_700)),
-    ("1,024 strands of a tail of 3,069, 17,401 runs", || shared(false)),
-    ("1,024 equal strands of 3,069, 17,401 runs", || shared(true)),
+    ("1,024 strands of a tail of 3,069, 17,401 runs", || shared(1, 17_400, false)),
+    ("1,024 equal strands of 3,069, 17,401 runs", || shared(1, 17_400, true)),
+    ("1,024 strands of 2 in turns of 3,069, 15,351 runs", || shared(2, 15_350, true)),
     ("21,833 joins at one node, each later", || chain_ends(21_833, false)),
     ("21,833 joins at one node, each sooner", || chain_ends(21_833, true)),
     ("21,833 splits at one node, each later", || splits_at_one_place(21_833, false)),

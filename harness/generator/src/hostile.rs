@@ -65,7 +65,7 @@ impl<S: FnMut(f64) -> f64> Ways<S> {
         self.book.leg(link, parent, &samples)
     }
 
-    /// Runs that leave one place behind a leg, each with the pieces of its own speed, and one more that ends in `AGAIN`.
+    /// Runs that leave one place behind a leg, each with the pieces of its own speed, and one that ends in `AGAIN`.
     fn fan(&mut self, parent: usize, runs: usize, pieces: impl Fn(f64) -> Vec<Piece>, last: &[Piece]) {
         let mut at = parent;
         for run in 0..runs {
@@ -75,8 +75,8 @@ impl<S: FnMut(f64) -> f64> Ways<S> {
         self.go(AGAIN, at, last);
     }
 
-    /// A run that finishes behind `parent`, from its place in front of the Clear of the link before `AGAIN` on, which is
-    /// at `clear`; that link is a metre longer than the train. The run saved in `AGAIN` joins it.
+    /// A run that finishes, from its place in front of the Clear of the link before `AGAIN` on, which is at `clear`;
+    /// that link is a metre longer than the train. The run saved in `AGAIN` joins it.
     fn finish(&mut self, parent: usize, clear: f64) {
         let end = clear + self.book.0.length + 1.5;
         let at = self.stand(AGAIN, parent);
