@@ -1,5 +1,7 @@
 //! Times of the proved library against the reference, on the same inputs in one run: `bench [WORD]`, all cases or those whose name or group has the word.
+//! `bench hostile [WORD]`: the hostile books alone, which take minutes.
 mod books;
+mod hostile;
 mod large;
 mod lists;
 mod plot;
@@ -132,7 +134,11 @@ fn parts(bench: &Bench) {
 }
 
 fn main() {
-    let bench = Bench(std::env::args().nth(1).unwrap_or_default());
+    let words: Vec<String> = std::env::args().skip(1).collect();
+    if words.first().is_some_and(|word| word == "hostile") {
+        return hostile::run(&words[1..]);
+    }
+    let bench = Bench(words.first().cloned().unwrap_or_default());
     whole(&bench);
     parts(&bench);
 }

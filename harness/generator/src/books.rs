@@ -3,6 +3,7 @@
 use crate::book::{work_asked, Book, Leg, Origin};
 use crate::damage::damaged;
 use crate::driving::{Driving, Grain, Speeds, Way};
+use crate::hostile;
 use crate::limits;
 use crate::networks::{self, Lengths, Network};
 use crate::random::Random;
@@ -24,7 +25,7 @@ pub fn book(seed: u64, number: u64) -> BookItem {
     if r.one_in(2_500) {
         return limits::near_limit(r);
     }
-    match r.weighted(&[790, 110, 50, 20, 30]) {
+    match r.weighted(&[775, 110, 50, 20, 30, 15]) {
         0 => {
             let book = grown(r);
             with_room(r, book)
@@ -40,8 +41,12 @@ pub fn book(seed: u64, number: u64) -> BookItem {
             with_room(r, book)
         }
         3 => waiting(r),
-        _ => {
+        4 => {
             let book = fan(r);
+            with_room(r, book)
+        }
+        _ => {
+            let book = hostile(r);
             with_room(r, book)
         }
     }
@@ -293,6 +298,16 @@ fn fan(r: &mut Random) -> Book {
     book
 }
 
+/// A small one of the hostile books: lists with equal entries, one after the other and in turns, strands that meet.
+fn hostile(r: &mut Random) -> Book {
+    let mut book = hostile::small(r);
+    let mut driving = driving(r, Grain::Quarter);
+    driving.speed = r.between(1, 4) as f64;
+    let budget = book.legs.len() + 16;
+    supply(r, &mut book, &driving, budget);
+    book
+}
+
 /// Keeps the leg's first speed until so many metres behind its first event, then takes its own.
 fn turn_late(leg: &mut Leg, metres: f64) {
     let [time, from, first] = leg.samples[0];
@@ -372,4 +387,16 @@ fn waiting(r: &mut Random) -> BookItem {
         _ => 65_535,
     };
     BookItem { bytes: book.bytes(), places, work: None }
+}
+
+#[cfg(test)]
+mod tests {
+    use super::*;
+
+    #[test]
+    fn hostile_books_are_mostly_accepted() {
+        let books = (0..1_000).map(|number| hostile(&mut Random::new(1, number)).bytes());
+        let accepted = books.filter(|bytes| nodes(&plain::book(bytes, PLENTY, None)).is_some()).count();
+        assert!(accepted > 700, "{accepted} of 1,000");
+    }
 }

@@ -7,6 +7,7 @@ mod books;
 mod damage;
 mod driving;
 mod events;
+pub mod hostile;
 mod limits;
 mod networks;
 mod random;

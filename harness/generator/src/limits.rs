@@ -2,6 +2,7 @@
 
 use crate::book::{work_asked, Book, Leg, Link};
 use crate::books::BookItem;
+use crate::hostile::{self, Equal, Shared};
 use crate::random::Random;
 use crate::writer::{link, origins, Writer};
 use crate::{events, tables};
@@ -234,6 +235,9 @@ pub fn limits() -> Vec<Limit> {
     counts(&mut list);
     rooms(&mut list);
     lists_and_walks(&mut list);
+    equal_entries(&mut list);
+    shared_strands(&mut list);
+    long_work(&mut list);
     tables_and_events(&mut list);
     times(&mut list);
     list.0
@@ -306,6 +310,65 @@ fn lists_and_walks(list: &mut List) {
         list.places(&name, &book, 65_535, expected);
         list.places(&name, &book, 100_000, expected);
     }
+}
+
+/// Lists with equal entries, one after the other and in turns; at 1,024 where each gives two.
+fn equal_entries(list: &mut List) {
+    for (turns, joined, is_doubled, expected) in [
+        (1, 60, false, "nodes 724 "),
+        (2, 60, false, "nodes 735 "),
+        (7, 60, false, "nodes 787 "),
+        (2, 60, true, "nodes 736 "),
+        (1, 511, true, "nodes 3882 "),
+        (1, 512, true, "refused 12"),
+    ] {
+        let doubled = if is_doubled { ", doubled" } else { "" };
+        let name = format!("{} entries of {turns} in turns{doubled}", turns + joined);
+        let of = Equal { turns, joined, split: 50, saved: 40, is_doubled };
+        list.book(name, &hostile::equal_entries(of), expected);
+    }
+}
+
+/// Strands that meet: lists of 1,024 entries and walks of 4,096 nexts, and one more.
+fn shared_strands(list: &mut List) {
+    for (turns, tail, entries, is_met, is_branched, expected) in [
+        (1, 30, 40, false, false, "nodes 338 "),
+        (1, 30, 40, true, false, "nodes 339 "),
+        (2, 30, 41, false, false, "nodes 417 "),
+        (2, 30, 41, true, false, "nodes 418 "),
+        (3, 30, 41, true, false, "nodes 493 "),
+        (1, 30, 40, false, true, "nodes 370 "),
+        (1, 30, 40, true, true, "nodes 370 "),
+        (1, 1, 1_023, false, false, "nodes 4183 "),
+        (1, 1, 1_023, true, false, "nodes 4184 "),
+        (1, 1, 1_024, false, false, "refused 12"),
+        (1, 1, 1_024, true, false, "refused 12"),
+        (1, 1, 511, false, true, "nodes 2138 "),
+        (1, 1, 512, false, true, "refused 12"),
+        (1, 3_998, 96, false, false, "nodes 12466 "),
+        (1, 3_999, 96, false, false, "refused 12"),
+    ] {
+        let of = Shared { turns, tail, metres: 1, entries, before: 1, saved: 19, is_met, is_branched };
+        let met = if is_met { ", met" } else { "" };
+        let branched = if is_branched { ", branched" } else { "" };
+        let name = format!("{entries} strands in {turns} tails of {tail}{met}{branched}");
+        list.book(name, &hostile::shared_strands(of), expected);
+    }
+}
+
+/// Books whose work is a product of two counts.
+fn long_work(list: &mut List) {
+    for is_sooner in [false, true] {
+        let order = if is_sooner { "each sooner" } else { "each later" };
+        let (joins, splits) = (hostile::chain_ends(500, is_sooner), hostile::splits_at_one_place(500, is_sooner));
+        list.book(format!("500 joins at one node, {order}"), &joins, "nodes 1534 ");
+        list.book(format!("500 splits at one node, {order}"), &splits, "nodes 1534 ");
+    }
+    list.book("300 runs saved with 61 entries", &hostile::saved_lists(60, 300), "nodes 1354 ");
+    list.book("101 entries kept over 3 runs of 40 events", &hostile::long_lists(100, 40, 3), "nodes 596 ");
+    list.book("100 runs over 300 events", &hostile::moved_over(300, 100), "nodes 604 ");
+    list.book("101 joins with 600 events left", &hostile::events_left(300, 100), "nodes 323 ");
+    list.book("5,000 legs, 1,000 destinations", &hostile::destinations(5_000, 1_000), "nodes 7 ");
 }
 
 /// Tables of 2 and 3, 65,535 and 65,536 nodes; event lists at each of their counts.
