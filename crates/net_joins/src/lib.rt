@@ -12,7 +12,7 @@ ghost use Prim.Native.Nat.{ℕ, _+_, _*_, _≤_, _<_};
 ghost use lib.Dec.{ltb};
 ghost use lib.ListN.{length, getD};
 ghost use Rattle.net_node.specs.declared.EstTime.{EstTime};
-ghost use Rattle.net_node.specs.Table.{nodeAt, Room, Indexed, Table, withPrevAlt, floatWidth, numberWidth};
+ghost use Rattle.net_node.specs.Table.{nodeAt, Room, Indexed, floatWidth, numberWidth};
 ghost use Rattle.net_event_map.specs.EventMap.{CellsApart, Mapped, Real, firstAt};
 ghost use Rattle.net_strands.specs.Entries.{entriesIn, Valid, ListBecomes};
 ghost use Rattle.net_node.specs.Lent.{tableAtEntry};

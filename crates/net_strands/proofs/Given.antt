@@ -1,6 +1,6 @@
 -- What was given stays said while the list grows; what an entry gives is noted, and copied where it is.
 use mathlib.Core.Path.{_≡_, refl, sym, ap, _∙_, subst}
-use mathlib.Core.Logic.{_⊎_, inl, inr, _≢_}
+use mathlib.Core.Logic.{_⊎_, inl, inr}
 use mathlib.Core.Bool.{Bool, true, false}
 use mathlib.Core.List.{List, [], _∷_, _++_}
 use mathlib.Core.Option.{Option, none, some}
@@ -9,7 +9,6 @@ use Prim.Native.Nat.{ℕ, zero, suc, _+_, _-_, _*_, _/_, _%_, _≤_, _<_}
 use native.Mathlib.Nat.{not-suc-le-zero}
 use native.Mathlib.Numerals.{add-one}
 use native.Mathlib.Omega.{arith}
-use borrow.Author.Tests.{ltb-true}
 use lib.Dec.{ltb}
 use lib.ListN.{length, getD, set, length-append}
 use lib.Seq.{getD-set-same, getD-set-other}
@@ -17,14 +16,13 @@ use Rattle.laws.proofs.Truth.{equal-or-not}
 use Rattle.net_node.specs.declared.LinkEvent.{LinkEvent}
 use Rattle.net_node.specs.declared.EstTime.{EstTime}
 use Rattle.net_event_map.specs.declared.Layout.{Layout}
-use Rattle.net_event_map.specs.EventMap.{CellsApart}
 use Rattle.net_strands.specs.declared.EstJoinPath.{EstJoinPath}
 use Rattle.net_strands.specs.declared.Count.{Count}
 use Rattle.net_strands.specs.declared.Count.the-variants.{Entries, Over}
 use Rattle.net_strands.specs.Entries.{entry, entryAt, entriesIn, nodeOf, pushedAs, push, andThen, EntriesAs, Valid}
 use Rattle.net_strands.specs.Space.{followed}
 use Rattle.net_strands.specs.Marks.{columnOf, cellOf, marks, hits}
-use Rattle.net_strands.specs.Given.{pushedAll, nodesIn, spanOf, SpanGives, CellGives, Given, GivenThen, Extends, Ungiven, OnlyTheirs}
+use Rattle.net_strands.specs.Given.{pushedAll, nodesIn, SpanGives, CellGives, Given, GivenThen, Extends, Ungiven, OnlyTheirs}
 use Rattle.net_strands.proofs.Entries.{entries-count, entries-more, node-front, node-last, node-in, listed-some, listed-none}
 use Rattle.net_strands.proofs.Targets.{pushedEach, targets, followed-gives}
 use Rattle.net_strands.proofs.Marks.{hits-more, marks-back}

@@ -1,5 +1,5 @@
 -- What an entry that is followed gives depends on its node and on whether it matches already alone: a list of nodes, or refusal 12 for the length of its walk. The entries are these nodes with the new match link.
-use mathlib.Core.Path.{_≡_, refl, sym, ap, _∙_}
+use mathlib.Core.Path.{_≡_, refl, sym, _∙_}
 use mathlib.Core.Bool.{Bool, true, false, _||_}
 use mathlib.Core.List.{List, [], _∷_}
 use mathlib.Core.Option.{Option, none, some}

@@ -1,6 +1,6 @@
--- Words of the contracts: what an entry that is followed has given, noted in its cell for as long as one event is looked
--- at. It depends on the entry's node and on whether the entry matches already, not on the entry itself nor on the list
--- before it; so it is worked out once, and copied for every other entry of that node.
+-- Words of the contracts: what an entry that is followed has given, noted in its cell while one event is looked at.
+-- Which nodes it gives depends on its own node and on whether it matches already, and on nothing else of it nor on the
+-- list before it; so they are worked out once, and copied for every other such entry of that node.
 use mathlib.Core.Path.{_≡_}
 use mathlib.Core.Logic.{_≢_}
 use mathlib.Core.Bool.{false}
@@ -29,10 +29,6 @@ unfoldable pub nodesIn : List ℕ → ℕ → ℕ → List ℕ
 nodesIn s from zero = []
 nodesIn s from (suc k) = getD s (from * 2 + 1) 0 ∷ nodesIn s (suc from) k
 
--- a span of a list, from one entry to another, as one number that is not 0
-unfoldable pub spanOf : (begin end : ℕ) → ℕ
-spanOf begin end = suc (begin * 2048 + end)
-
 -- a rule gives an entry for each node of a span, whatever the match link and whatever the list before it
 pub record SpanGives (rule : ℕ → List EstJoinPath → Option (List EstJoinPath)) (list : List ℕ) (at begin end : ℕ)
     : Type 0 where
@@ -40,7 +36,8 @@ pub record SpanGives (rule : ℕ → List EstJoinPath → Option (List EstJoinPa
   pub inside : end ≤ at
   pub gives : (m : ℕ) (es : List EstJoinPath) → rule m es ≡ pushedAll m (nodesIn list begin (end - begin)) es
 
--- a cell says so of a rule, or nothing (0)
+-- A cell says so of a rule, or nothing (0). Both ends of a span are below 2,048; the cell is one more than 2,048 times
+-- its beginning and its end together, so that no span is 0.
 abbrev pub CellGives : (ℕ → List EstJoinPath → Option (List EstJoinPath)) → List ℕ → ℕ → ℕ → Type 0
 CellGives rule list at zero = Unit
 CellGives rule list at (suc c) = SpanGives rule list at (c / 2048) (c % 2048)

@@ -1,5 +1,5 @@
--- Words of the contracts: an entry's cell. Each place of the table has 8 cells in the work space; an entry has one of its
--- node's, in one column if it matches already (m = 0) and in another if not.
+-- Words of the contracts: an entry's cell. Each place of the table has 8 cells in the work space; an entry has one of
+-- its node's, in one column if it matches already (m = 0) and in another if not.
 use mathlib.Core.Bool.{Bool, false, _||_}
 use mathlib.Core.List.{List, [], _∷_}
 use Prim.Native.Nat.{ℕ, zero, suc, _+_, _*_}

@@ -15,7 +15,7 @@ ghost use Rattle.net_strands.specs.Space.{isArrive, pushedIf, alternativ
 ghost use Rattle.net_strands.specs.Space.{strandFrom, followed, extended, extendedAll};
 ghost use Rattle.net_strands.specs.Steps.{stackIn, endsStrand, newMatch, nodesAtEntry};
 ghost use Rattle.net_strands.specs.Marks.{columnOf, cellOf, marks};
-ghost use Rattle.net_strands.specs.Given.{pushedAll, nodesIn, spanOf, Given, Extends, Ungiven, OnlyTheirs};
+ghost use Rattle.net_strands.specs.Given.{pushedAll, nodesIn, Given, Extends, Ungiven, OnlyTheirs};
 
 // A join entry: the link to be matched (0: matched already) and a node of the network.
 pub struct EstJoinPath {

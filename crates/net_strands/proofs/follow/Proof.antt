@@ -1,7 +1,6 @@
 -- `net_strands::follow` meets its contract: by alternatives for an m of 0, and else by strands.
 use borrow.Author.Needs.{needs}
-use mathlib.Core.Path.{_≡_, refl, sym, ap, _∙_, subst}
-use mathlib.Core.Option.{Option}
+use mathlib.Core.Path.{_≡_, refl, sym, subst}
 use mathlib.Core.List.{List}
 use Prim.Native.Nat.{ℕ, zero, suc}
 use Rattle.net_node.specs.declared.LinkEvent.{LinkEvent}

@@ -4,7 +4,6 @@ use mathlib.Core.Path.{_≡_, refl}
 use Prim.Native.Nat.{ℕ, suc, _+_, _-_, _*_, _≤_, _<_}
 use native.Mathlib.Omega.{arith}
 use lib.ListN.{length, getD}
-use Rattle.net_strands.specs.Entries.{entriesIn}
 use Rattle.net_strands.proofs.Entries.{listed-some}
 use Rattle.net_strands.proofs.Marks.{cell-is, cell-inside}
 use Rattle.net_strands.proofs.Given.{said, copied, worked-over, worked}

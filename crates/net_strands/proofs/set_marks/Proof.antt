@@ -1,9 +1,8 @@
 -- `net_strands::set_marks` meets its contract: `Marking` is the loop's invariant.
 use borrow.Author.Needs.{needs}
-use mathlib.Core.Path.{_≡_, refl, ap, _∙_}
-use Prim.Native.Nat.{ℕ, zero, suc, _+_, _-_, _*_, _≤_, _<_}
+use Prim.Native.Nat.{_+_, _-_, _*_, _<_}
 use native.Mathlib.Omega.{arith}
-use Rattle.net_strands.specs.Marks.{columnOf, cellOf}
+use Rattle.net_strands.specs.Marks.{cellOf}
 use Rattle.net_strands.proofs.Entries.{entry-valid}
 use Rattle.net_strands.proofs.Marks.{Marking, marking-start, marking-on, marking-whole, column-inside, cell-is}
 use Rattle.net_strands.proofs.set_marks.Statement.{statement}

@@ -1,6 +1,6 @@
 -- `net_strands::update_join_paths_space` meets its contract: the list is `extend_all`'s, and what was noted is taken back.
 use borrow.Author.Needs.{needs}
-use mathlib.Core.Path.{_≡_, _∙_}
+use mathlib.Core.Path.{_∙_}
 use native.Mathlib.Omega.{arith}
 use Rattle.net_event_map.proofs.Kept.{apart-same}
 use Rattle.net_strands.specs.Entries.{entriesIn}
