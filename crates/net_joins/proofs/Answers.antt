@@ -24,30 +24,28 @@ use Rattle.net_strands.specs.declared.Count.{Count}
 use Rattle.net_strands.specs.declared.Count.the-variants.{Entries, Over}
 use Rattle.net_strands.specs.Entries.{entriesIn, EntriesAs, Valid}
 use Rattle.net_strands.specs.Space.{isArrive, extendedAll}
-use Rattle.net_strands.specs.Marks.{cellOf, marks}
-use Rattle.net_strands.specs.Given.{Ungiven}
+use Rattle.net_strands.specs.Log.{Ungiven}
 use Rattle.net_strands.proofs.Entries.{listed-some, listed-none}
-use Rattle.net_strands.proofs.Marks.{length-marks}
 use Rattle.net_strands.proofs.Kept.{space-listed}
 use Rattle.net_joins.specs.declared.SpeedJoin.{SpeedJoin}
 use Rattle.net_joins.specs.declared.Step.{Step}
 use Rattle.net_joins.specs.declared.Step.the-variants.{Joined, Waits, Refused}
 use Rattle.net_joins.specs.Joins.{closest, appendedAll, appended, rebuilt, JoinStep, JoinsTo, GoesOn, Beyond, stepWith, joinsIf, chosenAs, chosen, joinStep, StepAs, SteppedInto}
-use Rattle.net_joins.specs.Marks.{NamesMarked, Chain, Ending, MapWalkable}
-use Rattle.net_joins.proofs.Marking.{next-stays, first-stays, marked-all, marks-gone}
+use Rattle.net_joins.specs.Marks.{marks, NamesMarked, Chain, Ending, MapWalkable}
+use Rattle.net_joins.proofs.Marking.{length-marks, next-stays, first-stays, marked-all, marks-back}
 use Rattle.net_joins.proofs.Appending.{map-chain}
 
 -- ---- the append
 
 -- the cells while the nodes of a list are marked
-module _ {c : List ℕ} {w : Layout} {es : List EstJoinPath} (p : CellsApart c w) (v : Valid es (w .places)) (d : List ℕ) (e : d ≡ marks (cellOf w 1 1) 1 es c) where
+module _ {c : List ℕ} {w : Layout} {es : List EstJoinPath} (p : CellsApart c w) (v : Valid es (w .places)) (d : List ℕ) (e : d ≡ marks (w .«nodes_at») 1 es c) where
   pub while-apart : CellsApart d w
-  while-apart = subst (λ (q : List ℕ). CellsApart q w) (sym e) (apart-same (length-marks (cellOf w 1 1) 1 es c) p)
+  while-apart = subst (λ (q : List ℕ). CellsApart q w) (sym e) (apart-same (length-marks (w .«nodes_at») 1 es c) p)
 
   pub while-chain : (node : ℕ → EstTime) (n l : ℕ) → n ≤ w .places → Mapped c w node n → l < w .links → Chain d w (getD d (w .«links_at» + l * 8) 0) (eventNodes node (arriveAt l) n)
   while-chain node n l m x b =
       subst (λ (q : List ℕ). Chain q w (getD q (w .«links_at» + l * 8) 0) (eventNodes node (arriveAt l) n)) (sym e)
-      (map-chain x m l b (marks (cellOf w 1 1) 1 es c) (next-stays p v 1) (first-stays p v 1 l))
+      (map-chain x m l b (marks (w .«nodes_at») 1 es c) (next-stays p v 1) (first-stays p v 1 l))
 
   module _ (x : MapWalkable c w) where
     pub while-marked : NamesMarked d w es
@@ -57,9 +55,9 @@ module _ {c : List ℕ} {w : Layout} {es : List EstJoinPath} (p : CellsApart c w
     while-ending l b = record { nodes = eventNodes (x .node) (arriveAt l) (x .n); chain = while-chain (x .node) (x .n) l (x .inside) (x .mapped) b }
 
   -- and after
-  pub marks-taken : (node : ℕ → EstTime) (n : ℕ) (fs : List EstJoinPath) (b : List ℕ) → Mapped c w node n → fs ≡ es → b ≡ marks (cellOf w 1 1) 0 fs d → b ≡ c
-  marks-taken node n fs b x f h =
-      h ∙ ap (λ (q : List EstJoinPath). marks (cellOf w 1 1) 0 q d) f ∙ ap (marks (cellOf w 1 1) 0 es) e ∙ marks-gone p v (x .unmarked)
+  pub marks-gone : (node : ℕ → EstTime) (n : ℕ) (fs : List EstJoinPath) (b : List ℕ) → Mapped c w node n → fs ≡ es → b ≡ marks (w .«nodes_at») 0 fs d → b ≡ c
+  marks-gone node n fs b x f h =
+      h ∙ ap (λ (q : List EstJoinPath). marks (w .«nodes_at») 0 q d) f ∙ ap (marks (w .«nodes_at») 0 es) e ∙ marks-back p v (x .unmarked)
 
 arrive-kind : (k : EstType) → isArrive k ≡ true → k ≡ Arrive
 arrive-kind Arrive e = refl
@@ -108,7 +106,7 @@ room-less n h r = record { floats = omega (arith, r .floats); numbers = omega (a
 
 -- the cells before and after a list was rebuilt
 pub cells-ungiven : {c : List ℕ} {w : Layout} {node : ℕ → EstTime} {n : ℕ} → Mapped c w node n → Ungiven c w
-cells-ungiven m = record { cell = m .ungiven }
+cells-ungiven m = record { cell = m .ungiven; name = m .unmarked }
 
 pub cells-apart : {c d : List ℕ} {w : Layout} → CellsApart c w → d ≡ c → CellsApart d w
 cells-apart {c} {d} {w} p e = subst (λ (q : List ℕ). CellsApart q w) (sym e) p

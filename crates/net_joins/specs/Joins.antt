@@ -1,17 +1,17 @@
 -- `perform_speed_join` and `add_new_join_paths`: the choice among the entries, the join, and the entries that a failed
 -- join at an Arrive appends.
 use mathlib.Core.Path.{_≡_}
-use mathlib.Core.Bool.{Bool, true, false, not, _&&_, _||_, cond}
-use mathlib.Core.List.{List, [], _∷_, _++_}
+use mathlib.Core.Bool.{Bool, true, false, _&&_, _||_, cond}
+use mathlib.Core.List.{List, [], _∷_}
 use mathlib.Core.Option.{Option, none, some}
-use Prim.Native.Nat.{ℕ, zero, suc, _+_, _-_, _≤_}
+use Prim.Native.Nat.{ℕ, zero, suc, _-_, _≤_}
 use lib.Dec.{eqb, ltb}
 use lib.Ieee.{Float, lt}
 use Rattle.floats.specs.Floats.{gap}
 use Rattle.net_node.specs.declared.LinkEvent.{LinkEvent}
 use Rattle.net_node.specs.declared.EstTime.{EstTime}
 use Rattle.net_node.specs.declared.TimedEvent.{TimedEvent}
-use Rattle.net_node.specs.Table.{sameEvent, blank, Table, put, at, withNext, withPrev, withPrevAlt}
+use Rattle.net_node.specs.Table.{blank, Table, put, at, withNext, withPrev, withPrevAlt}
 use Rattle.net_insertion.specs.Insertion.{linkedTo}
 use Rattle.net_event_map.specs.EventMap.{seenIn, eventNodes}
 use Rattle.net_strands.specs.declared.EstJoinPath.{EstJoinPath}

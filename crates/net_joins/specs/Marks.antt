@@ -2,7 +2,7 @@
 use mathlib.Core.Path.{_≡_}
 use mathlib.Core.List.{List, [], _∷_}
 use Prim.Native.Nat.{ℕ, _+_, _*_, _≤_, _<_}
-use lib.ListN.{getD}
+use lib.ListN.{getD, set}
 use Rattle.net_node.specs.declared.EstTime.{EstTime}
 use Rattle.net_event_map.specs.declared.Layout.{Layout}
 use Rattle.net_event_map.specs.EventMap.{bit, Mapped, firstAt}
@@ -13,6 +13,11 @@ use Rattle.net_strands.specs.declared.Count.{Count}
 use Rattle.net_strands.specs.Entries.{ListBecomes}
 use Rattle.net_joins.specs.declared.Step.{Step}
 use Rattle.net_joins.specs.Joins.{names, appendedAll, appended, stepWith, StepAs}
+
+-- the mark of each entry's node, its second cell, set to v; the nodes' cells begin at `base`
+unfoldable pub marks : ℕ → ℕ → List EstJoinPath → List ℕ → List ℕ
+marks base v [] cells = cells
+marks base v (x ∷ xs) cells = marks base v xs (set cells (base + x .«est_idx_next» * 8 + 1) v)
 
 -- the marks of all places tell which a list names
 pub record NamesMarked (cells : List ℕ) (w : Layout) (es : List EstJoinPath) : Type 0 where

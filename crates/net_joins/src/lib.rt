@@ -19,7 +19,7 @@ ghost use Rattle.net_node.specs.Lent.{tableAtEntry};
 ghost use Rattle.net_strands.specs.Steps.{nodesAtEntry};
 ghost use Rattle.net_joins.specs.Joins.{closer, closest, chainEnd, joinFake, joinAt, joinedTable, appendedIf};
 ghost use Rattle.net_joins.specs.Joins.{joinsIf, joinStep, StepAs, SteppedInto};
-ghost use Rattle.net_joins.specs.Marks.{NamesMarked, Ending, MapWalkable, AppendsChain, AppendsNodes};
+ghost use Rattle.net_joins.specs.Marks.{marks, NamesMarked, Ending, MapWalkable, AppendsChain, AppendsNodes};
 ghost use Rattle.net_joins.specs.Marks.{GoesOnWith, MapKept};
 
 // The smallest gap of speeds so far, and its node.
@@ -147,6 +147,23 @@ fn perform_speed_join(
     join_at(floats, numbers, n as u32, end, est_time_add);
 }
 
+// Sets the mark of each node that a list names.
+fn set_marks(cells: &mut [u32], w: Layout, list: &[u32], count: usize, mark: u32)
+    requires { ⌜ CellsApart (now cells) w ⌝ }
+    requires { ⌜ count ≤ 1024 ⌝ }
+    requires { ⌜ 2048 ≤ length (now list) ⌝ }
+    requires { ⌜ Valid (entriesIn (now list) count) (w .places) ⌝ }
+    ensures { λ _. ⌜ now (cells .exit) ≡ marks (w .«nodes_at») mark (entriesIn (now (list .entry)) count)
+        (now (cells .entry)) ⌝ }
+{
+    let mut k = 0;
+    while k < count {
+        let x = net_strands::entry_at(list, k);
+        cells[w.nodes_at + x.est_idx_next as usize * 8 + 1] = mark;
+        k += 1;
+    }
+}
+
 // Puts a node behind the n entries of a list, unless the list names it. Those entries stay, also where it does not fit:
 // `push_entry` doesn't promise that, so the room is tested here.
 fn append_unless(named: bool, list: &mut [u32], n: usize, link_idx: u32, i: u32) -> Count
@@ -214,9 +231,9 @@ fn add_new_join_paths(
     if !arrive {
         return Count::Entries(count);
     }
-    net_strands::set_marks(cells, w, 1, 1, list, count, 1);
+    set_marks(cells, w, list, count, 1);
     let appended = append_unmarked(cells, w, event.link_idx, list, count);
-    net_strands::set_marks(cells, w, 1, 1, list, count, 0);
+    set_marks(cells, w, list, count, 0);
     appended
 }
 
@@ -311,7 +328,7 @@ pub fn join_step(
     requires { ⌜ count ≤ 1024 ⌝ }
     requires { ⌜ 2048 ≤ length (now joins) ⌝ }
     requires { ⌜ 2048 ≤ length (now scratch) ⌝ }
-    requires { ⌜ 4096 ≤ length (now stack) ⌝ }
+    requires { ⌜ 5120 ≤ length (now stack) ⌝ }
     requires { ⌜ Valid (entriesIn (now joins) count) n ⌝ }
     ensures answer { λ r. ⌜ StepAs
         (joinStep (nodesAtEntry floats numbers) n (w .places) join «est_time_add»

@@ -4,7 +4,6 @@ use mathlib.Core.Bool.{true, false}
 use mathlib.Core.List.{List, [], _∷_}
 use mathlib.Core.Option.{Option, none, some}
 use Prim.Native.Nat.{ℕ, zero, suc}
-use lib.Ieee.{binary64, ofBits}
 use Rattle.net_node.specs.declared.EstType.{EstType}
 use Rattle.net_node.specs.declared.EstType.the-variants.{Arrive, Clear, Fake}
 use Rattle.net_node.specs.declared.LinkEvent.{LinkEvent}

@@ -18,7 +18,6 @@ use Rattle.net_strands.specs.declared.Count.the-variants.{Entries}
 use Rattle.net_strands.specs.Entries.{entry, entriesIn, nodeOf, pushedAs, push, andThen, EntriesAs, Valid}
 use Rattle.net_strands.specs.Space.{isArrive, pushedIf, onward, alternatives, Strand, strandFrom, Turn, Whole, Over, More, popped, poppedAfter, alternativeStacked, turnAs, turn, strandsOn, strands, followed, extendedAs, extended, extendedAll}
 use Rattle.net_strands.proofs.Entries.{node-front, node-last}
-use Rattle.net_strands.proofs.Walking.{Named, named-stacked}
 
 -- each entry names one of the first n nodes, and the list is no longer than it may be
 pub record Sound (n : ℕ) (es : List EstJoinPath) : Type 0 where
@@ -32,6 +31,15 @@ Kept n (some es) = Sound n es
 pub kept-then : (n : ℕ) (a : Option (List EstJoinPath)) (f : List EstJoinPath → Option (List EstJoinPath)) → Kept n a → ((es : List EstJoinPath) → Sound n es → Kept n (f es)) → Kept n (andThen a f)
 kept-then n none f h g = tt
 kept-then n (some es) f h g = g es h
+
+-- each of a stack's nodes is one of the first n
+abbrev Named : ℕ → List ℕ → Type 0
+Named n [] = Unit
+Named n (i ∷ is) = (i < n) × Named n is
+
+named-stacked : (n alt : ℕ) (stack : List ℕ) → alt < n → Named n stack → Named n (alternativeStacked alt stack)
+named-stacked n zero stack h l = l
+named-stacked n (suc alt) stack h l = (h, l)
 
 -- ---- an entry more
 

@@ -1,13 +1,14 @@
 -- Laws of the stack in a slice.
-use mathlib.Core.Path.{_≡_, refl, sym, ap, _∙_}
+use mathlib.Core.Path.{_≡_, refl, sym, ap, _∙_, subst}
+use mathlib.Core.Bool.{Bool, true, false}
 use mathlib.Core.List.{List, [], _∷_}
 use Prim.Native.Nat.{ℕ, zero, suc, _+_, _-_, _≤_, _<_}
 use native.Mathlib.Numerals.{add-one}
 use native.Mathlib.Omega.{arith}
-use lib.ListN.{length, getD, set}
+use lib.ListN.{length, getD, set, length-set}
 use lib.Seq.{getD-set-same, getD-set-other}
 use Rattle.net_strands.specs.Space.{alternativeStacked}
-use Rattle.net_strands.specs.Steps.{stackIn}
+use Rattle.net_strands.specs.Steps.{stackIn, openedIf}
 
 -- a store above them leaves what is alternativeStacked
 stack-kept : (s : List ℕ) (i x n : ℕ) → n ≤ i → stackIn (set s i x) n ≡ stackIn s n
@@ -38,3 +39,16 @@ stacked-none (suc alt) stack e = absurd (omega arith)
 pub stacked-some : (alt : ℕ) (stack : List ℕ) → (alt ≡ 0 → ⊥) → alt ∷ stack ≡ alternativeStacked alt stack
 stacked-some zero stack h = absurd (h refl)
 stacked-some (suc alt) stack h = refl
+
+-- ---- a node that is opened
+
+pub stack-opened : (s : List ℕ) (top mark i : ℕ) (b : Bool) → top + 1 < length s → b ≡ true → stackIn (set (set s top i) (top + 1) mark) (top + 2) ≡ openedIf b mark i (stackIn s top)
+stack-opened s top mark i b l h =
+    let e : top + 2 ≡ top + 1 + 1 = omega arith in
+    ap (stackIn (set (set s top i) (top + 1) mark)) e
+    ∙ stack-push (set s top i) (top + 1) mark (subst (λ (n : ℕ). top + 1 < n) (sym (length-set s top i)) l)
+    ∙ ap (λ (is : List ℕ). mark ∷ is) (stack-push s top i (omega arith))
+    ∙ ap (λ (c : Bool). openedIf c mark i (stackIn s top)) (sym h)
+
+pub stack-unopened : (s : List ℕ) (top mark i : ℕ) (b : Bool) → b ≡ false → stackIn s top ≡ openedIf b mark i (stackIn s top)
+stack-unopened s top mark i b h = ap (λ (c : Bool). openedIf c mark i (stackIn s top)) (sym h)

@@ -10,7 +10,8 @@ use Rattle.net_node.specs.declared.EstTime.{EstTime}
 use Rattle.net_node.specs.Table.{sameEvent}
 use Rattle.net_strands.specs.declared.EstJoinPath.{EstJoinPath}
 use Rattle.net_strands.specs.Entries.{entry, push, andThen}
-use Rattle.net_strands.specs.Space.{isArrive, pushedIf, onward, alternatives, Strand, strandFrom, popped, poppedAfter, alternativeStacked, turnAs, turn, strandsOn, strands, followed}
+use Rattle.net_strands.specs.Space.{isArrive, pushedIf, onward, alternatives, Strand, popped, poppedAfter, alternativeStacked, turnAs, turn, strandsOn, strands}
+use Rattle.net_strands.specs.Walks.{withNodes, poppedTo, walkedAs, walked}
 use Rattle.net_strands.specs.Given.{pushedAll}
 
 -- an entry for each node, where there are any
@@ -24,22 +25,22 @@ then-same (some es) f g h = h es
 
 -- ---- alternatives
 
-abbrev consIf : Bool → ℕ → List ℕ → List ℕ
+abbrev pub consIf : Bool → ℕ → List ℕ → List ℕ
 consIf true i is = i ∷ is
 consIf false i is = is
 
-abbrev unlessLast : Bool → List ℕ → List ℕ
+abbrev pub unlessLast : Bool → List ℕ → List ℕ
 unlessLast true is = []
 unlessLast false is = is
 
 -- the nodes that a node and its alternatives give, for so many of them
-unfoldable nextsOf : ℕ → (ℕ → EstTime) → LinkEvent → ℕ → List ℕ
+unfoldable pub nextsOf : ℕ → (ℕ → EstTime) → LinkEvent → ℕ → List ℕ
 nextsOf zero node e i = []
 nextsOf (suc k) node e i =
     consIf (sameEvent (node (node i .«idx_next») .«link_event») e) (node i .«idx_next») (unlessLast (eqb (node i .«idx_next_alt») 0) (nextsOf k node e (node i .«idx_next_alt»)))
 
 module _ (node : ℕ → EstTime) (e : LinkEvent) (m : ℕ) where
-  pushed-nexts : (k i : ℕ) (es : List EstJoinPath) → alternatives k node e m i es ≡ pushedAll m (nextsOf k node e i) es
+  pub pushed-nexts : (k i : ℕ) (es : List EstJoinPath) → alternatives k node e m i es ≡ pushedAll m (nextsOf k node e i) es
   unfolding alternatives pushedAll nextsOf
   pushed-nexts zero i es = refl
   pushed-nexts (suc k) i es = go (sameEvent (node (node i .«idx_next») .«link_event») e) (eqb (node i .«idx_next_alt») 0) (pushed-nexts k (node i .«idx_next_alt»))
@@ -56,37 +57,17 @@ module _ (node : ℕ → EstTime) (e : LinkEvent) (m : ℕ) where
 
 -- ---- strands
 
-abbrev withNode : ℕ → Option (List ℕ) → Option (List ℕ)
-withNode i none = none
-withNode i (some is) = some (i ∷ is)
-
-abbrev poppedTo : List ℕ → (ℕ → List ℕ → Option (List ℕ)) → Option (List ℕ)
-poppedTo [] f = some []
-poppedTo (i ∷ stack) f = f i stack
-
-abbrev walkedAs : Bool → Bool → ℕ → List ℕ → (ℕ → List ℕ → Option (List ℕ)) → Option (List ℕ)
-walkedAs true stops next stack f = withNode next (poppedTo stack f)
-walkedAs false true next stack f = poppedTo stack f
-walkedAs false false next stack f = f next stack
-
--- the nodes that a walk of so many nexts gives, from a node on and with these alternatives stacked; none if it is longer
-unfoldable walked : ℕ → (ℕ → EstTime) → LinkEvent → ℕ → List ℕ → Option (List ℕ)
-walked zero node e here stack = none
-walked (suc k) node e here stack =
-    let next = node here .«idx_next» in
-    walkedAs (sameEvent (node next .«link_event») e) (isArrive (node next .«link_event» .«est_type») || eqb (node next .«idx_next») 0) next (alternativeStacked (node here .«idx_next_alt») stack) (walked k node e)
-
 module _ (node : ℕ → EstTime) (e : LinkEvent) (m : ℕ) where
   then-none : (a : Option (List EstJoinPath)) → none ≡ andThen a (λ es. none)
   then-none none = refl
   then-none (some es) = refl
 
-  with-node : (i : ℕ) (q : Option (List ℕ)) (es : List EstJoinPath) → pushedEach m (withNode i q) es ≡ andThen (push es (entry m i)) (pushedEach m q)
+  with-node : (i : ℕ) (q : Option (List ℕ)) (es : List EstJoinPath) → pushedEach m (withNodes (i ∷ []) q) es ≡ andThen (push es (entry m i)) (pushedEach m q)
   unfolding pushedAll
   with-node i none es = then-none (push es (entry m i))
   with-node i (some is) es = refl
 
-  pushed-walk : (k : ℕ) (s : Strand) → strands k node e m s ≡ pushedEach m (walked k node e (s .here) (s .stack)) (s .entries)
+  pub pushed-walk : (k : ℕ) (s : Strand) → strands k node e m s ≡ pushedEach m (walked k node e (s .here) (s .stack)) (s .entries)
   unfolding strands turn walked pushedAll
   pushed-walk zero s = refl
   pushed-walk (suc k) s =
@@ -107,16 +88,3 @@ module _ (node : ℕ → EstTime) (e : LinkEvent) (m : ℕ) where
           after ih stack (push (s .entries) (entry m (node (s .here) .«idx_next»))) ∙ sym (with-node (node (s .here) .«idx_next») (poppedTo stack (walked k node e)) (s .entries))
       go false true stack ih = on-popped ih stack (s .entries)
       go false false stack ih = ih (record { here = node (s .here) .«idx_next»; stack = stack; entries = s .entries })
-
--- ---- both
-
--- the nodes that an entry gives: by whether it matches already
-unfoldable pub targets : ℕ → (ℕ → EstTime) → ℕ → LinkEvent → ℕ → Option (List ℕ)
-unfolding nextsOf walked
-targets zero node n e i = some (nextsOf n node e i)
-targets (suc old) node n e i = walked 4096 node e i []
-
-pub followed-gives : (old : ℕ) (node : ℕ → EstTime) (n : ℕ) (e : LinkEvent) (m i : ℕ) (es : List EstJoinPath) → followed old node n e m i es ≡ pushedEach m (targets old node n e i) es
-unfolding targets strandFrom
-followed-gives zero node n e m i es = pushed-nexts node e m n i es
-followed-gives (suc old) node n e m i es = pushed-walk node e m 4096 (strandFrom i es)

@@ -1,181 +1,356 @@
--- The strand walk: a turn by what it meets, what both loops keep, and each way a turn can end.
+-- The strand walk: what both loops keep, and each way a turn can end.
 use mathlib.Core.Path.{_≡_, refl, sym, ap, _∙_, subst}
-use mathlib.Core.Bool.{Bool, true, false}
+use mathlib.Core.Bool.{Bool, true, false, true≢false, _||_, cond}
 use mathlib.Core.List.{List, [], _∷_}
 use mathlib.Core.Option.{Option, none, some}
 use Prim.{Unit, tt}
-use Prim.Native.Nat.{ℕ, zero, suc, _+_, _-_, _≤_, _<_}
+use Prim.Native.Nat.{ℕ, zero, suc, _+_, _-_, _*_, _/_, _%_, _≤_, _<_}
 use native.Mathlib.Omega.{arith}
+use borrow.Author.Tests.{ltb-true, ltb-false}
+use lib.Dec.{ltb}
 use lib.ListN.{length, getD, set}
 use Rattle.net_node.specs.declared.LinkEvent.{LinkEvent}
 use Rattle.net_node.specs.declared.EstTime.{EstTime}
 use Rattle.net_node.specs.Table.{sameEvent, Indexed}
+use Rattle.net_event_map.specs.declared.Layout.{Layout}
 use Rattle.net_strands.specs.declared.EstJoinPath.{EstJoinPath}
 use Rattle.net_strands.specs.declared.Count.{Count}
 use Rattle.net_strands.specs.declared.Count.the-variants.{Entries, Over}
-use Rattle.net_strands.specs.Entries.{entry, entriesIn, push, EntriesAs}
-use Rattle.net_strands.specs.Space.{Strand, strandFrom, popped, poppedAfter, alternativeStacked, turnAs, strandsOn, strands}
-use Rattle.net_strands.specs.Steps.{stackIn, endsStrand}
+use Rattle.net_strands.specs.Entries.{entry, entriesIn, push, andThen, EntriesAs}
+use Rattle.net_strands.specs.Space.{pushedIf, alternativeStacked, strandFrom, strands}
+use Rattle.net_strands.specs.Steps.{stackIn, endsStrand, markOf, openedIf}
+use Rattle.net_strands.specs.Walks.{poppedTo, walked, spend}
+use Rattle.net_strands.specs.Log.{strandsColumn, nextsColumn, noteIn}
+use Rattle.net_strands.specs.Given.{pushedAll, nodesIn, WalkGives, CellsGive, Given, pushedKnown}
 use Rattle.net_strands.proofs.Entries.{listed-some, listed-none}
 use Rattle.net_strands.proofs.Stacks.{stack-push, stack-none, stack-pop}
+use Rattle.net_strands.proofs.Targets.{consIf, pushedEach}
+use Rattle.net_strands.proofs.Spending.{spend-short, walk-none, walk-met, walk-ends, walk-on}
+use Rattle.net_strands.proofs.Given.{cells-say}
+use Rattle.net_strands.proofs.Opened.{Item, Alternative, Open, numbersOf, stackOf, openedOn, stackedOn, opened-numbers, stacked-numbers, Rest, Reads, Closes, closes-begun, Opened, opened-on, opened-more, opened-stacked, each-over, Pushed, pushed-more, answer-is}
 
-pub strands-turn : (k : ℕ) (node : ℕ → EstTime) (e : LinkEvent) (m : ℕ) (s : Strand) (b c : Bool)
-    → sameEvent (node (node (s .here) .«idx_next») .«link_event») e ≡ b → endsStrand (node (node (s .here) .«idx_next»)) ≡ c
-    → strands (suc k) node e m s ≡ strandsOn (turnAs b c m (node (s .here) .«idx_next») (alternativeStacked (node (s .here) .«idx_next_alt») (s .stack)) (s .entries)) (strands k node e m)
-unfolding strands endsStrand
-strands-turn k node e m s b c p q = rw (p, q)
+-- ---- what the slices, and the nexts that may still be read, were when a loop began
 
-pub strands-none : (node : ℕ → EstTime) (e : LinkEvent) (m : ℕ) (s : Strand) → strands 0 node e m s ≡ none
-unfolding strands
-strands-none node e m s = refl
-
--- each of a stack's nodes is one of the first n
-abbrev pub Named : ℕ → List ℕ → Type 0
-Named n [] = Unit
-Named n (i ∷ is) = (i < n) × Named n is
-
-pub named-stacked : (n alt : ℕ) (stack : List ℕ) → alt < n → Named n stack → Named n (alternativeStacked alt stack)
-named-stacked n zero stack h l = l
-named-stacked n (suc alt) stack h l = (h, l)
-
--- a strand that the slices hold
-abbrev pub strandIn : (stack list : List ℕ) (at top here : ℕ) → Strand
-strandIn stack list at top here = record { here = here; stack = stackIn stack top; entries = entriesIn list at }
-
--- What the slices, and the nexts that may still be read, were when a loop began.
-pub record Since (stack₀ list₀ : List ℕ) (left₀ : ℕ) (stack list : List ℕ) (left : ℕ) : Type 0 where
+pub record Since (stack₀ list₀ : List ℕ) (left₀ top₀ : ℕ) (stack list : List ℕ) (left top : ℕ) : Type 0 where
   pub stack-length : length stack ≡ length stack₀
   pub list-length : length list ≡ length list₀
-  pub reads : left ≤ left₀
+  pub reads : left * 4 + top ≤ left₀ * 4 + top₀
 
-pub since-begun : (stack list : List ℕ) (left : ℕ) → Since stack list left stack list left
-since-begun stack list left = record { stack-length = refl; list-length = refl; reads = omega arith }
+pub since-begun : (stack list : List ℕ) (left top : ℕ) → Since stack list left top stack list left top
+since-begun stack list left top = record { stack-length = refl; list-length = refl; reads = omega arith }
 
-pub since-joined : {stack₀ list₀ stack₁ list₁ stack list : List ℕ} {left₀ left₁ left : ℕ} → Since stack₀ list₀ left₀ stack₁ list₁ left₁ → Since stack₁ list₁ left₁ stack list left → Since stack₀ list₀ left₀ stack list left
+pub since-joined : {stack₀ list₀ stack₁ list₁ stack list : List ℕ} {left₀ top₀ left₁ top₁ left top : ℕ} → Since stack₀ list₀ left₀ top₀ stack₁ list₁ left₁ top₁ → Since stack₁ list₁ left₁ top₁ stack list left top → Since stack₀ list₀ left₀ top₀ stack list left top
 since-joined v w = record { stack-length = w .stack-length ∙ v .stack-length; list-length = w .list-length ∙ v .list-length; reads = omega (arith, v .reads, w .reads) }
 
--- one more next was read
-module _ {stack₀ list₀ stack list : List ℕ} {left₀ left : ℕ} (v : Since stack₀ list₀ left₀ stack list left) where
-  pub since-read : (stack′ list′ : List ℕ) → length stack′ ≡ length stack → length list′ ≡ length list → Since stack₀ list₀ left₀ stack′ list′ (left - 1)
-  since-read stack′ list′ s l = record { stack-length = s ∙ v .stack-length; list-length = l ∙ v .list-length; reads = omega (arith, v .reads) }
+pub since-next : {stack₀ list₀ stack list : List ℕ} {left₀ top₀ left top : ℕ} → Since stack₀ list₀ left₀ top₀ stack list left top → (stack′ list′ : List ℕ) (left′ top′ : ℕ) → length stack′ ≡ length stack → length list′ ≡ length list → left′ * 4 + top′ ≤ left * 4 + top → Since stack₀ list₀ left₀ top₀ stack′ list′ left′ top′
+since-next v stack′ list′ left′ top′ s l r = record { stack-length = s ∙ v .stack-length; list-length = l ∙ v .list-length; reads = omega (arith, v .reads) }
 
-  pub since-less : (left ≡ 0 → ⊥) → left - 1 < left₀
-  since-less h = omega (arith, v .reads)
+-- one number is popped
+pub since-popped : {stack₀ list₀ stack list : List ℕ} {left₀ top₀ left top : ℕ} → Since stack₀ list₀ left₀ top₀ stack list left top → Since stack₀ list₀ left₀ top₀ stack list left (top - 1)
+since-popped v = record { stack-length = v .stack-length; list-length = v .list-length; reads = omega (arith, v .reads) }
 
-pub read-less : (left : ℕ) → (left ≡ 0 → ⊥) → left - 1 < left
-read-less left h = omega arith
+-- ---- an answer is a list or none
 
-module _ (node : ℕ → EstTime) (nodes : ℕ) (e : LinkEvent) (m : ℕ) (goal : Option (List EstJoinPath)) where
-  -- The walk stands on a node and has so many nexts to read.
-  pub record Standing (stack list : List ℕ) (at left top here : ℕ) : Type 0 where
-    pub answer : goal ≡ strands left node e m (strandIn stack list at top here)
-    pub within : here < nodes
-    pub named : Named nodes (stackIn stack top)
-    pub few : at ≤ 1024
-    pub room : top + left ≤ 4096
+abbrev IsNone : Option (List EstJoinPath) → Type 0
+IsNone none = Unit
+IsNone (some es) = ⊥
 
-  -- A strand is left, and the next is to be popped.
+none-some : (es : List EstJoinPath) → none ≡ some es → ⊥
+none-some es h = subst IsNone h tt
+
+-- the next, if it is to be pushed, is a list of nodes
+then-some : (a : Option (List EstJoinPath)) → a ≡ andThen a some
+then-some none = refl
+then-some (some es) = refl
+
+pushed-one : (m : ℕ) (b : Bool) (i : ℕ) (es : List EstJoinPath) → pushedIf b es (entry m i) ≡ pushedAll m (consIf b i []) es
+unfolding pushedAll
+pushed-one m true i es = then-some (push es (entry m i))
+pushed-one m false i es = refl
+
+-- ---- numbers on top of a stack
+
+abbrev headOf : List ℕ → ℕ
+headOf [] = 0
+headOf (i ∷ is) = i
+
+abbrev tailOf : List ℕ → List ℕ
+tailOf [] = []
+tailOf (i ∷ is) = is
+
+abbrev IsCons : List ℕ → Type 0
+IsCons [] = ⊥
+IsCons (i ∷ is) = Unit
+
+-- the number on top, and what is below it
+on-top : (s : List ℕ) (top i : ℕ) (is : List ℕ) → stackIn s top ≡ i ∷ is → (0 < top) × ((getD s (top - 1) 0 ≡ i) × (stackIn s (top - 1) ≡ is))
+on-top s zero i is h = absurd (subst IsCons (sym h ∙ stack-none s) tt)
+on-top s (suc top) i is h =
+    let g : getD s (suc top - 1) 0 ∷ stackIn s (suc top - 1) ≡ i ∷ is = sym (stack-pop s (suc top) (omega arith)) ∙ h in
+    (omega arith, (ap headOf g, ap tailOf g))
+
+-- the walk goes on by popping
+abbrev pub pops : (ℕ → EstTime) → LinkEvent → Rest
+pops node e k s = poppedTo s (walked k node e)
+
+module _ (node : ℕ → EstTime) (nodes : ℕ) (e : LinkEvent) where
+  -- what a node gives that is closed
+  pub closes-gives : {list : List ℕ} {at left i begin opened : ℕ} → Closes node nodes e list at left i begin opened (pops node e) → WalkGives node e list at i begin at (opened - left)
+  closes-gives v = record { rises = v .inside; inside = omega arith; within = omega (arith, v .most); gives = v .gives }
+
+  -- what is noted of a node, where it is looked at
+  pub known-gives : {cells list : List ℕ} {w : Layout} {at here : ℕ} → Given cells w node nodes e list at → here < nodes → (meet : Bool) (known : ℕ) → known ≡ cond meet (noteIn cells w here strandsColumn) 0 → (known ≡ 0 → ⊥) → (nexts : ℕ) → nexts ≡ noteIn cells w here nextsColumn → WalkGives node e list at here ((known - 1) / 2048) ((known - 1) % 2048) nexts
+  known-gives v h false known k z nexts g = absurd (z k)
+  known-gives {cells} {list} {w} {at} {here} v h true known k z nexts g = cells-say node e list at here known nexts z (subst (λ (c : ℕ). CellsGive node e list at here c nexts) (sym k) (subst (CellsGive node e list at here (noteIn cells w here strandsColumn)) (sym g) (v .strands here h)))
+
+module _ (node : ℕ → EstTime) (nodes : ℕ) (e : LinkEvent) (start n : ℕ) where
+  -- A strand is left, and the stack's next is to be walked or closed.
   pub record Popping (stack list : List ℕ) (at left top : ℕ) : Type 0 where
-    pub answer : goal ≡ strandsOn (popped (stackIn stack top) (entriesIn list at)) (strands left node e m)
-    pub named : Named nodes (stackIn stack top)
+    pub items : List Item
+    pub holds : stackIn stack top ≡ numbersOf items
+    pub opened : Opened node nodes e start n list at left items (pops node e)
     pub few : at ≤ 1024
-    pub room : top + left ≤ 4097
-    pub below : top ≤ 4096
+    pub most : left ≤ 4096
+    pub room : top + left ≤ 5120
 
-pub popping-start : (node : ℕ → EstTime) (nodes : ℕ) (e : LinkEvent) (m start : ℕ) (stack list : List ℕ) (n : ℕ) → start < nodes → 0 < length stack → n ≤ 1024
-    → Popping node nodes e m (strands 4096 node e m (strandFrom start (entriesIn list n))) (set stack 0 start) list n 4096 1
-unfolding strandFrom
-popping-start node nodes e m start stack list n h l g =
-    let s : stackIn (set stack 0 start) 1 ≡ start ∷ [] = stack-push stack 0 start l ∙ ap (λ (is : List ℕ). start ∷ is) (stack-none stack) in
-    record {
-      answer = ap (λ (is : List ℕ). strandsOn (popped is (entriesIn list n)) (strands 4096 node e m)) (sym s);
-      named = subst (Named nodes) (sym s) (h, tt);
-      few = g;
-      room = omega arith;
-      below = omega arith;
-    }
+  -- The walk stands on a node.
+  pub record Standing (stack list : List ℕ) (at left top here : ℕ) : Type 0 where
+    pub items : List Item
+    pub holds : stackIn stack top ≡ numbersOf items
+    pub opened : Opened node nodes e start n list at left items (λ k s. walked k node e here s)
+    pub within : here < nodes
+    pub few : at ≤ 1024
+    pub most : left ≤ 4096
+    pub room : top + left ≤ 5120
 
-module _ {node : ℕ → EstTime} {nodes : ℕ} {e : LinkEvent} {m : ℕ} {goal : Option (List EstJoinPath)} {stack list : List ℕ} {at left top : ℕ} where
-  pub popping-last : Popping node nodes e m goal stack list at left top → top ≡ 0 → EntriesAs goal list (Entries at)
-  popping-last v z = (v .answer ∙ ap (λ (is : List ℕ). strandsOn (popped is (entriesIn list at)) (strands left node e m)) (ap (stackIn stack) z ∙ stack-none stack), v .few)
+  -- A node is to be closed: the number on top is its mark, the one below it the node.
+  pub record Closing (stack list : List ℕ) (at left top mark : ℕ) : Type 0 where
+    pub two : 1 < top
+    pub closes : Closes node nodes e list at left (getD stack (top - 1 - 1) 0) ((mark - 65536) / 4096) ((mark - 65536) % 4096 + 1) (pops node e)
+    pub popping : Popping stack list at left (top - 1 - 1)
 
-  pub popping-on : Popping node nodes e m goal stack list at left top → 0 < top → Standing node nodes e m goal stack list at left (top - 1) (getD stack (top - 1) 0)
-  popping-on v z =
-      let s = stack-pop stack top z in
-      let i : Named nodes (getD stack (top - 1) 0 ∷ stackIn stack (top - 1)) = subst (Named nodes) s (v .named) in
-      let r : top + left ≤ 4097 = v .room in
-      record {
-        answer = v .answer ∙ ap (λ (is : List ℕ). strandsOn (popped is (entriesIn list at)) (strands left node e m)) s;
-        within = i .0;
-        named = i .1;
-        few = v .few;
-        room = omega arith;
-      }
+  pub popping-start : (stack list : List ℕ) → start < nodes → 0 < length stack → n ≤ 1024 → Popping (set stack 0 start) list n 4096 1
+  popping-start stack list h l f = record {
+    items = Alternative start ∷ [];
+    holds = stack-push stack 0 start l ∙ ap (λ (is : List ℕ). start ∷ is) (stack-none stack);
+    opened = (h, closes-begun node nodes e list n 4096 start h (omega arith) (omega arith));
+    few = f;
+    most = omega arith;
+    room = omega arith;
+  }
 
-  module _ {here : ℕ} where
-    pub standing-over : Standing node nodes e m goal stack list at left top here → left ≡ 0 → goal ≡ none
-    standing-over v z = v .answer ∙ ap (λ (k : ℕ). strands k node e m (strandIn stack list at top here)) z ∙ strands-none node e m (strandIn stack list at top here)
+  module _ {stack list : List ℕ} {at left top : ℕ} (v : Popping stack list at left top) where
+    -- nothing is stacked: the walk has ended
+    pub popping-last : (m : ℕ) (list₀ : List ℕ) → Pushed m list₀ n list at → top ≡ 0 → EntriesAs (strands 4096 node e m (strandFrom start (entriesIn list₀ n))) list (Entries at)
+    unfolding pushedAll
+    popping-last m list₀ p z = go (v .items) (v .holds) (v .opened)
+      where
+        go : (xs : List Item) → stackIn stack top ≡ numbersOf xs → Opened node nodes e start n list at left xs (pops node e) → EntriesAs (strands 4096 node e m (strandFrom start (entriesIn list₀ n))) list (Entries at)
+        go [] h o = (answer-is node nodes e m start n list₀ list at left [] (pops node e) o p, v .few)
+        go (Alternative i ∷ xs) h o = let a = on-top stack top i (numbersOf xs) h .0 in absurd (omega arith)
+        go (Open i begin opened ∷ xs) h o = let a = on-top stack top (markOf begin opened) (i ∷ numbersOf xs) h .0 in absurd (omega arith)
 
-    -- where an inner walk begins, the answer is its own
-    pub standing-begun : Standing node nodes e m goal stack list at left top here → Standing node nodes e m (strands left node e m (strandIn stack list at top here)) stack list at left top here
-    standing-begun v = record { answer = refl; within = v .within; named = v .named; few = v .few; room = v .room }
+    module _ (most : nodes ≤ 65535) (z : 0 < top) where
+      -- an alternative is on top: it is walked
+      pub popping-on : getD stack (top - 1) 0 < 65536 → Standing stack list at left (top - 1) (getD stack (top - 1) 0)
+      popping-on l = go (v .items) (v .holds) (v .opened)
+        where
+          go : (xs : List Item) → stackIn stack top ≡ numbersOf xs → Opened node nodes e start n list at left xs (pops node e) → Standing stack list at left (top - 1) (getD stack (top - 1) 0)
+          go [] h o = absurd (subst IsCons (sym (stack-pop stack top z) ∙ h) tt)
+          go (Alternative i ∷ xs) h o =
+              let a = on-top stack top i (numbersOf xs) h in record {
+                items = xs;
+                holds = a .1 .1;
+                opened = subst (λ (j : ℕ). Opened node nodes e start n list at left xs (λ k s. walked k node e j s)) (sym (a .1 .0)) (o .1);
+                within = subst (λ (j : ℕ). j < nodes) (sym (a .1 .0)) (o .0);
+                few = v .few;
+                most = v .most;
+                room = omega (arith, v .room);
+              }
+          go (Open i begin opened ∷ xs) h o = let a : getD stack (top - 1) 0 ≡ 65535 + begin * 4096 + opened = on-top stack top (markOf begin opened) (i ∷ numbersOf xs) h .1 .0 in absurd (omega (arith, o .0 .least))
 
-    -- the inner walk's answer is the outer one's
-    pub standing-joined : {inner : Option (List EstJoinPath)} → goal ≡ inner → Standing node nodes e m inner stack list at left top here → Standing node nodes e m goal stack list at left top here
-    standing-joined g v = record { answer = g ∙ v .answer; within = v .within; named = v .named; few = v .few; room = v .room }
+      -- a mark is on top
+      pub popping-closes : 65536 ≤ getD stack (top - 1) 0 → Closing stack list at left top (getD stack (top - 1) 0)
+      popping-closes l = go (v .items) (v .holds) (v .opened)
+        where
+          go : (xs : List Item) → stackIn stack top ≡ numbersOf xs → Opened node nodes e start n list at left xs (pops node e) → Closing stack list at left top (getD stack (top - 1) 0)
+          go [] h o = absurd (subst IsCons (sym (stack-pop stack top z) ∙ h) tt)
+          go (Alternative i ∷ xs) h o = let a = on-top stack top i (numbersOf xs) h .1 .0 in let b = o .0 in absurd (omega arith)
+          go (Open i begin opened ∷ xs) h o =
+              let a = on-top stack top (markOf begin opened) (i ∷ numbersOf xs) h in
+              let b = on-top stack (top - 1) i (numbersOf xs) (a .1 .1) in
+              let m : getD stack (top - 1) 0 ≡ 65535 + begin * 4096 + opened = a .1 .0 in
+              let f : begin ≡ (getD stack (top - 1) 0 - 65536) / 4096 = omega (arith, o .0 .least, o .0 .most) in
+              let g : opened ≡ (getD stack (top - 1) 0 - 65536) % 4096 + 1 = omega (arith, o .0 .least, o .0 .most) in
+              record {
+                two = omega (arith, b .0);
+                closes = subst (λ (j : ℕ). Closes node nodes e list at left j ((getD stack (top - 1) 0 - 65536) / 4096) ((getD stack (top - 1) 0 - 65536) % 4096 + 1) (pops node e)) (sym (b .1 .0))
+                    (subst (λ (j : ℕ). Closes node nodes e list at left i j ((getD stack (top - 1) 0 - 65536) % 4096 + 1) (pops node e)) f (subst (λ (j : ℕ). Closes node nodes e list at left i begin j (pops node e)) g (o .0)));
+                popping = record { items = xs; holds = b .1 .1; opened = o .1; few = v .few; most = v .most; room = omega (arith, v .room) };
+              }
 
--- A next was read: the node's alternative is alternativeStacked, and `there` is the next. By whether that has the event, and whether it ends the strand, the walk goes on as the definition says.
-pub record Turned (node : ℕ → EstTime) (nodes : ℕ) (e : LinkEvent) (m : ℕ) (goal : Option (List EstJoinPath)) (stack list : List ℕ) (at left top next : ℕ) (there : EstTime) : Type 0 where
-  pub turn : (b c : Bool) → sameEvent (there .«link_event») e ≡ b → endsStrand there ≡ c → goal ≡ strandsOn (turnAs b c m next (stackIn stack top) (entriesIn list at)) (strands left node e m)
-  pub within : next < nodes
-  pub named : Named nodes (stackIn stack top)
-  pub few : at ≤ 1024
-  pub room : top + left ≤ 4096
+  -- A next was read: where it has the event and doesn't fit, where the strand is left, and where it goes on.
+  pub record Turned (m : ℕ) (list : List ℕ) (at left next : ℕ) (stack₂ : List ℕ) (top₂ : ℕ) (y : EstTime) (met : Bool) (list′ : List ℕ) (r : Count) : Type 0 where
+    pub full : (list₀ : List ℕ) → Pushed m list₀ n list at → r ≡ Over → strands 4096 node e m (strandFrom start (entriesIn list₀ n)) ≡ none
+    pub pushed : (more : ℕ) → r ≡ Entries more → Pushed m list at list′ more
+    pub leaves : (more : ℕ) → r ≡ Entries more → (ends : Bool) → endsStrand y ≡ ends → (met || ends) ≡ true → Popping stack₂ list′ more (left - 1) top₂
+    pub goes : (more : ℕ) → r ≡ Entries more → (ends : Bool) → endsStrand y ≡ ends → (met || ends) ≡ false → Standing stack₂ list′ more (left - 1) top₂ next
 
--- where the node was loaded as x
-module _ {node : ℕ → EstTime} {nodes : ℕ} {e : LinkEvent} {m : ℕ} {goal : Option (List EstJoinPath)} {stack list : List ℕ} {at left top here : ℕ} (w : Indexed node nodes) (v : Standing node nodes e m goal stack list at left top here) (x : EstTime) (l : x ≡ node here) where
-  pub next-within : x .«idx_next» < nodes
-  next-within = subst (λ (z : EstTime). z .«idx_next» < nodes) (sym l) (w .next here (v .within))
+  -- ---- where the walk stands
 
-  -- its alternative alternativeStacked, and its next loaded as y
-  pub standing-turned : (left ≡ 0 → ⊥) → (stack′ : List ℕ) (top′ : ℕ) → stackIn stack′ top′ ≡ alternativeStacked (x .«idx_next_alt») (stackIn stack top) → top′ ≤ top + 1 → (y : EstTime) → y ≡ node (x .«idx_next»)
-      → Turned node nodes e m goal stack′ list at (left - 1) top′ (x .«idx_next») y
-  standing-turned o stack′ top′ s t y f =
-      let k : left ≡ suc (left - 1) = omega arith in
-      let r : top + left ≤ 4096 = v .room in
-      let h : x .«idx_next_alt» < nodes = subst (λ (z : EstTime). z .«idx_next_alt» < nodes) (sym l) (w .next-alt here (v .within)) in
-      record {
-        turn = λ b c p q. v .answer
-            ∙ ap (λ (k : ℕ). strands k node e m (strandIn stack list at top here)) k
-            ∙ strands-turn (left - 1) node e m (strandIn stack list at top here) b c
-            (ap (λ (z : EstTime). sameEvent (node (z .«idx_next») .«link_event») e) (sym l) ∙ ap (λ (z : EstTime). sameEvent (z .«link_event») e) (sym f) ∙ p)
-            (ap (λ (z : EstTime). endsStrand (node (z .«idx_next»))) (sym l) ∙ ap endsStrand (sym f) ∙ q)
-            ∙ ap (λ (z : EstTime). strandsOn (turnAs b c m (z .«idx_next») (alternativeStacked (z .«idx_next_alt») (stackIn stack top)) (entriesIn list at)) (strands (left - 1) node e m)) (sym l)
-            ∙ ap (λ (is : List ℕ). strandsOn (turnAs b c m (x .«idx_next») is (entriesIn list at)) (strands (left - 1) node e m)) (sym s);
-        within = next-within;
-        named = subst (Named nodes) (sym s) (named-stacked nodes (x .«idx_next_alt») (stackIn stack top) h (v .named));
-        few = v .few;
-        room = omega arith;
-      }
+  module _ {stack list : List ℕ} {at left top here : ℕ} (v : Standing stack list at left top here) where
+    -- no next may be read
+    pub standing-over : (m : ℕ) (list₀ : List ℕ) → Pushed m list₀ n list at → left ≡ 0 → strands 4096 node e m (strandFrom start (entriesIn list₀ n)) ≡ none
+    standing-over m list₀ p z =
+        answer-is node nodes e m start n list₀ list at left (v .items) (λ k s. walked k node e here s) (v .opened) p
+        ∙ ap (λ (t : Option (List ℕ)). pushedEach m t (entriesIn list at)) (ap (λ (k : ℕ). walked k node e here (stackOf (v .items) [])) z ∙ walk-none node e here (stackOf (v .items) []))
 
-module _ {node : ℕ → EstTime} {nodes : ℕ} {e : LinkEvent} {m : ℕ} {goal : Option (List EstJoinPath)} {stack list : List ℕ} {at left top next : ℕ} {there : EstTime} (v : Turned node nodes e m goal stack list at left top next there) where
-  -- the next has the event
-  module _ (p : sameEvent (there .«link_event») e ≡ true) (list′ : List ℕ) (r : Count) (u : EntriesAs (push (entriesIn list at) (entry m next)) list′ r) where
-    -- what the push gave decides
-    went : (a : Option (List EstJoinPath)) → push (entriesIn list at) (entry m next) ≡ a → goal ≡ strandsOn (poppedAfter (stackIn stack top) a) (strands left node e m)
-    went a h = v .turn true _ p refl ∙ ap (λ (a : Option (List EstJoinPath)). strandsOn (poppedAfter (stackIn stack top) a) (strands left node e m)) h
+    -- what strands from here give is noted
+    module _ {begin end nexts : ℕ} (g : WalkGives node e list at here begin end nexts) (m : ℕ) (list′ : List ℕ) (r : Count) (a : EntriesAs (pushedKnown (ltb left nexts) m (nodesIn list begin (end - begin)) (entriesIn list at)) list′ r) where
+      pub known-over : (list₀ : List ℕ) → Pushed m list₀ n list at → r ≡ Over → strands 4096 node e m (strandFrom start (entriesIn list₀ n)) ≡ none
+      known-over list₀ p o =
+          answer-is node nodes e m start n list₀ list at left (v .items) (λ k s. walked k node e here s) (v .opened) p
+          ∙ ap (λ (t : Option (List ℕ)). pushedEach m t (entriesIn list at)) (g .gives left (stackOf (v .items) []))
+          ∙ go (ltb left nexts) refl (listed-none _ list′ r a o)
+        where
+          rest : ℕ → Option (List ℕ)
+          rest j = poppedTo (stackOf (v .items) []) (walked j node e)
 
-    pub turned-full : r ≡ Over → goal ≡ none
-    turned-full o = went none (listed-none (push (entriesIn list at) (entry m next)) list′ r u o)
+          go : (b : Bool) → ltb left nexts ≡ b → pushedKnown b m (nodesIn list begin (end - begin)) (entriesIn list at) ≡ none → pushedEach m (spend nexts (nodesIn list begin (end - begin)) rest left) (entriesIn list at) ≡ none
+          go true t h = ap (λ (t : Option (List ℕ)). pushedEach m t (entriesIn list at)) (spend-short nexts (nodesIn list begin (end - begin)) rest left (ltb-true left nexts t))
+          go false t h = each-over m (entriesIn list at) (nodesIn list begin (end - begin)) h nexts rest left
 
-    pub turned-pushed : (more : ℕ) → r ≡ Entries more → Popping node nodes e m goal stack list′ more left top
-    turned-pushed more o =
-        let h = listed-some (push (entriesIn list at) (entry m next)) list′ r u more o in
-        record { answer = went (some (entriesIn list′ more)) (h .0); named = v .named; few = h .1; room = omega (arith, v .room); below = omega (arith, v .room) }
+      pub known-pushed : (more : ℕ) → r ≡ Entries more → (nexts ≤ left) × (Popping stack list′ more (left - nexts) top × Pushed m list at list′ more)
+      known-pushed more o = let l = listed-some _ list′ r a more o in go (ltb left nexts) refl (l .0) (l .1)
+        where
+          go : (b : Bool) → ltb left nexts ≡ b → pushedKnown b m (nodesIn list begin (end - begin)) (entriesIn list at) ≡ some (entriesIn list′ more) → more ≤ 1024 → (nexts ≤ left) × (Popping stack list′ more (left - nexts) top × Pushed m list at list′ more)
+          go true t h f = absurd (none-some (entriesIn list′ more) h)
+          go false t h f =
+              let l : nexts ≤ left = ltb-false left nexts t in
+              let p = pushed-more m (nodesIn list begin (end - begin)) list list′ at more h f in
+              let q : Reads list at left list′ more (left - nexts) nexts (nodesIn list begin (end - begin)) = record { same = p .1 .same; behind = p .0; reads = omega arith } in (
+                l,
+                (
+                  record {
+                    items = v .items;
+                    holds = v .holds;
+                    opened = opened-on node nodes e start n q (v .items) (λ k s. walked k node e here s) (pops node e) (g .gives) (v .opened);
+                    few = f;
+                    most = omega (arith, v .most);
+                    room = omega (arith, v .room);
+                  },
+                  p .1,
+                ),
+              )
 
-  module _ (p : sameEvent (there .«link_event») e ≡ false) where
-    pub turned-stops : endsStrand there ≡ true → Popping node nodes e m goal stack list at left top
-    turned-stops q = record { answer = v .turn false true p q; named = v .named; few = v .few; room = omega (arith, v .room); below = omega (arith, v .room) }
+    -- ---- a next is read: the node is loaded as x and opened or not, its alternative is stacked, and its next loaded as y
 
-    pub turned-on : endsStrand there ≡ false → Standing node nodes e m goal stack list at left top next
-    turned-on q = record { answer = v .turn false false p q; within = v .within; named = v .named; few = v .few; room = v .room }
+    module _ (ix : Indexed node nodes) (x : EstTime) (l : x ≡ node here) where
+      pub next-within : x .«idx_next» < nodes
+      next-within = subst (λ (z : EstTime). z .«idx_next» < nodes) (sym l) (ix .next here (v .within))
+
+      -- its own item, and its alternative's, are on the stack
+      module _ (least : left ≡ 0 → ⊥) (b : Bool) (stack₁ : List ℕ) (top₁ : ℕ) (h₁ : stackIn stack₁ top₁ ≡ openedIf b (markOf at left) here (stackIn stack top)) (r₁ : top₁ + left ≤ 5120) (stack₂ : List ℕ) (top₂ : ℕ) (h₂ : stackIn stack₂ top₂ ≡ alternativeStacked (x .«idx_next_alt») (stackIn stack₁ top₁)) (r₂ : top₂ ≤ top₁ + 1) where
+        -- the items, but for the alternative
+        abbrev xs : List Item
+        xs = openedOn b here at left (v .items)
+
+        stands : Opened node nodes e start n list at left xs (λ k s. walked k node e here s)
+        stands = opened-more node nodes e start n b list at left here (v .items) (v .within) (omega arith) (v .most) (v .opened)
+
+        holds₂ : stackIn stack₂ top₂ ≡ numbersOf (stackedOn (x .«idx_next_alt») xs)
+        holds₂ =
+            h₂
+            ∙ ap (alternativeStacked (x .«idx_next_alt»)) (h₁ ∙ ap (openedIf b (markOf at left) here) (v .holds) ∙ opened-numbers b here at left (v .items))
+            ∙ stacked-numbers (x .«idx_next_alt») xs
+
+        alt-within : x .«idx_next_alt» < nodes
+        alt-within = subst (λ (z : EstTime). z .«idx_next_alt» < nodes) (sym l) (ix .next-alt here (v .within))
+
+        module _ (y : EstTime) (f : y ≡ node (x .«idx_next»)) where
+          -- what is known of y is known of the node's next
+          there : {A : Type 0} (P : EstTime → A) (a : A) → P y ≡ a → P (node (node here .«idx_next»)) ≡ a
+          there P a p = ap (λ (z : EstTime). P (node (z .«idx_next»))) (sym l) ∙ ap P (sym f) ∙ p
+
+          -- the walk from here, by what the next is
+          gives-met : sameEvent (y .«link_event») e ≡ true → (k : ℕ) (s : List ℕ) → walked k node e here s ≡ spend 1 (x .«idx_next» ∷ []) (λ j. pops node e j (alternativeStacked (x .«idx_next_alt») s)) k
+          gives-met p k s =
+              subst (λ (z : EstTime). walked k node e here s ≡ spend 1 (z .«idx_next» ∷ []) (λ j. pops node e j (alternativeStacked (z .«idx_next_alt») s)) k) (sym l)
+              (walk-met node e here (there (λ z. sameEvent (z .«link_event») e) true p) k s)
+
+          gives-ends : sameEvent (y .«link_event») e ≡ false → endsStrand y ≡ true → (k : ℕ) (s : List ℕ) → walked k node e here s ≡ spend 1 [] (λ j. pops node e j (alternativeStacked (x .«idx_next_alt») s)) k
+          gives-ends p q k s =
+              subst (λ (z : EstTime). walked k node e here s ≡ spend 1 [] (λ j. pops node e j (alternativeStacked (z .«idx_next_alt») s)) k) (sym l)
+              (walk-ends node e here (there (λ z. sameEvent (z .«link_event») e) false p) (there endsStrand true q) k s)
+
+          gives-on : sameEvent (y .«link_event») e ≡ false → endsStrand y ≡ false → (k : ℕ) (s : List ℕ) → walked k node e here s ≡ spend 1 [] (λ j. walked j node e (x .«idx_next») (alternativeStacked (x .«idx_next_alt») s)) k
+          gives-on p q k s =
+              subst (λ (z : EstTime). walked k node e here s ≡ spend 1 [] (λ j. walked j node e (z .«idx_next») (alternativeStacked (z .«idx_next_alt») s)) k) (sym l)
+              (walk-on node e here (there (λ z. sameEvent (z .«link_event») e) false p) (there endsStrand false q) k s)
+
+          -- the next is pushed if it has the event
+          module _ (m : ℕ) (met : Bool) (p : sameEvent (y .«link_event») e ≡ met) (list′ : List ℕ) (r : Count) (a : EntriesAs (pushedIf met (entriesIn list at) (entry m (x .«idx_next»))) list′ r) where
+            turned-full : (list₀ : List ℕ) → Pushed m list₀ n list at → r ≡ Over → strands 4096 node e m (strandFrom start (entriesIn list₀ n)) ≡ none
+            turned-full list₀ w o =
+                answer-is node nodes e m start n list₀ list at left (v .items) (λ k s. walked k node e here s) (v .opened) w
+                ∙ go met p (listed-none (pushedIf met (entriesIn list at) (entry m (x .«idx_next»))) list′ r a o)
+              where
+                go : (b : Bool) → sameEvent (y .«link_event») e ≡ b → pushedIf b (entriesIn list at) (entry m (x .«idx_next»)) ≡ none → pushedEach m (walked left node e here (stackOf (v .items) [])) (entriesIn list at) ≡ none
+                go true q h =
+                    ap (λ (t : Option (List ℕ)). pushedEach m t (entriesIn list at)) (gives-met q left (stackOf (v .items) []))
+                    ∙ each-over m (entriesIn list at) (x .«idx_next» ∷ []) (sym (pushed-one m true (x .«idx_next») (entriesIn list at)) ∙ h) 1 (λ j. pops node e j (alternativeStacked (x .«idx_next_alt») (stackOf (v .items) []))) left
+                go false q h = absurd (none-some (entriesIn list at) (sym h))
+
+            module _ (more : ℕ) (o : r ≡ Entries more) where
+              got : (nodesIn list′ at (more - at) ≡ consIf met (x .«idx_next») []) × Pushed m list at list′ more
+              got =
+                  let h = listed-some (pushedIf met (entriesIn list at) (entry m (x .«idx_next»))) list′ r a more o in
+                  pushed-more m (consIf met (x .«idx_next») []) list list′ at more (sym (pushed-one m met (x .«idx_next») (entriesIn list at)) ∙ h .0) (h .1)
+
+              turned-pushed : Pushed m list at list′ more
+              turned-pushed = got .1
+
+              reads : Reads list at left list′ more (left - 1) 1 (consIf met (x .«idx_next») [])
+              reads = record { same = got .1 .same; behind = got .0; reads = omega arith }
+
+              -- all that is opened moves on
+              moved : (rest : Rest) → ((k : ℕ) (s : List ℕ) → walked k node e here s ≡ spend 1 (consIf met (x .«idx_next») []) (λ j. rest j (alternativeStacked (x .«idx_next_alt») s)) k) → Opened node nodes e start n list′ more (left - 1) (stackedOn (x .«idx_next_alt») xs) rest
+              moved rest h =
+                  opened-stacked node nodes e start n (x .«idx_next_alt») list′ more (left - 1) xs rest alt-within
+                  (opened-on node nodes e start n reads xs (λ k s. walked k node e here s) (λ k s. rest k (alternativeStacked (x .«idx_next_alt») s)) h stands)
+
+              -- the strand is left
+              turned-leaves : (ends : Bool) → endsStrand y ≡ ends → (met || ends) ≡ true → Popping stack₂ list′ more (left - 1) top₂
+              turned-leaves ends q t = record {
+                items = stackedOn (x .«idx_next_alt») xs;
+                holds = holds₂;
+                opened = moved (pops node e) (go met ends p q t);
+                few = got .1 .few;
+                most = omega (arith, v .most);
+                room = omega arith;
+              }
+                where
+                  go : (b c : Bool) → sameEvent (y .«link_event») e ≡ b → endsStrand y ≡ c → (b || c) ≡ true → (k : ℕ) (s : List ℕ) → walked k node e here s ≡ spend 1 (consIf b (x .«idx_next») []) (λ j. pops node e j (alternativeStacked (x .«idx_next_alt») s)) k
+                  go true c p q t = gives-met p
+                  go false true p q t = gives-ends p q
+                  go false false p q t = absurd (true≢false (sym t))
+
+              -- it goes on at the next
+              turned-goes : (ends : Bool) → endsStrand y ≡ ends → (met || ends) ≡ false → Standing stack₂ list′ more (left - 1) top₂ (x .«idx_next»)
+              turned-goes ends q t = record {
+                items = stackedOn (x .«idx_next_alt») xs;
+                holds = holds₂;
+                opened = moved (λ k s. walked k node e (x .«idx_next») s) (go met ends p q t);
+                within = next-within;
+                few = got .1 .few;
+                most = omega (arith, v .most);
+                room = omega arith;
+              }
+                where
+                  go : (b c : Bool) → sameEvent (y .«link_event») e ≡ b → endsStrand y ≡ c → (b || c) ≡ false → (k : ℕ) (s : List ℕ) → walked k node e here s ≡ spend 1 (consIf b (x .«idx_next») []) (λ j. walked j node e (x .«idx_next») (alternativeStacked (x .«idx_next_alt») s)) k
+                  go true c p q t = absurd (true≢false t)
+                  go false true p q t = absurd (true≢false t)
+                  go false false p q t = gives-on p q
+
+            pub standing-turned : Turned m list at left (x .«idx_next») stack₂ top₂ y met list′ r
+            standing-turned = record { full = turned-full; pushed = turned-pushed; leaves = turned-leaves; goes = turned-goes }

@@ -1,11 +1,11 @@
--- Words of the contracts: what an entry that is followed has given, noted in its cell while one event is looked at.
--- Which nodes it gives depends on its own node and on whether it matches already, and on nothing else of it nor on the
--- list before it; so they are worked out once, and copied for every other such entry of that node.
+-- Words of the contracts: what entries give that are followed, noted of their nodes while one event is looked at. Which
+-- nodes an entry gives depends on its own node and on whether it matches already, and on nothing else of it nor on the
+-- list before it; so they are worked out once, and copied for every other such entry of that node. What strands give is
+-- noted of each node where they can meet, and copied for every strand that comes there.
 use mathlib.Core.Path.{_≡_}
-use mathlib.Core.Logic.{_≢_}
-use mathlib.Core.Bool.{false}
+use mathlib.Core.Bool.{Bool, true, false}
 use mathlib.Core.List.{List, [], _∷_}
-use mathlib.Core.Option.{Option, some}
+use mathlib.Core.Option.{Option, none, some}
 use Prim.{Unit}
 use Prim.Native.Nat.{ℕ, zero, suc, _+_, _-_, _*_, _/_, _%_, _≤_, _<_}
 use lib.ListN.{getD}
@@ -16,8 +16,9 @@ use Rattle.net_strands.specs.declared.EstJoinPath.{EstJoinPath}
 use Rattle.net_strands.specs.declared.Count.{Count}
 use Rattle.net_strands.specs.declared.Count.the-variants.{Entries, Over}
 use Rattle.net_strands.specs.Entries.{entry, entriesIn, push, andThen, EntriesAs}
-use Rattle.net_strands.specs.Space.{followed}
-use Rattle.net_strands.specs.Marks.{cellOf, hits}
+use Rattle.net_strands.specs.Space.{alternatives}
+use Rattle.net_strands.specs.Walks.{poppedTo, walked, spend}
+use Rattle.net_strands.specs.Log.{matchedColumn, strandsColumn, nextsColumn, noteIn, Touched}
 
 -- an entry with match link m for each of these nodes, behind a list
 unfoldable pub pushedAll : ℕ → List ℕ → List EstJoinPath → Option (List EstJoinPath)
@@ -42,29 +43,42 @@ abbrev pub CellGives : (ℕ → List EstJoinPath → Option (List EstJoinPath)) 
 CellGives rule list at zero = Unit
 CellGives rule list at (suc c) = SpanGives rule list at (c / 2048) (c % 2048)
 
--- what the cells of all entries say of a new list that has so many entries
+-- A node's walk gives the nodes of a span for so many nexts, whatever was stacked before it and however many may be
+-- read.
+pub record WalkGives (node : ℕ → EstTime) (e : LinkEvent) (list : List ℕ) (at i begin end nexts : ℕ) : Type 0 where
+  pub rises : begin ≤ end
+  pub inside : end ≤ at
+  pub within : nexts ≤ 4096
+  pub gives : (k : ℕ) (stack : List ℕ)
+      → walked k node e i stack
+      ≡ spend nexts (nodesIn list begin (end - begin)) (λ j. poppedTo stack (walked j node e)) k
+
+-- the same of two cells: the span, or 0 if nothing is noted, and the nexts
+abbrev pub CellsGive : (ℕ → EstTime) → LinkEvent → List ℕ → ℕ → ℕ → ℕ → ℕ → Type 0
+CellsGive node e list at i zero nexts = Unit
+CellsGive node e list at i (suc c) nexts = WalkGives node e list at i (c / 2048) (c % 2048) nexts
+
+-- what the cells of all nodes say of a new list that has so many entries
 pub record Given (cells : List ℕ) (w : Layout) (node : ℕ → EstTime) (n : ℕ) (e : LinkEvent) (list : List ℕ) (at : ℕ)
     : Type 0 where
-  pub cell : (x : EstJoinPath) → x .«est_idx_next» < n
-      → CellGives (λ m es. followed (x .«link_idx_match») node n e m (x .«est_idx_next») es) list at
-      (getD cells (cellOf w 5 6 x) 0)
+  pub matched : (i : ℕ) → i < n
+      → CellGives (λ m es. alternatives n node e m i es) list at (noteIn cells w i matchedColumn)
+  pub strands : (i : ℕ) → i < n
+      → CellsGive node e list at i (noteIn cells w i strandsColumn) (noteIn cells w i nextsColumn)
 
 -- the same of an answer
 abbrev pub GivenThen : List ℕ → Layout → (ℕ → EstTime) → ℕ → LinkEvent → List ℕ → Count → Type 0
 GivenThen cells w node n e list (Entries at) = Given cells w node n e list at
 GivenThen cells w node n e list Over = Unit
 
--- A rule is applied to the first `at` entries of a list; what it gives is noted in no cell but one.
-pub record Extends (rule : List EstJoinPath → Option (List EstJoinPath)) (cell : ℕ) (w : Layout) (node : ℕ → EstTime)
-    (n : ℕ) (e : LinkEvent) (cells list : List ℕ) (at : ℕ) (cells′ list′ : List ℕ) (r : Count) : Type 0 where
+-- A rule is applied to the first `at` entries of a list; what is noted meanwhile is logged.
+pub record Extends (rule : List EstJoinPath → Option (List EstJoinPath)) (w : Layout) (node : ℕ → EstTime) (n : ℕ)
+    (e : LinkEvent) (cells list : List ℕ) (at : ℕ) (cells′ list′ : List ℕ) (r : Count) : Type 0 where
   pub answer : EntriesAs (rule (entriesIn list at)) list′ r
   pub given : GivenThen cells′ w node n e list′ r
-  pub elsewhere : (q : ℕ) → q ≢ cell → getD cells′ q 0 ≡ getD cells q 0
+  pub touched : (cells₀ : List ℕ) → Touched w cells₀ cells → Touched w cells₀ cells′
 
--- the last three cells of each place, in which nothing is noted before an event
-pub record Ungiven (cells : List ℕ) (w : Layout) : Type 0 where
-  pub cell : (i k : ℕ) → i < w .places → 5 ≤ k → k < 8 → getD cells (w .«nodes_at» + i * 8 + k) 0 ≡ 0
-
--- only cells of a list's entries are changed
-pub record OnlyTheirs (es : List EstJoinPath) (w : Layout) (cells cells′ : List ℕ) : Type 0 where
-  pub elsewhere : (q : ℕ) → hits (cellOf w 5 6) es q ≡ false → getD cells′ q 0 ≡ getD cells q 0
+-- what a node's cells say, behind a list, for a walk that may read so many nexts: none if they are too few
+abbrev pub pushedKnown : Bool → ℕ → List ℕ → List EstJoinPath → Option (List EstJoinPath)
+pushedKnown true m is es = none
+pushedKnown false m is es = pushedAll m is es

@@ -1,5 +1,6 @@
 pub mod Entries
 pub mod Space
 pub mod Steps
-pub mod Marks
+pub mod Walks
+pub mod Log
 pub mod Given

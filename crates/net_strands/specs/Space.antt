@@ -1,7 +1,7 @@
 -- `update_join_paths_space`, document 01 under "Joins": "Rebuilding its list for an event". Each entry of the old list
 -- is followed to the nodes that have the event, in order; the new list is what they give. The network is a function
 -- from index to node.
-use mathlib.Core.Bool.{Bool, true, false, _&&_, _||_, cond}
+use mathlib.Core.Bool.{Bool, true, false, _||_}
 use mathlib.Core.List.{List, [], _∷_}
 use mathlib.Core.Option.{Option, none, some}
 use Prim.Native.Nat.{ℕ, zero, suc}

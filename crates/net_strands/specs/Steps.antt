@@ -1,15 +1,17 @@
--- Words of the contracts: what a stack in a slice holds, the network of a lent table, where a strand is left, and an
--- entry's new match link.
-use mathlib.Core.Bool.{Bool, true, false, _||_}
+-- Words of the contracts: what a stack in a slice holds, the network of a lent table and what is lent with it, where a
+-- strand is left, where a node is put on the stack itself, and an entry's new match link.
+use mathlib.Core.Bool.{Bool, true, false, _&&_, _||_}
 use mathlib.Core.List.{List, [], _∷_}
-use Prim.Native.Nat.{ℕ, zero, suc}
-use lib.Dec.{eqb}
-use lib.ListN.{getD}
+use Prim.Native.Nat.{ℕ, zero, suc, _+_, _*_, _≤_}
+use lib.Dec.{eqb, ltb}
+use lib.ListN.{length, getD}
 use Rattle.net_node.specs.declared.EstTime.{EstTime}
 use lib.Ieee.{Float}
 use denote.Ref.{now}
 use Rattle.space.specs.Lent.{Lent}
-use Rattle.net_node.specs.Table.{nodeAt}
+use Rattle.net_node.specs.Table.{nodeAt, Room, Indexed}
+use Rattle.net_event_map.specs.declared.Layout.{Layout}
+use Rattle.net_event_map.specs.EventMap.{CellsApart}
 use Rattle.net_strands.specs.Space.{isArrive}
 
 -- the first n numbers of a slice, the last on top
@@ -21,6 +23,15 @@ stackIn s (suc n) = getD s n 0 ∷ stackIn s n
 abbrev pub nodesAtEntry : Lent (List Float) → Lent (List ℕ) → ℕ → EstTime
 nodesAtEntry floats numbers = nodeAt (now (floats .entry)) (now (numbers .entry))
 
+-- What is lent for following entries: a network, the cells of its nodes, a stack and the new list.
+pub record WalkRoom (fs : List Float) (us cells stack list : List ℕ) (nodes : ℕ) (w : Layout) : Type 0 where
+  pub table : Room fs us nodes
+  pub indexed : Indexed (nodeAt fs us) nodes
+  pub within : nodes ≤ w .places
+  pub apart : CellsApart cells w
+  pub stack-room : 5120 ≤ length stack
+  pub list-room : 2048 ≤ length list
+
 -- "is an Arrive or has no next"
 unfoldable pub endsStrand : EstTime → Bool
 endsStrand x = isArrive (x .«link_event» .«est_type») || eqb (x .«idx_next») 0
@@ -29,3 +40,20 @@ endsStrand x = isArrive (x .«link_event» .«est_type») || eqb (x .«idx_next�
 abbrev pub newMatch : Bool → ℕ → ℕ
 newMatch true m = m
 newMatch false m = 0
+
+-- ---- nodes on the stack that are to be closed: what a node gives is noted when all that it stacked is walked
+
+-- The stack has alternatives, which are below 65,536, and marks, each above the node that it is of. The mark says how
+-- many entries the new list had and how many nexts were left when the walk came there.
+abbrev pub markOf : ℕ → ℕ → ℕ
+markOf at left = 65535 + at * 4096 + left
+
+-- A node is opened, where that is wanted, as long as the stack of 5,120 has room for it beside an alternative for each
+-- next that is left.
+unfoldable pub opens : Bool → (left top : ℕ) → Bool
+opens wanted left top = wanted && ltb (top + left + 1) 5120
+
+-- a node and its mark on a stack, if it is opened
+abbrev pub openedIf : Bool → ℕ → ℕ → List ℕ → List ℕ
+openedIf true mark i stack = mark ∷ i ∷ stack
+openedIf false mark i stack = stack

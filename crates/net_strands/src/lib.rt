@@ -1,21 +1,34 @@
 // A run's join entries, followed along the network to the nodes that have an event: `update_join_paths_space`.
-// Contracts: specs/Space.antt; of the inner functions specs/Steps.antt, specs/Marks.antt, specs/Given.antt.
+// Contracts: specs/Space.antt; of the inner functions specs/Steps.antt, specs/Walks.antt, specs/Log.antt,
+// specs/Given.antt.
 use net_event_map::Layout;
 use net_node::EstTime;
 use net_node::EstType;
 use net_node::LinkEvent;
 ghost use mathlib.Core.Path.{_≡_};
-ghost use mathlib.Core.List.{[]};
-ghost use Prim.Native.Nat.{_+_, _-_, _*_, _≤_, _<_};
+ghost use mathlib.Core.Bool.{true, false, cond};
+ghost use mathlib.Core.List.{List, []};
+ghost use Prim.Native.Nat.{ℕ, _+_, _-_, _*_, _/_, _%_, _≤_, _<_};
 ghost use lib.ListN.{length};
 ghost use Rattle.net_node.specs.Table.{nodeAt, Room, Indexed};
 ghost use Rattle.net_event_map.specs.EventMap.{CellsApart};
 ghost use Rattle.net_strands.specs.Entries.{entry, entryAt, entriesIn, push, EntriesAs, Valid, ListBecomes};
 ghost use Rattle.net_strands.specs.Space.{isArrive, pushedIf, alternatives, alternativeStacked, strands};
 ghost use Rattle.net_strands.specs.Space.{strandFrom, followed, extended, extendedAll};
-ghost use Rattle.net_strands.specs.Steps.{stackIn, endsStrand, newMatch, nodesAtEntry};
-ghost use Rattle.net_strands.specs.Marks.{columnOf, cellOf, marks};
-ghost use Rattle.net_strands.specs.Given.{pushedAll, nodesIn, Given, Extends, Ungiven, OnlyTheirs};
+ghost use Rattle.net_strands.specs.Steps.{stackIn, endsStrand, newMatch, nodesAtEntry, WalkRoom};
+ghost use Rattle.net_strands.specs.Steps.{markOf, opens, openedIf};
+ghost use Rattle.net_strands.specs.Log.{matchedColumn, strandsColumn, noteIn, spanNumber};
+ghost use Rattle.net_strands.specs.Log.{LogIn, Touched, Notes, Ungiven};
+ghost use Rattle.net_strands.specs.Given.{pushedAll, nodesIn, pushedKnown, Given, Extends};
+
+// The columns of a node's cells: a name of the log, and what is noted of the node (specs/Log.antt).
+const NAME: usize = 1;
+
+const MATCHED: usize = 5;
+
+const STRANDS: usize = 6;
+
+const NEXTS: usize = 7;
 
 // A join entry: the link to be matched (0: matched already) and a node of the network.
 pub struct EstJoinPath {
@@ -118,142 +131,6 @@ fn follow_alternatives(
     }
 }
 
-// Puts a node's alternative on the stack, if it has one.
-fn stack_alternative(stack: &mut [u32], top: usize, alt: u32) -> usize
-    requires { ⌜ top < length (now stack) ⌝ }
-    ensures holds { λ r. ⌜ stackIn (now (stack .exit)) r ≡ alternativeStacked alt (stackIn (now (stack .entry)) top) ⌝ }
-    ensures top { λ r. ⌜ r ≤ top + 1 ⌝ }
-{
-    if alt == 0 {
-        return top;
-    }
-    stack[top] = alt;
-    top + 1
-}
-
-// Whether a strand is left at a node: at an Arrive, and where there is no next.
-fn ends_strand(node: EstTime) -> bool
-    ensures { λ r. ⌜ r ≡ endsStrand node ⌝ }
-{
-    let event = node.link_event;
-    let kind = event.est_type;
-    let arrive = is_arrive(kind);
-    arrive | (node.idx_next == 0)
-}
-
-// An entry that does not match yet: strands along nexts, with alternatives stacked, each up to the event, an Arrive or
-// an end.
-fn follow_strands(
-    floats: &[f64],
-    numbers: &[u32],
-    nodes: usize,
-    event: LinkEvent,
-    link_idx_match: u32,
-    start: u32,
-    stack: &mut [u32],
-    list: &mut [u32],
-    n: usize,
-) -> Count
-    requires { ⌜ Room (now floats) (now numbers) nodes ⌝ }
-    requires { ⌜ Indexed (nodeAt (now floats) (now numbers)) nodes ⌝ }
-    requires { ⌜ start < nodes ⌝ }
-    requires { ⌜ 4096 ≤ length (now stack) ⌝ }
-    requires { ⌜ 2048 ≤ length (now list) ⌝ }
-    requires { ⌜ n ≤ 1024 ⌝ }
-    ensures { λ r. ⌜ ListBecomes
-        (λ es. strands 4096 (nodesAtEntry floats numbers) event «link_idx_match» (strandFrom start es)) list n r ⌝ }
-{
-    // The first `top` of the stack are still to be walked, the last of them next; `left` nexts may still be read.
-    let mut at = n;
-    let mut left: u32 = 4096;
-    stack[0] = start;
-    let mut top = 1;
-    'strands: while top > 0 {
-        top -= 1;
-        let mut here = stack[top];
-        loop {
-            if left == 0 {
-                return Count::Over;
-            }
-            left -= 1;
-            let node = net_node::load(floats, numbers, here as usize);
-            top = stack_alternative(stack, top, node.idx_next_alt);
-            let next = node.idx_next;
-            let there = net_node::load(floats, numbers, next as usize);
-            if net_node::same_event(there.link_event, event) {
-                let x = EstJoinPath {
-                    link_idx_match,
-                    est_idx_next: next,
-                };
-                let Count::Entries(more) = push_entry(list, at, x) else {
-                    return Count::Over;
-                };
-                at = more;
-                continue 'strands;
-            }
-            if ends_strand(there) {
-                continue 'strands;
-            }
-            here = next;
-        }
-    }
-    Count::Entries(at)
-}
-
-// The match link of an entry followed: m for an Arrive, 0 for a Clear.
-fn new_match(arrive: bool, m: u32) -> u32
-    ensures { λ r. ⌜ r ≡ newMatch arrive m ⌝ }
-{
-    if arrive { m } else { 0 }
-}
-
-// What an entry gives that is followed: by alternatives if it matches already, and else by strands.
-fn follow(
-    floats: &[f64],
-    numbers: &[u32],
-    nodes: usize,
-    event: LinkEvent,
-    link_idx_match: u32,
-    x: EstJoinPath,
-    stack: &mut [u32],
-    list: &mut [u32],
-    n: usize,
-) -> Count
-    requires { ⌜ Room (now floats) (now numbers) nodes ⌝ }
-    requires { ⌜ Indexed (nodeAt (now floats) (now numbers)) nodes ⌝ }
-    requires { ⌜ x .«est_idx_next» < nodes ⌝ }
-    requires { ⌜ 4096 ≤ length (now stack) ⌝ }
-    requires { ⌜ 2048 ≤ length (now list) ⌝ }
-    requires { ⌜ n ≤ 1024 ⌝ }
-    ensures { λ r. ⌜ ListBecomes (followed (x .«link_idx_match») (nodesAtEntry floats numbers) nodes event
-        «link_idx_match» (x .«est_idx_next»)) list n r ⌝ }
-{
-    let start = x.est_idx_next;
-    if x.link_idx_match == 0 {
-        return follow_alternatives(
-            floats,
-            numbers,
-            nodes,
-            event,
-            link_idx_match,
-            start,
-            list,
-            n,
-        );
-    }
-    follow_strands(
-        floats,
-        numbers,
-        nodes,
-        event,
-        link_idx_match,
-        start,
-        stack,
-        list,
-        n,
-    )
-}
-
 // An entry for each node of the entries from `begin` to `end`, put behind the n of their list.
 fn push_nodes(list: &mut [u32], n: usize, link_idx_match: u32, begin: usize, end: usize) -> Count
     requires { ⌜ 2048 ≤ length (now list) ⌝ }
@@ -279,15 +156,303 @@ fn push_nodes(list: &mut [u32], n: usize, link_idx_match: u32, begin: usize, end
     Count::Entries(at)
 }
 
-// The column of the cell of an entry with match link m.
-fn column_of(matched: usize, other: usize, m: u32) -> usize
-    ensures { λ r. ⌜ r ≡ columnOf matched other m ⌝ }
+// An entry for each node of a span of the list, put behind its n.
+fn push_span(list: &mut [u32], n: usize, link_idx_match: u32, span: u32) -> Count
+    requires { ⌜ 2048 ≤ length (now list) ⌝ }
+    requires { ⌜ n ≤ 1024 ⌝ }
+    requires { ⌜ 0 < span ⌝ }
+    requires { ⌜ (span - 1) / 2048 ≤ (span - 1) % 2048 ⌝ }
+    requires { ⌜ (span - 1) % 2048 ≤ n ⌝ }
+    ensures { λ r. ⌜ ListBecomes (pushedAll «link_idx_match» (nodesIn (now (list .entry)) ((span - 1) / 2048)
+        ((span - 1) % 2048 - (span - 1) / 2048))) list n r ⌝ }
 {
-    if m == 0 { matched } else { other }
+    let c = span as usize - 1;
+    push_nodes(list, n, link_idx_match, c / 2048, c % 2048)
 }
 
-// What an entry gives that is followed: worked out and noted in its cell, or copied if the cell says it.
-fn follow_once(
+// A span of the new list as a number that is not 0.
+fn span_number(begin: usize, end: usize) -> u32
+    requires { ⌜ begin < 1048576 ⌝ }
+    requires { ⌜ end ≤ 1024 ⌝ }
+    ensures { λ r. ⌜ r ≡ spanNumber begin end ⌝ }
+{
+    (begin * 2048 + end + 1) as u32
+}
+
+// What is noted of a node in one column.
+fn noted(cells: &[u32], w: Layout, i: u32, column: usize) -> u32
+    requires { ⌜ CellsApart (now cells) w ⌝ }
+    requires { ⌜ i < w .places ⌝ }
+    requires { ⌜ column < 8 ⌝ }
+    ensures { λ r. ⌜ r ≡ noteIn (now (cells .entry)) w i column ⌝ }
+{
+    cells[w.nodes_at + i as usize * 8 + column]
+}
+
+// Notes three numbers of a node and logs it, unless the log is full.
+fn note(cells: &mut [u32], w: Layout, i: u32, matched: u32, strands: u32, nexts: u32)
+    requires { ⌜ CellsApart (now cells) w ⌝ }
+    requires { ⌜ i < w .places ⌝ }
+    ensures { λ _. ⌜ Notes w i matched strands nexts (now (cells .entry)) (now (cells .exit)) ⌝ }
+{
+    let count = cells[w.nodes_at + NAME];
+    if (count >= 65535) | (count as usize + 1 >= w.places) {
+        return;
+    }
+    let unit = w.nodes_at + i as usize * 8;
+    cells[w.nodes_at + (count as usize + 1) * 8 + NAME] = i;
+    cells[w.nodes_at + NAME] = count + 1;
+    cells[unit + MATCHED] = matched;
+    cells[unit + STRANDS] = strands;
+    cells[unit + NEXTS] = nexts;
+}
+
+// Takes back all that is noted and logged.
+fn forget_notes(cells: &mut [u32], w: Layout)
+    requires { ⌜ CellsApart (now cells) w ⌝ }
+    requires { ⌜ LogIn (now cells) w ⌝ }
+    ensures { λ _. ⌜ ((cells₀ : List ℕ) → length cells₀ ≡ length (now (cells .entry)) → Ungiven cells₀ w
+        → Touched w cells₀ (now (cells .entry)) → now (cells .exit) ≡ cells₀) ⌝ }
+{
+    let count = cells[w.nodes_at + NAME] as usize;
+    let mut k = 1;
+    while k <= count {
+        let at = w.nodes_at + k * 8 + NAME;
+        let unit = w.nodes_at + cells[at] as usize * 8;
+        cells[at] = 0;
+        cells[unit + MATCHED] = 0;
+        cells[unit + STRANDS] = 0;
+        cells[unit + NEXTS] = 0;
+        k += 1;
+    }
+    cells[w.nodes_at + NAME] = 0;
+}
+
+// What an entry gives that matches already: worked out and noted, or copied where it is noted.
+fn follow_matched(
+    floats: &[f64],
+    numbers: &[u32],
+    nodes: usize,
+    event: LinkEvent,
+    link_idx_match: u32,
+    start: u32,
+    cells: &mut [u32],
+    w: Layout,
+    list: &mut [u32],
+    n: usize,
+) -> Count
+    requires { ⌜ Room (now floats) (now numbers) nodes ⌝ }
+    requires { ⌜ Indexed (nodeAt (now floats) (now numbers)) nodes ⌝ }
+    requires { ⌜ start < nodes ⌝ }
+    requires { ⌜ nodes ≤ w .places ⌝ }
+    requires { ⌜ CellsApart (now cells) w ⌝ }
+    requires { ⌜ 2048 ≤ length (now list) ⌝ }
+    requires { ⌜ n ≤ 1024 ⌝ }
+    requires { ⌜ Given (now cells) w (nodeAt (now floats) (now numbers)) nodes event (now list) n ⌝ }
+    ensures { λ r. ⌜ Extends (alternatives nodes (nodesAtEntry floats numbers) event «link_idx_match» start) w
+        (nodesAtEntry floats numbers) nodes event (now (cells .entry)) (now (list .entry)) n (now (cells .exit))
+        (now (list .exit)) r ⌝ }
+{
+    let known = noted(cells, w, start, MATCHED);
+    if known != 0 {
+        return push_span(list, n, link_idx_match, known);
+    }
+    let followed = follow_alternatives(
+        floats,
+        numbers,
+        nodes,
+        event,
+        link_idx_match,
+        start,
+        list,
+        n,
+    );
+    let Count::Entries(more) = followed else {
+        return Count::Over;
+    };
+    let span = span_number(n, more);
+    let strands = noted(cells, w, start, STRANDS);
+    let nexts = noted(cells, w, start, NEXTS);
+    note(cells, w, start, span, strands, nexts);
+    Count::Entries(more)
+}
+
+// Puts a node's alternative on the stack, if it has one.
+fn stack_alternative(stack: &mut [u32], top: usize, alt: u32) -> usize
+    requires { ⌜ top < length (now stack) ⌝ }
+    ensures holds { λ r. ⌜ stackIn (now (stack .exit)) r ≡ alternativeStacked alt (stackIn (now (stack .entry)) top) ⌝ }
+    ensures top { λ r. ⌜ r ≤ top + 1 ⌝ }
+{
+    if alt == 0 {
+        return top;
+    }
+    stack[top] = alt;
+    top + 1
+}
+
+// Whether a strand is left at a node: at an Arrive, and where there is no next.
+fn ends_strand(node: EstTime) -> bool
+    ensures { λ r. ⌜ r ≡ endsStrand node ⌝ }
+{
+    let event = node.link_event;
+    let kind = event.est_type;
+    let arrive = is_arrive(kind);
+    arrive | (node.idx_next == 0)
+}
+
+// Puts a node and its mark on the stack, if it is to be opened.
+fn open_node(wanted: bool, stack: &mut [u32], top: usize, here: u32, at: usize, left: u32) -> usize
+    requires { ⌜ 5120 ≤ length (now stack) ⌝ }
+    requires { ⌜ top + left ≤ 5120 ⌝ }
+    requires { ⌜ at ≤ 1024 ⌝ }
+    ensures holds { λ r. ⌜ stackIn (now (stack .exit)) r ≡ openedIf (opens wanted left top) (markOf at left) here
+        (stackIn (now (stack .entry)) top) ⌝ }
+    ensures room { λ r. ⌜ r + left ≤ 5120 ⌝ }
+    ensures top { λ r. ⌜ r ≤ top + 2 ⌝ }
+{
+    if wanted & (top + left as usize + 1 < 5120) {
+        stack[top] = here;
+        stack[top + 1] = 65535 + at as u32 * 4096 + left;
+        return top + 2;
+    }
+    top
+}
+
+// A node's mark is on top of the stack: all that it stacked is walked, and what it gives is noted.
+fn close_node(cells: &mut [u32], w: Layout, i: u32, mark: u32, at: usize, left: u32)
+    requires { ⌜ CellsApart (now cells) w ⌝ }
+    requires { ⌜ i < w .places ⌝ }
+    requires { ⌜ 65536 ≤ mark ⌝ }
+    requires { ⌜ at ≤ 1024 ⌝ }
+    requires { ⌜ left ≤ (mark - 65536) % 4096 + 1 ⌝ }
+    ensures { λ _. ⌜ Notes w i (noteIn (now (cells .entry)) w i matchedColumn) (spanNumber ((mark - 65536) / 4096) at)
+        ((mark - 65536) % 4096 + 1 - left) (now (cells .entry)) (now (cells .exit)) ⌝ }
+{
+    let c = mark - 65536;
+    let begin = (c / 4096) as usize;
+    let span = span_number(begin, at);
+    let nexts = c % 4096 + 1 - left;
+    let matched = noted(cells, w, i, MATCHED);
+    note(cells, w, i, matched, span, nexts);
+}
+
+// What is noted of the strands from a node where they may meet: a span, or 0.
+fn known_span(meet: bool, cells: &[u32], w: Layout, i: u32) -> u32
+    requires { ⌜ CellsApart (now cells) w ⌝ }
+    requires { ⌜ i < w .places ⌝ }
+    ensures { λ r. ⌜ r ≡ cond meet (noteIn (now (cells .entry)) w i strandsColumn) 0 ⌝ }
+{
+    if meet {
+        return noted(cells, w, i, STRANDS);
+    }
+    0
+}
+
+// An entry for each node of a span, put behind the n of their list, if the walk may read as many nexts.
+fn push_known(over: bool, list: &mut [u32], n: usize, link_idx_match: u32, span: u32) -> Count
+    requires { ⌜ 2048 ≤ length (now list) ⌝ }
+    requires { ⌜ n ≤ 1024 ⌝ }
+    requires { ⌜ 0 < span ⌝ }
+    requires { ⌜ (span - 1) / 2048 ≤ (span - 1) % 2048 ⌝ }
+    requires { ⌜ (span - 1) % 2048 ≤ n ⌝ }
+    ensures { λ r. ⌜ ListBecomes (pushedKnown over «link_idx_match» (nodesIn (now (list .entry)) ((span - 1) / 2048)
+        ((span - 1) % 2048 - (span - 1) / 2048))) list n r ⌝ }
+{
+    if over {
+        return Count::Over;
+    }
+    push_span(list, n, link_idx_match, span)
+}
+
+// An entry that does not match yet: strands along nexts, with alternatives stacked, each up to the event, an Arrive, an
+// end, or a node of which it is noted what strands from it give. It is noted of the start, and of nodes where strands
+// can meet: those with a previous alternative.
+fn follow_strands(
+    floats: &[f64],
+    numbers: &[u32],
+    nodes: usize,
+    event: LinkEvent,
+    link_idx_match: u32,
+    start: u32,
+    cells: &mut [u32],
+    w: Layout,
+    stack: &mut [u32],
+    list: &mut [u32],
+    n: usize,
+) -> Count
+    requires { ⌜ WalkRoom (now floats) (now numbers) (now cells) (now stack) (now list) nodes w ⌝ }
+    requires { ⌜ start < nodes ⌝ }
+    requires { ⌜ n ≤ 1024 ⌝ }
+    requires { ⌜ Given (now cells) w (nodeAt (now floats) (now numbers)) nodes event (now list) n ⌝ }
+    ensures { λ r. ⌜ Extends
+        (λ es. strands 4096 (nodesAtEntry floats numbers) event «link_idx_match» (strandFrom start es)) w
+        (nodesAtEntry floats numbers) nodes event (now (cells .entry)) (now (list .entry)) n (now (cells .exit))
+        (now (list .exit)) r ⌝ }
+{
+    // The first `top` of the stack are still to be walked or closed, the last of them next; `left` nexts may be read.
+    let mut at = n;
+    let mut left: u32 = 4096;
+    stack[0] = start;
+    let mut top = 1;
+    'strands: while top > 0 {
+        top -= 1;
+        let mut here = stack[top];
+        if here >= 65536 {
+            top -= 1;
+            let opened = stack[top];
+            close_node(cells, w, opened, here, at, left);
+            continue 'strands;
+        }
+        loop {
+            if left == 0 {
+                return Count::Over;
+            }
+            let node = net_node::load(floats, numbers, here as usize);
+            let meet = (node.idx_prev_alt != 0) | (left == 4096);
+            let known = known_span(meet, cells, w, here);
+            if known != 0 {
+                let nexts = noted(cells, w, here, NEXTS);
+                let Count::Entries(more) = push_known(left < nexts, list, at, link_idx_match, known)
+                else {
+                    return Count::Over;
+                };
+                at = more;
+                left -= nexts;
+                continue 'strands;
+            }
+            let opened = open_node(meet, stack, top, here, at, left);
+            top = stack_alternative(stack, opened, node.idx_next_alt);
+            left -= 1;
+            let next = node.idx_next;
+            let there = net_node::load(floats, numbers, next as usize);
+            let met = net_node::same_event(there.link_event, event);
+            let x = EstJoinPath {
+                link_idx_match,
+                est_idx_next: next,
+            };
+            let Count::Entries(more) = push_if(met, list, at, x) else {
+                return Count::Over;
+            };
+            at = more;
+            let ends = ends_strand(there);
+            if met | ends {
+                continue 'strands;
+            }
+            here = next;
+        }
+    }
+    Count::Entries(at)
+}
+
+// The match link of an entry followed: m for an Arrive, 0 for a Clear.
+fn new_match(arrive: bool, m: u32) -> u32
+    ensures { λ r. ⌜ r ≡ newMatch arrive m ⌝ }
+{
+    if arrive { m } else { 0 }
+}
+
+// What an entry gives that is followed: by alternatives if it matches already, and else by strands.
+fn follow(
     floats: &[f64],
     numbers: &[u32],
     nodes: usize,
@@ -300,42 +465,42 @@ fn follow_once(
     list: &mut [u32],
     n: usize,
 ) -> Count
-    requires { ⌜ Room (now floats) (now numbers) nodes ⌝ }
-    requires { ⌜ Indexed (nodeAt (now floats) (now numbers)) nodes ⌝ }
+    requires { ⌜ WalkRoom (now floats) (now numbers) (now cells) (now stack) (now list) nodes w ⌝ }
     requires { ⌜ x .«est_idx_next» < nodes ⌝ }
-    requires { ⌜ 4096 ≤ length (now stack) ⌝ }
-    requires { ⌜ 2048 ≤ length (now list) ⌝ }
     requires { ⌜ n ≤ 1024 ⌝ }
-    requires { ⌜ CellsApart (now cells) w ⌝ }
-    requires { ⌜ nodes ≤ w .places ⌝ }
     requires { ⌜ Given (now cells) w (nodeAt (now floats) (now numbers)) nodes event (now list) n ⌝ }
     ensures { λ r. ⌜ Extends (followed (x .«link_idx_match») (nodesAtEntry floats numbers) nodes event
-        «link_idx_match» (x .«est_idx_next»)) (cellOf w 5 6 x) w (nodesAtEntry floats numbers) nodes event
-        (now (cells .entry)) (now (list .entry)) n (now (cells .exit)) (now (list .exit)) r ⌝ }
+        «link_idx_match» (x .«est_idx_next»)) w (nodesAtEntry floats numbers) nodes event (now (cells .entry))
+        (now (list .entry)) n (now (cells .exit)) (now (list .exit)) r ⌝ }
 {
-    let column = column_of(5, 6, x.link_idx_match);
-    let cell = w.nodes_at + x.est_idx_next as usize * 8 + column;
-    let noted = cells[cell];
-    if noted != 0 {
-        let span = noted as usize - 1;
-        return push_nodes(list, n, link_idx_match, span / 2048, span % 2048);
+    let start = x.est_idx_next;
+    if x.link_idx_match == 0 {
+        return follow_matched(
+            floats,
+            numbers,
+            nodes,
+            event,
+            link_idx_match,
+            start,
+            cells,
+            w,
+            list,
+            n,
+        );
     }
-    let followed = follow(
+    follow_strands(
         floats,
         numbers,
         nodes,
         event,
         link_idx_match,
-        x,
+        start,
+        cells,
+        w,
         stack,
         list,
         n,
-    );
-    let Count::Entries(more) = followed else {
-        return Count::Over;
-    };
-    cells[cell] = (n * 2048 + more + 1) as u32;
-    Count::Entries(more)
+    )
 }
 
 // What one entry of the old list gives, behind the n entries so far.
@@ -352,16 +517,11 @@ fn extend(
     list: &mut [u32],
     n: usize,
 ) -> Count
-    requires { ⌜ Room (now floats) (now numbers) nodes ⌝ }
-    requires { ⌜ Indexed (nodeAt (now floats) (now numbers)) nodes ⌝ }
+    requires { ⌜ WalkRoom (now floats) (now numbers) (now cells) (now stack) (now list) nodes w ⌝ }
     requires { ⌜ x .«est_idx_next» < nodes ⌝ }
-    requires { ⌜ 4096 ≤ length (now stack) ⌝ }
-    requires { ⌜ 2048 ≤ length (now list) ⌝ }
     requires { ⌜ n ≤ 1024 ⌝ }
-    requires { ⌜ CellsApart (now cells) w ⌝ }
-    requires { ⌜ nodes ≤ w .places ⌝ }
     requires { ⌜ Given (now cells) w (nodeAt (now floats) (now numbers)) nodes event (now list) n ⌝ }
-    ensures { λ r. ⌜ Extends (extended (nodesAtEntry floats numbers) nodes event seen x) (cellOf w 5 6 x) w
+    ensures { λ r. ⌜ Extends (extended (nodesAtEntry floats numbers) nodes event seen x) w
         (nodesAtEntry floats numbers) nodes event (now (cells .entry)) (now (list .entry)) n (now (cells .exit))
         (now (list .exit)) r ⌝ }
 {
@@ -380,7 +540,7 @@ fn extend(
         return Count::Entries(n);
     }
     let new = new_match(arrive, m);
-    follow_once(
+    follow(
         floats,
         numbers,
         nodes,
@@ -409,21 +569,16 @@ fn extend_all(
     stack: &mut [u32],
     list: &mut [u32],
 ) -> Count
-    requires { ⌜ Room (now floats) (now numbers) nodes ⌝ }
-    requires { ⌜ Indexed (nodeAt (now floats) (now numbers)) nodes ⌝ }
+    requires { ⌜ WalkRoom (now floats) (now numbers) (now cells) (now stack) (now list) nodes w ⌝ }
     requires { ⌜ Valid (entriesIn (now old) count) nodes ⌝ }
     requires { ⌜ count ≤ 1024 ⌝ }
     requires { ⌜ 2048 ≤ length (now old) ⌝ }
-    requires { ⌜ 4096 ≤ length (now stack) ⌝ }
-    requires { ⌜ 2048 ≤ length (now list) ⌝ }
-    requires { ⌜ CellsApart (now cells) w ⌝ }
-    requires { ⌜ nodes ≤ w .places ⌝ }
+    requires { ⌜ 0 < nodes ⌝ }
     requires { ⌜ Ungiven (now cells) w ⌝ }
     ensures list { λ r. ⌜ EntriesAs
         (extendedAll (nodesAtEntry floats numbers) nodes event seen (entriesIn (now (old .entry)) count) [])
         (now (list .exit)) r ⌝ }
-    ensures noted { λ _. ⌜ OnlyTheirs (entriesIn (now (old .entry)) count) w (now (cells .entry))
-        (now (cells .exit)) ⌝ }
+    ensures noted { λ _. ⌜ Touched w (now (cells .entry)) (now (cells .exit)) ⌝ }
 {
     let mut at = 0;
     let mut k = 0;
@@ -451,34 +606,6 @@ fn extend_all(
     Count::Entries(at)
 }
 
-// Sets the cell of each entry of a list.
-pub fn set_marks(
-    cells: &mut [u32],
-    w: Layout,
-    matched: usize,
-    other: usize,
-    list: &[u32],
-    count: usize,
-    mark: u32,
-)
-    requires { ⌜ CellsApart (now cells) w ⌝ }
-    requires { ⌜ matched < 8 ⌝ }
-    requires { ⌜ other < 8 ⌝ }
-    requires { ⌜ count ≤ 1024 ⌝ }
-    requires { ⌜ 2048 ≤ length (now list) ⌝ }
-    requires { ⌜ Valid (entriesIn (now list) count) (w .places) ⌝ }
-    ensures { λ _. ⌜ now (cells .exit) ≡ marks (cellOf w matched other) mark (entriesIn (now (list .entry)) count)
-        (now (cells .entry)) ⌝ }
-{
-    let mut k = 0;
-    while k < count {
-        let x = entry_at(list, k);
-        let column = column_of(matched, other, x.link_idx_match);
-        cells[w.nodes_at + x.est_idx_next as usize * 8 + column] = mark;
-        k += 1;
-    }
-}
-
 // The new list for an event, out of the old one's `count` entries. `seen` says whether some node has the event. What an
 // entry gives is noted in the cells meanwhile; they are afterwards as they were.
 pub fn update_join_paths_space(
@@ -494,15 +621,11 @@ pub fn update_join_paths_space(
     stack: &mut [u32],
     list: &mut [u32],
 ) -> Count
-    requires { ⌜ Room (now floats) (now numbers) nodes ⌝ }
-    requires { ⌜ Indexed (nodeAt (now floats) (now numbers)) nodes ⌝ }
+    requires { ⌜ WalkRoom (now floats) (now numbers) (now cells) (now stack) (now list) nodes w ⌝ }
     requires { ⌜ Valid (entriesIn (now old) count) nodes ⌝ }
     requires { ⌜ count ≤ 1024 ⌝ }
     requires { ⌜ 2048 ≤ length (now old) ⌝ }
-    requires { ⌜ 4096 ≤ length (now stack) ⌝ }
-    requires { ⌜ 2048 ≤ length (now list) ⌝ }
-    requires { ⌜ CellsApart (now cells) w ⌝ }
-    requires { ⌜ nodes ≤ w .places ⌝ }
+    requires { ⌜ 0 < nodes ⌝ }
     requires { ⌜ Ungiven (now cells) w ⌝ }
     ensures list { λ r. ⌜ EntriesAs
         (extendedAll (nodesAtEntry floats numbers) nodes event seen (entriesIn (now (old .entry)) count) [])
@@ -522,6 +645,6 @@ pub fn update_join_paths_space(
         stack,
         list,
     );
-    set_marks(cells, w, 5, 6, old, count, 0);
+    forget_notes(cells, w);
     built
 }

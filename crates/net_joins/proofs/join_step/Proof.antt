@@ -15,7 +15,7 @@ update-join-paths-space-requires : tie.Need-update-join-paths-space-requires
 update-join-paths-space-requires c κs =
     let r = c .before .before .before .before .before .before .before .before .before .before .before .before .before .before .before .pre in
     let q = r .1 .1 .1 .1 .1 .1 .1 in
-    (room-less _ (r .1 .0) (r .0), (r .1 .1 .1 .0, (q .1 .1 .1 .1, (q .0, (q .1 .0, (q .1 .1 .1 .0, (q .1 .1 .0, (r .1 .1 .1 .1 .0, (r .1 .0, cells-ungiven (r .1 .1 .1 .1 .1 .0))))))))))
+    (record { table = room-less _ (r .1 .0) (r .0); indexed = r .1 .1 .1 .0; within = r .1 .0; apart = r .1 .1 .1 .1 .0; stack-room = q .1 .1 .1 .0; list-room = q .1 .1 .0 }, (q .1 .1 .1 .1, (q .0, (q .1 .0, (r .1 .1 .0, cells-ungiven (r .1 .1 .1 .1 .1 .0))))))
 
 returns : tie.Need-returns
 returns c =

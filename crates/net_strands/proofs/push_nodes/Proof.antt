@@ -5,7 +5,7 @@ use Prim.Native.Nat.{_-_}
 use native.Mathlib.Omega.{arith}
 use lib.ListN.{length}
 use Rattle.net_strands.specs.Entries.{entry}
-use Rattle.net_strands.proofs.Given.{Copying, copying-start, copying-whole, copying-over, copying-on}
+use Rattle.net_strands.proofs.Spans.{Copying, copying-start, copying-whole, copying-over, copying-on}
 use Rattle.net_strands.proofs.push_nodes.Statement.{statement}
 use Rattle.net_strands.proofs.push_nodes.Tie as tie
 
