@@ -87,7 +87,7 @@ fn next_turn(
     requires { ⌜ Driving (now book) p (lists (now floats) (now numbers) (now reals) (now cells) (now joins)) g ⌝ }
     requires { ⌜ 2048 ≤ length (now joins) ⌝ }
     requires { ⌜ 2048 ≤ length (now scratch) ⌝ }
-    requires { ⌜ 5120 ≤ length (now stack) ⌝ }
+    requires { ⌜ 4608 ≤ length (now stack) ⌝ }
     requires { ⌜ (not (g .front .moves) && eqb (g .top) 0) ≡ false ⌝ }
     ensures { λ r. ⌜ TakesNext (now (book .entry)) p g (listsAtEntry floats numbers reals cells joins)
         (listsAtExit floats numbers reals cells joins) r ⌝ }
@@ -129,7 +129,7 @@ fn drive(
     requires { ⌜ Driving (now book) p (lists (now floats) (now numbers) (now reals) (now cells) (now joins)) g ⌝ }
     requires { ⌜ 2048 ≤ length (now joins) ⌝ }
     requires { ⌜ 2048 ≤ length (now scratch) ⌝ }
-    requires { ⌜ 5120 ≤ length (now stack) ⌝ }
+    requires { ⌜ 4608 ≤ length (now stack) ⌝ }
     ensures { λ r. ⌜ Drives (now (book .entry)) p g (listsAtEntry floats numbers reals cells joins)
         (listsAtExit floats numbers reals cells joins) r ⌝ }
 {
@@ -216,7 +216,7 @@ fn run_all(
     requires { ⌜ Started (now book) (now marks) ⌝ }
     requires { ⌜ 2048 ≤ length (now joins) ⌝ }
     requires { ⌜ 2048 ≤ length (now scratch) ⌝ }
-    requires { ⌜ 5120 ≤ length (now stack) ⌝ }
+    requires { ⌜ 4608 ≤ length (now stack) ⌝ }
     ensures { λ r. ⌜ GrowsFirst (now (book .entry)) p (listsAtEntry floats numbers reals cells joins)
         (tableAtExit floats numbers) r ⌝ }
 {
@@ -290,7 +290,7 @@ pub fn grow_book(
     grow_path::start_path(reals);
     let mut joins = [0u32; 2048];
     let mut scratch = [0u32; 2048];
-    let mut stack = [0u32; 5120];
+    let mut stack = [0u32; 4608];
     run_all(
         book,
         floats,

@@ -147,7 +147,7 @@ pub fn run_event(
     requires { ⌜ Real (e .«link_event») (w .links) ⌝ }
     requires { ⌜ 2048 ≤ length (now joins) ⌝ }
     requires { ⌜ 2048 ≤ length (now scratch) ⌝ }
-    requires { ⌜ 5120 ≤ length (now stack) ⌝ }
+    requires { ⌜ 4608 ≤ length (now stack) ⌝ }
     ensures outcome { λ r. ⌜ RunsEvent w join c m e (netAtEntry floats numbers cells joins)
         (netAtExit floats numbers cells joins) r ⌝ }
     ensures more { λ r. ⌜ NotFewer c r ⌝ }
@@ -221,7 +221,7 @@ pub fn run_events(
     requires { ⌜ Moving w (now floats) (now numbers) (now cells) (now joins) c m ⌝ }
     requires { ⌜ 2048 ≤ length (now joins) ⌝ }
     requires { ⌜ 2048 ≤ length (now scratch) ⌝ }
-    requires { ⌜ 5120 ≤ length (now stack) ⌝ }
+    requires { ⌜ 4608 ≤ length (now stack) ⌝ }
     ensures outcome { λ r. ⌜ RunsLeg (now (book .entry)) (now (reals .entry)) v w join c m
         (netAtEntry floats numbers cells joins) (netAtExit floats numbers cells joins) r ⌝ }
     ensures more { λ r. ⌜ NotFewer c r ⌝ }

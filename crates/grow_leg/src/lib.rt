@@ -302,7 +302,7 @@ fn walk_leg(
     requires { ⌜ g .front .moves ≡ true ⌝ }
     requires { ⌜ 2048 ≤ length (now joins) ⌝ }
     requires { ⌜ 2048 ≤ length (now scratch) ⌝ }
-    requires { ⌜ 5120 ≤ length (now stack) ⌝ }
+    requires { ⌜ 4608 ≤ length (now stack) ⌝ }
     ensures walked { λ r. ⌜ WalksLeg (now (book .entry)) p g (listsAtEntry floats numbers reals cells joins)
         (listsAtExit floats numbers reals cells joins) r ⌝ }
     ensures more { λ r. ⌜ NotFewer (g .counts) r ⌝ }
@@ -357,7 +357,7 @@ pub fn turn(
     requires { ⌜ g .front .moves ≡ true ⌝ }
     requires { ⌜ 2048 ≤ length (now joins) ⌝ }
     requires { ⌜ 2048 ≤ length (now scratch) ⌝ }
-    requires { ⌜ 5120 ≤ length (now stack) ⌝ }
+    requires { ⌜ 4608 ≤ length (now stack) ⌝ }
     ensures { λ r. ⌜ TakesLeg (now (book .entry)) p g (listsAtEntry floats numbers reals cells joins)
         (listsAtExit floats numbers reals cells joins) r ⌝ }
 {

@@ -62,8 +62,9 @@ pub record CellsApart (cells : List ℕ) (w : Layout) : Type 0 where
   pub nodes-inside : w .«nodes_at» + w .places * 8 ≤ length cells
   pub apart : w .«nodes_at» + w .places * 8 ≤ w .«links_at»
 
--- What the cells say of the first n nodes. A node's second cell marks the nodes that a list names, and of its last
--- three two say what join entries at it give at one event; these four are 0 between calls.
+-- What the cells say of the first n nodes. A node's second cell marks the nodes that a list names, or names one in a
+-- log, and its last three say what join entries give that are followed there at one event; these four are 0 between
+-- calls.
 pub record Mapped (cells : List ℕ) (w : Layout) (node : ℕ → EstTime) (n : ℕ) : Type 0 where
   pub first : (l : ℕ) → l < w .links → getD cells (w .«links_at» + l * 8) 0 ≡ headOf (eventNodes node (arriveAt l) n)
   pub last : (l : ℕ) → l < w .links → getD cells (w .«links_at» + l * 8 + 1) 0 ≡ lastOf (eventNodes node (arriveAt l) n)

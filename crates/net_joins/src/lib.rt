@@ -328,7 +328,7 @@ pub fn join_step(
     requires { ⌜ count ≤ 1024 ⌝ }
     requires { ⌜ 2048 ≤ length (now joins) ⌝ }
     requires { ⌜ 2048 ≤ length (now scratch) ⌝ }
-    requires { ⌜ 5120 ≤ length (now stack) ⌝ }
+    requires { ⌜ 4608 ≤ length (now stack) ⌝ }
     requires { ⌜ Valid (entriesIn (now joins) count) n ⌝ }
     ensures answer { λ r. ⌜ StepAs
         (joinStep (nodesAtEntry floats numbers) n (w .places) join «est_time_add»

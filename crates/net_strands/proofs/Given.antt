@@ -1,6 +1,7 @@
 -- What was given stays said while the list grows; what is noted of a node; entries that are followed by alternatives, and entries that are not followed.
 use mathlib.Core.Path.{_≡_, refl, sym, ap, _∙_, subst}
 use mathlib.Core.Logic.{_⊎_, inl, inr}
+use mathlib.Core.Bool.{Bool, true, false, cond}
 use mathlib.Core.List.{List}
 use mathlib.Core.Option.{Option, some}
 use Prim.{tt}
@@ -18,7 +19,7 @@ use Rattle.net_strands.specs.declared.Count.the-variants.{Entries, Over}
 use Rattle.net_strands.specs.Entries.{entriesIn, push, EntriesAs}
 use Rattle.net_strands.specs.Space.{alternatives}
 use Rattle.net_strands.specs.Walks.{poppedTo, walked, spend}
-use Rattle.net_strands.specs.Log.{matchedColumn, strandsColumn, nextsColumn, noteIn, spanNumber, Touched, Notes, Ungiven}
+use Rattle.net_strands.specs.Log.{matchedColumn, strandsColumn, nextsColumn, noteIn, spanNumber, spanBegin, spanEnd, Touched, Notes, Ungiven}
 use Rattle.net_strands.specs.Given.{pushedAll, nodesIn, SpanGives, CellGives, WalkGives, CellsGive, Given, GivenThen, Extends}
 use Rattle.net_strands.proofs.Entries.{listed-some, listed-none}
 use Rattle.net_strands.proofs.Targets.{nextsOf, pushed-nexts}
@@ -106,11 +107,16 @@ module _ {cells cells′ list : List ℕ} {w : Layout} {node : ℕ → EstTime} 
 
 -- ---- what a cell says that is not 0
 
-pub cell-says : (rule : ℕ → List EstJoinPath → Option (List EstJoinPath)) (list : List ℕ) (at c : ℕ) → (c ≡ 0 → ⊥) → CellGives rule list at c → SpanGives rule list at ((c - 1) / 2048) ((c - 1) % 2048)
+-- what is looked at and is not 0 is what is noted
+pub known-is : (b : Bool) (known x : ℕ) → known ≡ cond b x 0 → (known ≡ 0 → ⊥) → known ≡ x
+known-is true known x k z = k
+known-is false known x k z = absurd (z k)
+
+pub cell-says : (rule : ℕ → List EstJoinPath → Option (List EstJoinPath)) (list : List ℕ) (at c : ℕ) → (c ≡ 0 → ⊥) → CellGives rule list at c → SpanGives rule list at (spanBegin c) (spanEnd c)
 cell-says rule list at zero z v = absurd (z refl)
 cell-says rule list at (suc c) z v = let e : c ≡ suc c - 1 = omega arith in subst (λ (k : ℕ). SpanGives rule list at (k / 2048) (k % 2048)) e v
 
-pub cells-say : (node : ℕ → EstTime) (e : LinkEvent) (list : List ℕ) (at i c nexts : ℕ) → (c ≡ 0 → ⊥) → CellsGive node e list at i c nexts → WalkGives node e list at i ((c - 1) / 2048) ((c - 1) % 2048) nexts
+pub cells-say : (node : ℕ → EstTime) (e : LinkEvent) (list : List ℕ) (at i c nexts : ℕ) → (c ≡ 0 → ⊥) → CellsGive node e list at i c nexts → WalkGives node e list at i (spanBegin c) (spanEnd c) nexts
 cells-say node e list at i zero nexts z v = absurd (z refl)
 cells-say node e list at i (suc c) nexts z v = let d : c ≡ suc c - 1 = omega arith in subst (λ (k : ℕ). WalkGives node e list at i (k / 2048) (k % 2048) nexts) d v
 
@@ -133,18 +139,18 @@ cells-said node e list at i begin end nexts h v =
 module _ {cells list : List ℕ} {w : Layout} {node : ℕ → EstTime} {nodes : ℕ} {e : LinkEvent} {n : ℕ} (v : Given cells w node nodes e list n) (m i : ℕ) (inside : i < nodes) where
   -- its cell says what it gives
   module _ (known : ℕ) (k : known ≡ noteIn cells w i matchedColumn) (z : known ≡ 0 → ⊥) where
-    pub matched-said : SpanGives (λ m es. alternatives nodes node e m i es) list n ((known - 1) / 2048) ((known - 1) % 2048)
+    pub matched-said : SpanGives (λ m es. alternatives nodes node e m i es) list n (spanBegin known) (spanEnd known)
     matched-said = cell-says (λ m es. alternatives nodes node e m i es) list n known z (subst (CellGives (λ m es. alternatives nodes node e m i es) list n) (sym k) (v .matched i inside))
 
     -- it is copied
-    pub matched-copied : (list′ : List ℕ) (r : Count) → EntriesAs (pushedAll m (nodesIn list ((known - 1) / 2048) ((known - 1) % 2048 - (known - 1) / 2048)) (entriesIn list n)) list′ r → Extends (alternatives nodes node e m i) w node nodes e cells list n cells list′ r
+    pub matched-copied : (list′ : List ℕ) (r : Count) → EntriesAs (pushedAll m (nodesIn list (spanBegin known) (spanEnd known - spanBegin known)) (entriesIn list n)) list′ r → Extends (alternatives nodes node e m i) w node nodes e cells list n cells list′ r
     matched-copied list′ r a = record {
       answer = subst (λ (b : Option (List EstJoinPath)). EntriesAs b list′ r) (sym (matched-said .gives m (entriesIn list n))) a;
       given = go r a;
       touched = λ cells₀ t. t;
     }
       where
-        go : (r : Count) → EntriesAs (pushedAll m (nodesIn list ((known - 1) / 2048) ((known - 1) % 2048 - (known - 1) / 2048)) (entriesIn list n)) list′ r → GivenThen cells w node nodes e list′ r
+        go : (r : Count) → EntriesAs (pushedAll m (nodesIn list (spanBegin known) (spanEnd known - spanBegin known)) (entriesIn list n)) list′ r → GivenThen cells w node nodes e list′ r
         go (Entries more) a = given-kept (nodes-stay list list′ n more (all-appended m _ (entriesIn list n) (entriesIn list′ more) (a .0))) v
         go Over a = tt
 
@@ -159,6 +165,10 @@ module _ {cells list : List ℕ} {w : Layout} {node : ℕ → EstTime} {nodes : 
 
     behind : Appended (entriesIn list n) (nextsOf nodes node e i) (entriesIn list′ more)
     behind = all-appended m (nextsOf nodes node e i) (entriesIn list n) (entriesIn list′ more) (sym (pushed-nexts node e m nodes i (entriesIn list n)) ∙ matched-got .0)
+
+    -- it is not noted
+    pub matched-left : Extends (alternatives nodes node e m i) w node nodes e cells list n cells list′ (Entries more)
+    matched-left = record { answer = matched-got; given = given-kept (nodes-stay list list′ n more behind) v; touched = λ cells₀ t. t }
 
     matched-span : SpanGives (λ m es. alternatives nodes node e m i es) list′ more n more
     matched-span = record {

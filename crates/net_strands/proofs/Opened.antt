@@ -11,7 +11,7 @@ use Rattle.net_node.specs.declared.EstTime.{EstTime}
 use Rattle.net_strands.specs.declared.EstJoinPath.{EstJoinPath}
 use Rattle.net_strands.specs.Entries.{entry, entriesIn, push, andThen}
 use Rattle.net_strands.specs.Space.{alternativeStacked, strandFrom, strands}
-use Rattle.net_strands.specs.Steps.{markOf, openedIf}
+use Rattle.net_strands.specs.Steps.{openingOf, openedIf}
 use Rattle.net_strands.specs.Walks.{withNodes, walked, spend}
 use Rattle.net_strands.specs.Given.{pushedAll, nodesIn}
 use Rattle.net_strands.proofs.Targets.{pushedEach, pushed-walk}
@@ -29,7 +29,7 @@ pub data Item : Type 0 where
 abbrev pub numbersOf : List Item → List ℕ
 numbersOf [] = []
 numbersOf (Alternative i ∷ xs) = i ∷ numbersOf xs
-numbersOf (Open i begin opened ∷ xs) = markOf begin opened ∷ i ∷ numbersOf xs
+numbersOf (Open i begin opened ∷ xs) = openingOf begin opened ∷ i ∷ numbersOf xs
 
 -- its alternatives alone, above others
 abbrev pub stackOf : List Item → List ℕ → List ℕ
@@ -46,7 +46,7 @@ abbrev pub stackedOn : ℕ → List Item → List Item
 stackedOn zero xs = xs
 stackedOn (suc i) xs = Alternative (suc i) ∷ xs
 
-pub opened-numbers : (b : Bool) (i begin opened : ℕ) (xs : List Item) → openedIf b (markOf begin opened) i (numbersOf xs) ≡ numbersOf (openedOn b i begin opened xs)
+pub opened-numbers : (b : Bool) (i begin opened : ℕ) (xs : List Item) → openedIf b (openingOf begin opened) i (numbersOf xs) ≡ numbersOf (openedOn b i begin opened xs)
 opened-numbers true i begin opened xs = refl
 opened-numbers false i begin opened xs = refl
 

@@ -31,7 +31,7 @@ room-same s v = record {
   indexed = v .indexed;
   within = v .within;
   apart = apart-same (s .cells-same) (v .apart);
-  stack-room = subst (λ (n : ℕ). 5120 ≤ n) (sym (s .stack-same)) (v .stack-room);
+  stack-room = subst (λ (n : ℕ). 4608 ≤ n) (sym (s .stack-same)) (v .stack-room);
   list-room = subst (λ (n : ℕ). 2048 ≤ n) (sym (s .list-same)) (v .list-room);
 }
 

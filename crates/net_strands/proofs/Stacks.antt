@@ -42,13 +42,13 @@ stacked-some (suc alt) stack h = refl
 
 -- ---- a node that is opened
 
-pub stack-opened : (s : List ℕ) (top mark i : ℕ) (b : Bool) → top + 1 < length s → b ≡ true → stackIn (set (set s top i) (top + 1) mark) (top + 2) ≡ openedIf b mark i (stackIn s top)
-stack-opened s top mark i b l h =
+pub stack-opened : (s : List ℕ) (top opening i : ℕ) (b : Bool) → top + 1 < length s → b ≡ true → stackIn (set (set s top i) (top + 1) opening) (top + 2) ≡ openedIf b opening i (stackIn s top)
+stack-opened s top opening i b l h =
     let e : top + 2 ≡ top + 1 + 1 = omega arith in
-    ap (stackIn (set (set s top i) (top + 1) mark)) e
-    ∙ stack-push (set s top i) (top + 1) mark (subst (λ (n : ℕ). top + 1 < n) (sym (length-set s top i)) l)
-    ∙ ap (λ (is : List ℕ). mark ∷ is) (stack-push s top i (omega arith))
-    ∙ ap (λ (c : Bool). openedIf c mark i (stackIn s top)) (sym h)
+    ap (stackIn (set (set s top i) (top + 1) opening)) e
+    ∙ stack-push (set s top i) (top + 1) opening (subst (λ (n : ℕ). top + 1 < n) (sym (length-set s top i)) l)
+    ∙ ap (λ (is : List ℕ). opening ∷ is) (stack-push s top i (omega arith))
+    ∙ ap (λ (c : Bool). openedIf c opening i (stackIn s top)) (sym h)
 
-pub stack-unopened : (s : List ℕ) (top mark i : ℕ) (b : Bool) → b ≡ false → stackIn s top ≡ openedIf b mark i (stackIn s top)
-stack-unopened s top mark i b h = ap (λ (c : Bool). openedIf c mark i (stackIn s top)) (sym h)
+pub stack-unopened : (s : List ℕ) (top opening i : ℕ) (b : Bool) → b ≡ false → stackIn s top ≡ openedIf b opening i (stackIn s top)
+stack-unopened s top opening i b h = ap (λ (c : Bool). openedIf c opening i (stackIn s top)) (sym h)

@@ -4,7 +4,7 @@ use mathlib.Core.Bool.{Bool, true, false, true≢false, _||_, cond}
 use mathlib.Core.List.{List, [], _∷_}
 use mathlib.Core.Option.{Option, none, some}
 use Prim.{Unit, tt}
-use Prim.Native.Nat.{ℕ, zero, suc, _+_, _-_, _*_, _/_, _%_, _≤_, _<_}
+use Prim.Native.Nat.{ℕ, zero, suc, _+_, _-_, _*_, _≤_, _<_}
 use native.Mathlib.Omega.{arith}
 use borrow.Author.Tests.{ltb-true, ltb-false}
 use lib.Dec.{ltb}
@@ -18,15 +18,15 @@ use Rattle.net_strands.specs.declared.Count.{Count}
 use Rattle.net_strands.specs.declared.Count.the-variants.{Entries, Over}
 use Rattle.net_strands.specs.Entries.{entry, entriesIn, push, andThen, EntriesAs}
 use Rattle.net_strands.specs.Space.{pushedIf, alternativeStacked, strandFrom, strands}
-use Rattle.net_strands.specs.Steps.{stackIn, endsStrand, markOf, openedIf}
+use Rattle.net_strands.specs.Steps.{stackIn, endsStrand, openingOf, openingAt, openingLeft, openedIf}
 use Rattle.net_strands.specs.Walks.{poppedTo, walked, spend}
-use Rattle.net_strands.specs.Log.{strandsColumn, nextsColumn, noteIn}
+use Rattle.net_strands.specs.Log.{strandsColumn, nextsColumn, noteIn, spanBegin, spanEnd}
 use Rattle.net_strands.specs.Given.{pushedAll, nodesIn, WalkGives, CellsGive, Given, pushedKnown}
 use Rattle.net_strands.proofs.Entries.{listed-some, listed-none}
 use Rattle.net_strands.proofs.Stacks.{stack-push, stack-none, stack-pop}
 use Rattle.net_strands.proofs.Targets.{consIf, pushedEach}
 use Rattle.net_strands.proofs.Spending.{spend-short, walk-none, walk-met, walk-ends, walk-on}
-use Rattle.net_strands.proofs.Given.{cells-say}
+use Rattle.net_strands.proofs.Given.{known-is, cells-say}
 use Rattle.net_strands.proofs.Opened.{Item, Alternative, Open, numbersOf, stackOf, openedOn, stackedOn, opened-numbers, stacked-numbers, Rest, Reads, Closes, closes-begun, Opened, opened-on, opened-more, opened-stacked, each-over, Pushed, pushed-more, answer-is}
 
 -- ---- what the slices, and the nexts that may still be read, were when a loop began
@@ -99,9 +99,10 @@ module _ (node : ℕ → EstTime) (nodes : ℕ) (e : LinkEvent) where
   closes-gives v = record { rises = v .inside; inside = omega arith; within = omega (arith, v .most); gives = v .gives }
 
   -- what is noted of a node, where it is looked at
-  pub known-gives : {cells list : List ℕ} {w : Layout} {at here : ℕ} → Given cells w node nodes e list at → here < nodes → (meet : Bool) (known : ℕ) → known ≡ cond meet (noteIn cells w here strandsColumn) 0 → (known ≡ 0 → ⊥) → (nexts : ℕ) → nexts ≡ noteIn cells w here nextsColumn → WalkGives node e list at here ((known - 1) / 2048) ((known - 1) % 2048) nexts
-  known-gives v h false known k z nexts g = absurd (z k)
-  known-gives {cells} {list} {w} {at} {here} v h true known k z nexts g = cells-say node e list at here known nexts z (subst (λ (c : ℕ). CellsGive node e list at here c nexts) (sym k) (subst (CellsGive node e list at here (noteIn cells w here strandsColumn)) (sym g) (v .strands here h)))
+  pub known-gives : {cells list : List ℕ} {w : Layout} {at here : ℕ} → Given cells w node nodes e list at → here < nodes → (meet : Bool) (known : ℕ) → known ≡ cond meet (noteIn cells w here strandsColumn) 0 → (known ≡ 0 → ⊥) → (nexts : ℕ) → nexts ≡ noteIn cells w here nextsColumn → WalkGives node e list at here (spanBegin known) (spanEnd known) nexts
+  known-gives {cells} {list} {w} {at} {here} v h meet known k z nexts g =
+      cells-say node e list at here known nexts z
+      (subst (λ (c : ℕ). CellsGive node e list at here c nexts) (sym (known-is meet known (noteIn cells w here strandsColumn) k z)) (subst (CellsGive node e list at here (noteIn cells w here strandsColumn)) (sym g) (v .strands here h)))
 
 module _ (node : ℕ → EstTime) (nodes : ℕ) (e : LinkEvent) (start n : ℕ) where
   -- A strand is left, and the stack's next is to be walked or closed.
@@ -111,7 +112,7 @@ module _ (node : ℕ → EstTime) (nodes : ℕ) (e : LinkEvent) (start n : ℕ) 
     pub opened : Opened node nodes e start n list at left items (pops node e)
     pub few : at ≤ 1024
     pub most : left ≤ 4096
-    pub room : top + left ≤ 5120
+    pub room : top + left ≤ 4608
 
   -- The walk stands on a node.
   pub record Standing (stack list : List ℕ) (at left top here : ℕ) : Type 0 where
@@ -121,12 +122,12 @@ module _ (node : ℕ → EstTime) (nodes : ℕ) (e : LinkEvent) (start n : ℕ) 
     pub within : here < nodes
     pub few : at ≤ 1024
     pub most : left ≤ 4096
-    pub room : top + left ≤ 5120
+    pub room : top + left ≤ 4608
 
-  -- A node is to be closed: the number on top is its mark, the one below it the node.
-  pub record Closing (stack list : List ℕ) (at left top mark : ℕ) : Type 0 where
+  -- A node is to be closed: the number on top is its opening, the one below it the node.
+  pub record Closing (stack list : List ℕ) (at left top opening : ℕ) : Type 0 where
     pub two : 1 < top
-    pub closes : Closes node nodes e list at left (getD stack (top - 1 - 1) 0) ((mark - 65536) / 4096) ((mark - 65536) % 4096 + 1) (pops node e)
+    pub closes : Closes node nodes e list at left (getD stack (top - 1 - 1) 0) (openingAt opening) (openingLeft opening) (pops node e)
     pub popping : Popping stack list at left (top - 1 - 1)
 
   pub popping-start : (stack list : List ℕ) → start < nodes → 0 < length stack → n ≤ 1024 → Popping (set stack 0 start) list n 4096 1
@@ -148,7 +149,7 @@ module _ (node : ℕ → EstTime) (nodes : ℕ) (e : LinkEvent) (start n : ℕ) 
         go : (xs : List Item) → stackIn stack top ≡ numbersOf xs → Opened node nodes e start n list at left xs (pops node e) → EntriesAs (strands 4096 node e m (strandFrom start (entriesIn list₀ n))) list (Entries at)
         go [] h o = (answer-is node nodes e m start n list₀ list at left [] (pops node e) o p, v .few)
         go (Alternative i ∷ xs) h o = let a = on-top stack top i (numbersOf xs) h .0 in absurd (omega arith)
-        go (Open i begin opened ∷ xs) h o = let a = on-top stack top (markOf begin opened) (i ∷ numbersOf xs) h .0 in absurd (omega arith)
+        go (Open i begin opened ∷ xs) h o = let a = on-top stack top (openingOf begin opened) (i ∷ numbersOf xs) h .0 in absurd (omega arith)
 
     module _ (most : nodes ≤ 65535) (z : 0 < top) where
       -- an alternative is on top: it is walked
@@ -167,9 +168,9 @@ module _ (node : ℕ → EstTime) (nodes : ℕ) (e : LinkEvent) (start n : ℕ) 
                 most = v .most;
                 room = omega (arith, v .room);
               }
-          go (Open i begin opened ∷ xs) h o = let a : getD stack (top - 1) 0 ≡ 65535 + begin * 4096 + opened = on-top stack top (markOf begin opened) (i ∷ numbersOf xs) h .1 .0 in absurd (omega (arith, o .0 .least))
+          go (Open i begin opened ∷ xs) h o = let a : getD stack (top - 1) 0 ≡ 65535 + begin * 4096 + opened = on-top stack top (openingOf begin opened) (i ∷ numbersOf xs) h .1 .0 in absurd (omega (arith, o .0 .least))
 
-      -- a mark is on top
+      -- an opening is on top
       pub popping-closes : 65536 ≤ getD stack (top - 1) 0 → Closing stack list at left top (getD stack (top - 1) 0)
       popping-closes l = go (v .items) (v .holds) (v .opened)
         where
@@ -177,15 +178,15 @@ module _ (node : ℕ → EstTime) (nodes : ℕ) (e : LinkEvent) (start n : ℕ) 
           go [] h o = absurd (subst IsCons (sym (stack-pop stack top z) ∙ h) tt)
           go (Alternative i ∷ xs) h o = let a = on-top stack top i (numbersOf xs) h .1 .0 in let b = o .0 in absurd (omega arith)
           go (Open i begin opened ∷ xs) h o =
-              let a = on-top stack top (markOf begin opened) (i ∷ numbersOf xs) h in
+              let a = on-top stack top (openingOf begin opened) (i ∷ numbersOf xs) h in
               let b = on-top stack (top - 1) i (numbersOf xs) (a .1 .1) in
               let m : getD stack (top - 1) 0 ≡ 65535 + begin * 4096 + opened = a .1 .0 in
-              let f : begin ≡ (getD stack (top - 1) 0 - 65536) / 4096 = omega (arith, o .0 .least, o .0 .most) in
-              let g : opened ≡ (getD stack (top - 1) 0 - 65536) % 4096 + 1 = omega (arith, o .0 .least, o .0 .most) in
+              let f : begin ≡ openingAt (getD stack (top - 1) 0) = omega (arith, o .0 .least, o .0 .most) in
+              let g : opened ≡ openingLeft (getD stack (top - 1) 0) = omega (arith, o .0 .least, o .0 .most) in
               record {
                 two = omega (arith, b .0);
-                closes = subst (λ (j : ℕ). Closes node nodes e list at left j ((getD stack (top - 1) 0 - 65536) / 4096) ((getD stack (top - 1) 0 - 65536) % 4096 + 1) (pops node e)) (sym (b .1 .0))
-                    (subst (λ (j : ℕ). Closes node nodes e list at left i j ((getD stack (top - 1) 0 - 65536) % 4096 + 1) (pops node e)) f (subst (λ (j : ℕ). Closes node nodes e list at left i begin j (pops node e)) g (o .0)));
+                closes = subst (λ (j : ℕ). Closes node nodes e list at left j (openingAt (getD stack (top - 1) 0)) (openingLeft (getD stack (top - 1) 0)) (pops node e)) (sym (b .1 .0))
+                    (subst (λ (j : ℕ). Closes node nodes e list at left i j (openingLeft (getD stack (top - 1) 0)) (pops node e)) f (subst (λ (j : ℕ). Closes node nodes e list at left i begin j (pops node e)) g (o .0)));
                 popping = record { items = xs; holds = b .1 .1; opened = o .1; few = v .few; most = v .most; room = omega (arith, v .room) };
               }
 
@@ -250,7 +251,7 @@ module _ (node : ℕ → EstTime) (nodes : ℕ) (e : LinkEvent) (start n : ℕ) 
       next-within = subst (λ (z : EstTime). z .«idx_next» < nodes) (sym l) (ix .next here (v .within))
 
       -- its own item, and its alternative's, are on the stack
-      module _ (least : left ≡ 0 → ⊥) (b : Bool) (stack₁ : List ℕ) (top₁ : ℕ) (h₁ : stackIn stack₁ top₁ ≡ openedIf b (markOf at left) here (stackIn stack top)) (r₁ : top₁ + left ≤ 5120) (stack₂ : List ℕ) (top₂ : ℕ) (h₂ : stackIn stack₂ top₂ ≡ alternativeStacked (x .«idx_next_alt») (stackIn stack₁ top₁)) (r₂ : top₂ ≤ top₁ + 1) where
+      module _ (least : 0 < left) (b : Bool) (stack₂ : List ℕ) (top₂ : ℕ) (h₂ : stackIn stack₂ top₂ ≡ alternativeStacked (x .«idx_next_alt») (openedIf b (openingOf at left) here (stackIn stack top))) (r₂ : top₂ + left ≤ 4609) where
         -- the items, but for the alternative
         abbrev xs : List Item
         xs = openedOn b here at left (v .items)
@@ -261,7 +262,7 @@ module _ (node : ℕ → EstTime) (nodes : ℕ) (e : LinkEvent) (start n : ℕ) 
         holds₂ : stackIn stack₂ top₂ ≡ numbersOf (stackedOn (x .«idx_next_alt») xs)
         holds₂ =
             h₂
-            ∙ ap (alternativeStacked (x .«idx_next_alt»)) (h₁ ∙ ap (openedIf b (markOf at left) here) (v .holds) ∙ opened-numbers b here at left (v .items))
+            ∙ ap (alternativeStacked (x .«idx_next_alt»)) (ap (openedIf b (openingOf at left) here) (v .holds) ∙ opened-numbers b here at left (v .items))
             ∙ stacked-numbers (x .«idx_next_alt») xs
 
         alt-within : x .«idx_next_alt» < nodes

@@ -4,7 +4,7 @@
 use mathlib.Core.Path.{_≡_}
 use mathlib.Core.Logic.{_≢_, _⊎_}
 use mathlib.Core.List.{List}
-use Prim.Native.Nat.{ℕ, _+_, _*_, _≤_, _<_}
+use Prim.Native.Nat.{ℕ, _+_, _-_, _*_, _/_, _%_, _≤_, _<_}
 use lib.ListN.{getD}
 use Rattle.net_event_map.specs.declared.Layout.{Layout}
 
@@ -33,6 +33,13 @@ noteIn cells w i column = getD cells (cellAt w i column) 0
 -- A span of the new list as a number that is not 0: both of its ends are below 2,048.
 abbrev pub spanNumber : ℕ → ℕ → ℕ
 spanNumber begin end = begin * 2048 + end + 1
+
+-- where the span of such a number begins, and where it ends
+abbrev pub spanBegin : ℕ → ℕ
+spanBegin span = (span - 1) / 2048
+
+abbrev pub spanEnd : ℕ → ℕ
+spanEnd span = (span - 1) % 2048
 
 -- how many names the log has
 abbrev pub logged : List ℕ → Layout → ℕ
@@ -64,5 +71,5 @@ pub record Notes (w : Layout) (i matched strands nexts : ℕ) (cells cells′ : 
 
 -- nothing is noted and nothing is logged
 pub record Ungiven (cells : List ℕ) (w : Layout) : Type 0 where
-  pub cell : (i k : ℕ) → i < w .places → 5 ≤ k → k < 8 → getD cells (w .«nodes_at» + i * 8 + k) 0 ≡ 0
-  pub name : (i : ℕ) → i < w .places → getD cells (w .«nodes_at» + i * 8 + 1) 0 ≡ 0
+  pub cell : (i k : ℕ) → i < w .places → 5 ≤ k → k < 8 → noteIn cells w i k ≡ 0
+  pub name : (i : ℕ) → i < w .places → noteIn cells w i nameColumn ≡ 0

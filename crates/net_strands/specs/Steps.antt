@@ -2,7 +2,7 @@
 -- strand is left, where a node is put on the stack itself, and an entry's new match link.
 use mathlib.Core.Bool.{Bool, true, false, _&&_, _||_}
 use mathlib.Core.List.{List, [], _∷_}
-use Prim.Native.Nat.{ℕ, zero, suc, _+_, _*_, _≤_}
+use Prim.Native.Nat.{ℕ, zero, suc, _+_, _-_, _*_, _/_, _%_, _≤_}
 use lib.Dec.{eqb, ltb}
 use lib.ListN.{length, getD}
 use Rattle.net_node.specs.declared.EstTime.{EstTime}
@@ -29,7 +29,7 @@ pub record WalkRoom (fs : List Float) (us cells stack list : List ℕ) (nodes : 
   pub indexed : Indexed (nodeAt fs us) nodes
   pub within : nodes ≤ w .places
   pub apart : CellsApart cells w
-  pub stack-room : 5120 ≤ length stack
+  pub stack-room : 4608 ≤ length stack
   pub list-room : 2048 ≤ length list
 
 -- "is an Arrive or has no next"
@@ -43,17 +43,24 @@ newMatch false m = 0
 
 -- ---- nodes on the stack that are to be closed: what a node gives is noted when all that it stacked is walked
 
--- The stack has alternatives, which are below 65,536, and marks, each above the node that it is of. The mark says how
--- many entries the new list had and how many nexts were left when the walk came there.
-abbrev pub markOf : ℕ → ℕ → ℕ
-markOf at left = 65535 + at * 4096 + left
+-- The stack has alternatives, which are below 65,536, and openings, each above the node that was opened. An opening
+-- says how many entries the new list had and how many nexts were left when the walk came to the node.
+abbrev pub openingOf : ℕ → ℕ → ℕ
+openingOf at left = 65535 + at * 4096 + left
 
--- A node is opened, where that is wanted, as long as the stack of 5,120 has room for it beside an alternative for each
+-- what it says
+abbrev pub openingAt : ℕ → ℕ
+openingAt opening = (opening - 65536) / 4096
+
+abbrev pub openingLeft : ℕ → ℕ
+openingLeft opening = (opening - 65536) % 4096 + 1
+
+-- A node is opened, where that is wanted, as long as the stack of 4,608 has room for it beside an alternative for each
 -- next that is left.
 unfoldable pub opens : Bool → (left top : ℕ) → Bool
-opens wanted left top = wanted && ltb (top + left + 1) 5120
+opens wanted left top = wanted && ltb (top + left + 1) 4608
 
--- a node and its mark on a stack, if it is opened
+-- a node and its opening on a stack, if it is opened
 abbrev pub openedIf : Bool → ℕ → ℕ → List ℕ → List ℕ
-openedIf true mark i stack = mark ∷ i ∷ stack
-openedIf false mark i stack = stack
+openedIf true opening i stack = opening ∷ i ∷ stack
+openedIf false opening i stack = stack

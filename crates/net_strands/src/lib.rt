@@ -16,8 +16,8 @@ ghost use Rattle.net_strands.specs.Entries.{entry, entryAt, entriesIn, p
 ghost use Rattle.net_strands.specs.Space.{isArrive, pushedIf, alternatives, alternativeStacked, strands};
 ghost use Rattle.net_strands.specs.Space.{strandFrom, followed, extended, extendedAll};
 ghost use Rattle.net_strands.specs.Steps.{stackIn, endsStrand, newMatch, nodesAtEntry, WalkRoom};
-ghost use Rattle.net_strands.specs.Steps.{markOf, opens, openedIf};
-ghost use Rattle.net_strands.specs.Log.{matchedColumn, strandsColumn, noteIn, spanNumber};
+ghost use Rattle.net_strands.specs.Steps.{openingOf, openingAt, openingLeft, opens, openedIf};
+ghost use Rattle.net_strands.specs.Log.{matchedColumn, noteIn, spanNumber, spanBegin, spanEnd};
 ghost use Rattle.net_strands.specs.Log.{LogIn, Touched, Notes, Ungiven};
 ghost use Rattle.net_strands.specs.Given.{pushedAll, nodesIn, pushedKnown, Given, Extends};
 
@@ -68,12 +68,22 @@ pub fn push_entry(list: &mut [u32], n: usize, x: EstJoinPath) -> Count
 }
 
 // Puts an entry behind the n of a list, if it is to be put.
-fn push_if(wanted: bool, list: &mut [u32], n: usize, x: EstJoinPath) -> Count
+fn push_if(
+    wanted: bool,
+    list: &mut [u32],
+    n: usize,
+    link_idx_match: u32,
+    est_idx_next: u32,
+) -> Count
     requires { ⌜ 2048 ≤ length (now list) ⌝ }
     requires { ⌜ n ≤ 1024 ⌝ }
-    ensures { λ r. ⌜ ListBecomes (λ es. pushedIf wanted es x) list n r ⌝ }
+    ensures { λ r. ⌜ ListBecomes (λ es. pushedIf wanted es (entry «link_idx_match» «est_idx_next»)) list n r ⌝ }
 {
     if wanted {
+        let x = EstJoinPath {
+            link_idx_match,
+            est_idx_next,
+        };
         return push_entry(list, n, x);
     }
     Count::Entries(n)
@@ -116,11 +126,7 @@ fn follow_alternatives(
         let next = node.idx_next;
         let there = net_node::load(floats, numbers, next as usize);
         let same = net_node::same_event(there.link_event, event);
-        let x = EstJoinPath {
-            link_idx_match,
-            est_idx_next: next,
-        };
-        let Count::Entries(more) = push_if(same, list, at, x) else {
+        let Count::Entries(more) = push_if(same, list, at, link_idx_match, next) else {
             return Count::Over;
         };
         at = more;
@@ -161,10 +167,10 @@ fn push_span(list: &mut [u32], n: usize, link_idx_match: u32, span: u32) -> Coun
     requires { ⌜ 2048 ≤ length (now list) ⌝ }
     requires { ⌜ n ≤ 1024 ⌝ }
     requires { ⌜ 0 < span ⌝ }
-    requires { ⌜ (span - 1) / 2048 ≤ (span - 1) % 2048 ⌝ }
-    requires { ⌜ (span - 1) % 2048 ≤ n ⌝ }
-    ensures { λ r. ⌜ ListBecomes (pushedAll «link_idx_match» (nodesIn (now (list .entry)) ((span - 1) / 2048)
-        ((span - 1) % 2048 - (span - 1) / 2048))) list n r ⌝ }
+    requires { ⌜ spanBegin span ≤ spanEnd span ⌝ }
+    requires { ⌜ spanEnd span ≤ n ⌝ }
+    ensures { λ r. ⌜ ListBecomes (pushedAll «link_idx_match» (nodesIn (now (list .entry)) (spanBegin span)
+        (spanEnd span - spanBegin span))) list n r ⌝ }
 {
     let c = span as usize - 1;
     push_nodes(list, n, link_idx_match, c / 2048, c % 2048)
@@ -187,6 +193,19 @@ fn noted(cells: &[u32], w: Layout, i: u32, column: usize) -> u32
     ensures { λ r. ⌜ r ≡ noteIn (now (cells .entry)) w i column ⌝ }
 {
     cells[w.nodes_at + i as usize * 8 + column]
+}
+
+// The same where it is looked at, and else 0.
+fn known_span(wanted: bool, cells: &[u32], w: Layout, i: u32, column: usize) -> u32
+    requires { ⌜ CellsApart (now cells) w ⌝ }
+    requires { ⌜ i < w .places ⌝ }
+    requires { ⌜ column < 8 ⌝ }
+    ensures { λ r. ⌜ r ≡ cond wanted (noteIn (now (cells .entry)) w i column) 0 ⌝ }
+{
+    if wanted {
+        return noted(cells, w, i, column);
+    }
+    0
 }
 
 // Notes three numbers of a node and logs it, unless the log is full.
@@ -228,7 +247,8 @@ fn forget_notes(cells: &mut [u32], w: Layout)
     cells[w.nodes_at + NAME] = 0;
 }
 
-// What an entry gives that matches already: worked out and noted, or copied where it is noted.
+// What an entry gives that matches already: worked out and, with several entries in the list, noted, or copied where it
+// is noted.
 fn follow_matched(
     floats: &[f64],
     numbers: &[u32],
@@ -236,6 +256,7 @@ fn follow_matched(
     event: LinkEvent,
     link_idx_match: u32,
     start: u32,
+    several: bool,
     cells: &mut [u32],
     w: Layout,
     list: &mut [u32],
@@ -253,7 +274,7 @@ fn follow_matched(
         (nodesAtEntry floats numbers) nodes event (now (cells .entry)) (now (list .entry)) n (now (cells .exit))
         (now (list .exit)) r ⌝ }
 {
-    let known = noted(cells, w, start, MATCHED);
+    let known = known_span(several, cells, w, start, MATCHED);
     if known != 0 {
         return push_span(list, n, link_idx_match, known);
     }
@@ -270,6 +291,9 @@ fn follow_matched(
     let Count::Entries(more) = followed else {
         return Count::Over;
     };
+    if !several {
+        return Count::Entries(more);
+    }
     let span = span_number(n, more);
     let strands = noted(cells, w, start, STRANDS);
     let nexts = noted(cells, w, start, NEXTS);
@@ -300,17 +324,17 @@ fn ends_strand(node: EstTime) -> bool
     arrive | (node.idx_next == 0)
 }
 
-// Puts a node and its mark on the stack, if it is to be opened.
+// Puts a node and its opening on the stack, if it is to be opened.
 fn open_node(wanted: bool, stack: &mut [u32], top: usize, here: u32, at: usize, left: u32) -> usize
-    requires { ⌜ 5120 ≤ length (now stack) ⌝ }
-    requires { ⌜ top + left ≤ 5120 ⌝ }
+    requires { ⌜ 4608 ≤ length (now stack) ⌝ }
+    requires { ⌜ top + left ≤ 4608 ⌝ }
     requires { ⌜ at ≤ 1024 ⌝ }
-    ensures holds { λ r. ⌜ stackIn (now (stack .exit)) r ≡ openedIf (opens wanted left top) (markOf at left) here
+    ensures holds { λ r. ⌜ stackIn (now (stack .exit)) r ≡ openedIf (opens wanted left top) (openingOf at left) here
         (stackIn (now (stack .entry)) top) ⌝ }
-    ensures room { λ r. ⌜ r + left ≤ 5120 ⌝ }
+    ensures room { λ r. ⌜ r + left ≤ 4608 ⌝ }
     ensures top { λ r. ⌜ r ≤ top + 2 ⌝ }
 {
-    if wanted & (top + left as usize + 1 < 5120) {
+    if wanted & (top + left as usize + 1 < 4608) {
         stack[top] = here;
         stack[top + 1] = 65535 + at as u32 * 4096 + left;
         return top + 2;
@@ -318,17 +342,40 @@ fn open_node(wanted: bool, stack: &mut [u32], top: usize, here: u32, at: usize, 
     top
 }
 
-// A node's mark is on top of the stack: all that it stacked is walked, and what it gives is noted.
-fn close_node(cells: &mut [u32], w: Layout, i: u32, mark: u32, at: usize, left: u32)
+// Puts a node on the stack, if it is to be opened, and its alternative, if it has one.
+fn stack_node(
+    wanted: bool,
+    stack: &mut [u32],
+    top: usize,
+    here: u32,
+    at: usize,
+    left: u32,
+    alt: u32,
+) -> usize
+    requires { ⌜ 4608 ≤ length (now stack) ⌝ }
+    requires { ⌜ top + left ≤ 4608 ⌝ }
+    requires { ⌜ 0 < left ⌝ }
+    requires { ⌜ at ≤ 1024 ⌝ }
+    ensures holds { λ r. ⌜ stackIn (now (stack .exit)) r ≡ alternativeStacked alt
+        (openedIf (opens wanted left top) (openingOf at left) here (stackIn (now (stack .entry)) top)) ⌝ }
+    ensures room { λ r. ⌜ r + left ≤ 4609 ⌝ }
+    ensures top { λ r. ⌜ r ≤ top + 3 ⌝ }
+{
+    let opened = open_node(wanted, stack, top, here, at, left);
+    stack_alternative(stack, opened, alt)
+}
+
+// A node's opening is on top of the stack: all that the node stacked is walked, and what it gives is noted.
+fn close_node(cells: &mut [u32], w: Layout, i: u32, opening: u32, at: usize, left: u32)
     requires { ⌜ CellsApart (now cells) w ⌝ }
     requires { ⌜ i < w .places ⌝ }
-    requires { ⌜ 65536 ≤ mark ⌝ }
+    requires { ⌜ 65536 ≤ opening ⌝ }
     requires { ⌜ at ≤ 1024 ⌝ }
-    requires { ⌜ left ≤ (mark - 65536) % 4096 + 1 ⌝ }
-    ensures { λ _. ⌜ Notes w i (noteIn (now (cells .entry)) w i matchedColumn) (spanNumber ((mark - 65536) / 4096) at)
-        ((mark - 65536) % 4096 + 1 - left) (now (cells .entry)) (now (cells .exit)) ⌝ }
+    requires { ⌜ left ≤ openingLeft opening ⌝ }
+    ensures { λ _. ⌜ Notes w i (noteIn (now (cells .entry)) w i matchedColumn) (spanNumber (openingAt opening) at)
+        (openingLeft opening - left) (now (cells .entry)) (now (cells .exit)) ⌝ }
 {
-    let c = mark - 65536;
+    let c = opening - 65536;
     let begin = (c / 4096) as usize;
     let span = span_number(begin, at);
     let nexts = c % 4096 + 1 - left;
@@ -336,27 +383,15 @@ fn close_node(cells: &mut [u32], w: Layout, i: u32, mark: u32, at: usize, left: 
     note(cells, w, i, matched, span, nexts);
 }
 
-// What is noted of the strands from a node where they may meet: a span, or 0.
-fn known_span(meet: bool, cells: &[u32], w: Layout, i: u32) -> u32
-    requires { ⌜ CellsApart (now cells) w ⌝ }
-    requires { ⌜ i < w .places ⌝ }
-    ensures { λ r. ⌜ r ≡ cond meet (noteIn (now (cells .entry)) w i strandsColumn) 0 ⌝ }
-{
-    if meet {
-        return noted(cells, w, i, STRANDS);
-    }
-    0
-}
-
 // An entry for each node of a span, put behind the n of their list, if the walk may read as many nexts.
 fn push_known(over: bool, list: &mut [u32], n: usize, link_idx_match: u32, span: u32) -> Count
     requires { ⌜ 2048 ≤ length (now list) ⌝ }
     requires { ⌜ n ≤ 1024 ⌝ }
     requires { ⌜ 0 < span ⌝ }
-    requires { ⌜ (span - 1) / 2048 ≤ (span - 1) % 2048 ⌝ }
-    requires { ⌜ (span - 1) % 2048 ≤ n ⌝ }
-    ensures { λ r. ⌜ ListBecomes (pushedKnown over «link_idx_match» (nodesIn (now (list .entry)) ((span - 1) / 2048)
-        ((span - 1) % 2048 - (span - 1) / 2048))) list n r ⌝ }
+    requires { ⌜ spanBegin span ≤ spanEnd span ⌝ }
+    requires { ⌜ spanEnd span ≤ n ⌝ }
+    ensures { λ r. ⌜ ListBecomes (pushedKnown over «link_idx_match» (nodesIn (now (list .entry)) (spanBegin span)
+        (spanEnd span - spanBegin span))) list n r ⌝ }
 {
     if over {
         return Count::Over;
@@ -365,8 +400,8 @@ fn push_known(over: bool, list: &mut [u32], n: usize, link_idx_match: u32, span:
 }
 
 // An entry that does not match yet: strands along nexts, with alternatives stacked, each up to the event, an Arrive, an
-// end, or a node of which it is noted what strands from it give. It is noted of the start, and of nodes where strands
-// can meet: those with a previous alternative.
+// end, or a node of which it is noted what strands from it give. With several entries in the list that is noted of the
+// start, and of nodes where strands can meet: those with a previous alternative.
 fn follow_strands(
     floats: &[f64],
     numbers: &[u32],
@@ -374,6 +409,7 @@ fn follow_strands(
     event: LinkEvent,
     link_idx_match: u32,
     start: u32,
+    several: bool,
     cells: &mut [u32],
     w: Layout,
     stack: &mut [u32],
@@ -403,34 +439,26 @@ fn follow_strands(
             close_node(cells, w, opened, here, at, left);
             continue 'strands;
         }
-        loop {
-            if left == 0 {
-                return Count::Over;
-            }
+        while left > 0 {
             let node = net_node::load(floats, numbers, here as usize);
-            let meet = (node.idx_prev_alt != 0) | (left == 4096);
-            let known = known_span(meet, cells, w, here);
+            let meet = several & ((node.idx_prev_alt != 0) | (left == 4096));
+            let known = known_span(meet, cells, w, here, STRANDS);
             if known != 0 {
                 let nexts = noted(cells, w, here, NEXTS);
-                let Count::Entries(more) = push_known(left < nexts, list, at, link_idx_match, known)
-                else {
+                let copied = push_known(left < nexts, list, at, link_idx_match, known);
+                let Count::Entries(more) = copied else {
                     return Count::Over;
                 };
                 at = more;
                 left -= nexts;
                 continue 'strands;
             }
-            let opened = open_node(meet, stack, top, here, at, left);
-            top = stack_alternative(stack, opened, node.idx_next_alt);
+            top = stack_node(meet, stack, top, here, at, left, node.idx_next_alt);
             left -= 1;
             let next = node.idx_next;
             let there = net_node::load(floats, numbers, next as usize);
             let met = net_node::same_event(there.link_event, event);
-            let x = EstJoinPath {
-                link_idx_match,
-                est_idx_next: next,
-            };
-            let Count::Entries(more) = push_if(met, list, at, x) else {
+            let Count::Entries(more) = push_if(met, list, at, link_idx_match, next) else {
                 return Count::Over;
             };
             at = more;
@@ -440,6 +468,7 @@ fn follow_strands(
             }
             here = next;
         }
+        return Count::Over;
     }
     Count::Entries(at)
 }
@@ -459,6 +488,7 @@ fn follow(
     event: LinkEvent,
     link_idx_match: u32,
     x: EstJoinPath,
+    several: bool,
     cells: &mut [u32],
     w: Layout,
     stack: &mut [u32],
@@ -482,6 +512,7 @@ fn follow(
             event,
             link_idx_match,
             start,
+            several,
             cells,
             w,
             list,
@@ -495,6 +526,7 @@ fn follow(
         event,
         link_idx_match,
         start,
+        several,
         cells,
         w,
         stack,
@@ -511,6 +543,7 @@ fn extend(
     event: LinkEvent,
     seen: bool,
     x: EstJoinPath,
+    several: bool,
     cells: &mut [u32],
     w: Layout,
     stack: &mut [u32],
@@ -547,6 +580,7 @@ fn extend(
         event,
         new,
         x,
+        several,
         cells,
         w,
         stack,
@@ -591,6 +625,7 @@ fn extend_all(
             event,
             seen,
             x,
+            count > 1,
             cells,
             w,
             stack,

@@ -39,19 +39,19 @@ extend-requires c κs =
     (room-same (v .same) (r .0), (entry-valid _ _ _ _ _ (r .1 .0) (c .before .before .before .before .loop-test .taken) (c .before .before .before .entry-at .ensures), (v .gathered .few, v .noted .given)))
 
 same-length : tie.Need-same-length Inv-loop μ-loop
-same-length c = c .before .before .before .before .before .before .before .before .extend .kept .1 .1 .1 .1 .1 .1 .0 ∙ c .before .before .before .before .before .before .before .before .before .before .before .before .before .before .loop .inv .same .cells-same
+same-length c = c .before .before .before .before .before .before .before .before .extend .kept .1 .1 .1 .1 .1 .1 .1 .0 ∙ c .before .before .before .before .before .before .before .before .before .before .before .before .before .before .loop .inv .same .cells-same
 
 same-length-2 : tie.Need-same-length-2 Inv-loop μ-loop
-same-length-2 c = c .before .before .before .before .before .before .before .before .extend .kept .1 .1 .1 .1 .1 .1 .1 .1 .0 ∙ c .before .before .before .before .before .before .before .before .before .before .before .before .before .before .loop .inv .same .stack-same
+same-length-2 c = c .before .before .before .before .before .before .before .before .extend .kept .1 .1 .1 .1 .1 .1 .1 .1 .1 .0 ∙ c .before .before .before .before .before .before .before .before .before .before .before .before .before .before .loop .inv .same .stack-same
 
 same-length-3 : tie.Need-same-length-3 Inv-loop μ-loop
-same-length-3 c = c .before .before .before .before .before .before .before .before .extend .kept .1 .1 .1 .1 .1 .1 .1 .1 .1 .0 ∙ c .before .before .before .before .before .before .before .before .before .before .before .before .before .before .loop .inv .same .list-same
+same-length-3 c = c .before .before .before .before .before .before .before .before .extend .kept .1 .1 .1 .1 .1 .1 .1 .1 .1 .1 .0 ∙ c .before .before .before .before .before .before .before .before .before .before .before .before .before .before .loop .inv .same .list-same
 
 returns : tie.Need-returns Inv-loop μ-loop
 returns c =
     let v = c .before .before .before .before .before .before .before .before .before .before .before .before .before .before .loop .inv in
     let x = c .before .before .before .before .before .before .before .before .extend in (
-      gathering-over (v .gathered) (c .before .before .before .before .before .before .before .before .before .before .before .before .before .loop-test .taken) _ (c .before .before .before .before .before .before .before .before .before .before .before .before .entry-at .ensures) (x .last .1 .1 .1 .1 .1 .1 .1 .1 .1 .0) (x .result) (x .ensures .answer) (c .enum-told .given .1),
+      gathering-over (v .gathered) (c .before .before .before .before .before .before .before .before .before .before .before .before .before .loop-test .taken) _ (c .before .before .before .before .before .before .before .before .before .before .before .before .entry-at .ensures) (x .last .1 .1 .1 .1 .1 .1 .1 .1 .1 .1 .0) (x .result) (x .ensures .answer) (c .enum-told .given .1),
       x .ensures .touched _ (v .noted .touched),
     )
 
@@ -66,10 +66,10 @@ loop-again c =
     let a = c .before .before .before .before .before .before .before .before .before .before .before .before .before .before .before .before .before .before .before .before .before .before .args in
     let v = c .before .before .before .before .before .before .before .before .before .before .before .before .before .before .before .loop .inv in
     let x = c .before .before .before .before .before .before .before .before .before .extend in
-    let l = x .kept .1 .1 .1 .1 .1 .1 in
+    let l = x .kept .1 .1 .1 .1 .1 .1 .1 in
     record {
       same = record { cells-same = l .0 ∙ v .same .cells-same; stack-same = l .1 .1 .0 ∙ v .same .stack-same; list-same = l .1 .1 .1 .0 ∙ v .same .list-same };
-      gathered = gathering-on (v .gathered) (c .before .before .before .before .before .before .before .before .before .before .before .before .before .before .loop-test .taken) _ (c .before .before .before .before .before .before .before .before .before .before .before .before .before .entry-at .ensures) (x .last .1 .1 .1 .1 .1 .1 .1 .1 .1 .0) (x .result) (x .ensures .answer) (c .before .extended .given .0 .0) (c .before .extended .given .1);
+      gathered = gathering-on (v .gathered) (c .before .before .before .before .before .before .before .before .before .before .before .before .before .before .loop-test .taken) _ (c .before .before .before .before .before .before .before .before .before .before .before .before .before .entry-at .ensures) (x .last .1 .1 .1 .1 .1 .1 .1 .1 .1 .1 .0) (x .result) (x .ensures .answer) (c .before .extended .given .0 .0) (c .before .extended .given .1);
       noted = noting-on (v .noted) {rule = extended (nodeAt (a .floats .now) (a .numbers .now)) (a .nodes) (a .event) (a .seen) (c .before .before .before .before .before .before .before .before .before .before .before .before .before .entry-at .result)} (x .ensures) (c .before .extended .given .0 .0) (c .before .extended .given .1);
     }
 

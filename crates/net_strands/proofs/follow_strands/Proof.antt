@@ -1,10 +1,10 @@
 -- `net_strands::follow_strands` meets its contract: `Popping` is what the outer loop keeps, and `Standing` what the inner one does; beside them the entries that were pushed since each loop began, and what the cells say.
 use borrow.Author.Needs.{needs}
 use mathlib.Core.Path.{_≡_, refl, sym, _∙_}
-use mathlib.Core.Bool.{Bool, not, _||_}
+use mathlib.Core.Bool.{Bool, not, _&&_, _||_}
 use mathlib.Core.List.{List}
 use Prim.{tt}
-use Prim.Native.Nat.{ℕ, _+_, _-_, _*_, _/_, _%_, _≤_, _<_}
+use Prim.Native.Nat.{ℕ, _+_, _-_, _*_, _≤_, _<_}
 use native.Mathlib.Omega.{arith}
 use lib.Dec.{eqb}
 use lib.ListN.{length, getD, length-set}
@@ -12,9 +12,8 @@ use Rattle.net_node.specs.declared.EstTime.{EstTime}
 use Rattle.net_node.specs.Table.{nodeAt}
 use Rattle.net_event_map.specs.EventMap.{CellsApart}
 use Rattle.net_event_map.proofs.Kept.{apart-same}
-use Rattle.net_strands.specs.Entries.{entry}
 use Rattle.net_strands.specs.Steps.{opens}
-use Rattle.net_strands.specs.Log.{Touched}
+use Rattle.net_strands.specs.Log.{spanBegin, spanEnd, Touched}
 use Rattle.net_strands.specs.Given.{WalkGives, Given}
 use Rattle.net_strands.proofs.Given.{given-kept, given-noted, cells-said}
 use Rattle.net_strands.proofs.Opened.{Pushed, pushed-start, pushed-then}
@@ -23,25 +22,25 @@ use Rattle.net_strands.proofs.follow_strands.Statement.{statement}
 use Rattle.net_strands.proofs.follow_strands.Tie as tie
 
 abbrev Inv-loop : tie.InvT-loop
-Inv-loop floats numbers nodes event m start cells w stack₀ list₀ n at₀ left₀ top₀ here₀ stack list at left top here =
+Inv-loop floats numbers nodes event m start several cells w stack₀ list₀ n at₀ left₀ top₀ here₀ stack list at left top here =
     Since stack₀ list₀ left₀ top₀ stack list left top × Standing (nodeAt floats numbers) nodes event start n stack list at left top here × Pushed m list₀ at₀ list at
 
 abbrev μ-loop : tie.MeasureT-loop
-μ-loop floats numbers nodes event m start cells w stack₀ list₀ n at₀ left₀ top₀ here₀ stack list at left top here = left
+μ-loop floats numbers nodes event m start several cells w stack₀ list₀ n at₀ left₀ top₀ here₀ stack list at left top here = left
 
 abbrev Inv-strands : tie.InvT-strands
-Inv-strands floats numbers nodes event m start cells₀ w stack₀ list₀ n at₀ left₀ top₀ cells stack list at left top =
+Inv-strands floats numbers nodes event m start several cells₀ w stack₀ list₀ n at₀ left₀ top₀ cells stack list at left top =
     Since stack₀ list₀ left₀ top₀ stack list left top × (length cells ≡ length cells₀) × Popping (nodeAt floats numbers) nodes event start n stack list at left top × Pushed m list₀ n list at
     × Given cells w (nodeAt floats numbers) nodes event list at × ((z : List ℕ) → Touched w z cells₀ → Touched w z cells)
 
 abbrev μ-strands : tie.MeasureT-strands
-μ-strands floats numbers nodes event m start cells₀ w stack₀ list₀ n at₀ left₀ top₀ cells stack list at left top = left * 4 + top
+μ-strands floats numbers nodes event m start several cells₀ w stack₀ list₀ n at₀ left₀ top₀ cells stack list at left top = left * 4 + top
 
 -- ---- what is known in the loops
 
 -- where strands may meet
-abbrev meet : EstTime → ℕ → Bool
-meet x left = not (eqb (x .«idx_prev_alt») 0) || eqb left 4096
+abbrev meet : Bool → EstTime → ℕ → Bool
+meet several x left = several && (not (eqb (x .«idx_prev_alt») 0) || eqb left 4096)
 
 abbrev node : tie.Start Inv-loop μ-loop Inv-strands μ-strands → ℕ → EstTime
 node a = nodeAt (a .args .floats .now) (a .args .numbers .now)
@@ -53,7 +52,7 @@ stack-outer c = c .strands .inv .0 .stack-length ∙ length-set (c .before .befo
 apart-outer : (c : tie.At-strands Inv-loop μ-loop Inv-strands μ-strands) → CellsApart (c .strands .cells) (c .before .before .before .before .before .before .args .w)
 apart-outer c = apart-same (c .strands .inv .1) (c .before .before .before .before .before .before .pre .0 .apart)
 
--- a mark is on top of the stack
+-- an opening is on top of the stack
 closing : (c : tie.Then1 Inv-loop μ-loop Inv-strands μ-strands) → Closing (node (c .before .before .before .before .before .before .before .before .before)) (c .before .before .before .before .before .before .before .before .before .args .nodes) (c .before .before .before .before .before .before .before .before .before .args .event) (c .before .before .before .before .before .before .before .before .before .args .start) (c .before .before .before .before .before .before .before .before .before .args .n) (c .before .before .before .strands .stack) (c .before .before .before .strands .list) (c .before .before .before .strands .at) (c .before .before .before .strands .left) (c .before .before .before .strands .top) (getD (c .before .before .before .strands .stack) (c .before .before .before .strands .top - 1) 0)
 closing c = popping-closes _ _ _ _ _ (c .before .before .before .strands .inv .2) (c .before .before .before .before .before .before .before .before .before .pre .0 .table .most) (c .before .before .strands-test .taken) (c .if1 .taken)
 
@@ -123,18 +122,6 @@ loop-holds c =
     let v = c .before .before .before .strands .inv in
     (since-begun _ _ _ _, popping-on _ _ _ _ _ (v .2) (c .before .before .before .before .before .before .before .before .before .pre .0 .table .most) (c .before .before .strands-test .taken) (omega (arith, c .if1 .left)), pushed-start _ _ _ (v .2 .few))
 
-same-length : tie.Need-same-length Inv-loop μ-loop Inv-strands μ-strands
-same-length c = c .before .before .before .before .before .strands .inv .1
-
-same-length-2 : tie.Need-same-length-2 Inv-loop μ-loop Inv-strands μ-strands
-same-length-2 c = stack-inner (c .before)
-
-same-length-3 : tie.Need-same-length-3 Inv-loop μ-loop Inv-strands μ-strands
-same-length-3 c = list-inner (c .before)
-
-returns : tie.Need-returns Inv-loop μ-loop Inv-strands μ-strands
-returns c = record { answer = standing-over _ _ _ _ _ (c .before .loop .inv .1) _ _ (whole (c .before)) (c .if2 .taken); given = tt; touched = c .before .before .before .before .before .strands .inv .5 }
-
 load-requires : tie.Need-load-requires Inv-loop μ-loop Inv-strands μ-strands
 load-requires c κs =
     let h = c .before .loop .inv .1 .within in
@@ -142,44 +129,40 @@ load-requires c κs =
     (omega (arith, h, r .floats), omega (arith, h, r .numbers))
 
 known-span-requires : tie.Need-known-span-requires Inv-loop μ-loop Inv-strands μ-strands
-known-span-requires c κs = (apart-outer (c .before .before .before .before .before .before .before .before), omega (arith, c .before .before .before .before .loop .inv .1 .within, c .before .before .before .before .before .before .before .before .before .before .before .before .before .before .pre .0 .within))
+known-span-requires c κs = (apart-outer (c .before .before .before .before .before .before .before .before), (omega (arith, c .before .before .before .before .loop .inv .1 .within, c .before .before .before .before .before .before .before .before .before .before .before .before .before .before .pre .0 .within), omega arith))
 
 noted-requires : tie.Need-noted-requires Inv-loop μ-loop Inv-strands μ-strands
 noted-requires c κs = (apart-outer (c .before .before .before .before .before .before .before .before .before .before .before), (omega (arith, c .before .before .before .before .before .before .before .loop .inv .1 .within, c .before .before .before .before .before .before .before .before .before .before .before .before .before .before .before .before .before .pre .0 .within), omega arith))
 
 -- what is noted of the node
-known : (c : tie.After-noted Inv-loop μ-loop Inv-strands μ-strands) → WalkGives (node (c .before .before .before .before .before .before .before .before .before .before .before .before .before .before .before .before .before .before)) (c .before .before .before .before .before .before .before .before .before .before .before .before .before .before .before .before .before .before .args .event) (c .before .before .before .before .before .before .before .before .loop .list) (c .before .before .before .before .before .before .before .before .loop .at) (c .before .before .before .before .before .before .before .before .loop .here) ((c .before .before .before .known-span .result - 1) / 2048) ((c .before .before .before .known-span .result - 1) % 2048) (c .noted .result)
-known c = known-gives _ _ _ (says (c .before .before .before .before .before .before .before .before)) (c .before .before .before .before .before .before .before .before .loop .inv .1 .within) (meet (c .before .before .before .before .before .before .load .result) (c .before .before .before .before .before .before .before .before .loop .left)) (c .before .before .before .known-span .result) (c .before .before .before .known-span .ensures) (c .before .before .if3 .taken) (c .noted .result) (c .noted .ensures)
+known : (c : tie.After-noted Inv-loop μ-loop Inv-strands μ-strands) → WalkGives (node (c .before .before .before .before .before .before .before .before .before .before .before .before .before .before .before .before .before .before)) (c .before .before .before .before .before .before .before .before .before .before .before .before .before .before .before .before .before .before .args .event) (c .before .before .before .before .before .before .before .before .loop .list) (c .before .before .before .before .before .before .before .before .loop .at) (c .before .before .before .before .before .before .before .before .loop .here) (spanBegin (c .before .before .before .known-span .result)) (spanEnd (c .before .before .before .known-span .result)) (c .noted .result)
+known c =
+    known-gives _ _ _ (says (c .before .before .before .before .before .before .before .before)) (c .before .before .before .before .before .before .before .before .loop .inv .1 .within) (meet (c .before .before .before .before .before .before .before .before .before .before .before .before .before .before .before .before .before .before .args .several) (c .before .before .before .before .before .before .load .result) (c .before .before .before .before .before .before .before .before .loop .left)) (c .before .before .before .known-span .result) (c .before .before .before .known-span .ensures) (c .before .before .if2 .taken) (c .noted .result) (c .noted .ensures)
 
 push-known-requires : tie.Need-push-known-requires Inv-loop μ-loop Inv-strands μ-strands
 push-known-requires c κs =
     let g = known (c .before) in
-    (omega (arith, list-inner (c .before .before .before .before .before .before .before .before .before), c .before .before .before .before .before .before .before .before .before .before .before .before .before .before .before .before .before .before .before .pre .0 .list-room), (c .before .before .before .before .before .before .before .before .before .loop .inv .1 .few, (omega (arith, c .before .before .before .if3 .taken), (g .rises, g .inside))))
+    (omega (arith, list-inner (c .before .before .before .before .before .before .before .before .before), c .before .before .before .before .before .before .before .before .before .before .before .before .before .before .before .before .before .before .before .pre .0 .list-room), (c .before .before .before .before .before .before .before .before .before .loop .inv .1 .few, (omega (arith, c .before .before .before .if2 .taken), (g .rises, g .inside))))
 
-same-length-4 : tie.Need-same-length-4 Inv-loop μ-loop Inv-strands μ-strands
-same-length-4 c = c .before .before .before .before .before .before .before .before .before .before .before .before .before .before .before .before .before .before .strands .inv .1
+same-length : tie.Need-same-length Inv-loop μ-loop Inv-strands μ-strands
+same-length c = c .before .before .before .before .before .before .before .before .before .before .before .before .before .before .before .before .before .before .strands .inv .1
 
-same-length-5 : tie.Need-same-length-5 Inv-loop μ-loop Inv-strands μ-strands
-same-length-5 c = stack-inner (c .before .before .before .before .before .before .before .before .before .before .before .before .before .before)
+same-length-2 : tie.Need-same-length-2 Inv-loop μ-loop Inv-strands μ-strands
+same-length-2 c = stack-inner (c .before .before .before .before .before .before .before .before .before .before .before .before .before .before)
 
-same-length-6 : tie.Need-same-length-6 Inv-loop μ-loop Inv-strands μ-strands
-same-length-6 c = c .before .before .before .before .push-known .kept .1 .0 ∙ list-inner (c .before .before .before .before .before .before .before .before .before .before .before .before .before .before)
+same-length-3 : tie.Need-same-length-3 Inv-loop μ-loop Inv-strands μ-strands
+same-length-3 c = c .before .before .before .before .push-known .kept .1 .0 ∙ list-inner (c .before .before .before .before .before .before .before .before .before .before .before .before .before .before)
 
-returns-2 : tie.Need-returns-2 Inv-loop μ-loop Inv-strands μ-strands
-returns-2 c =
+returns : tie.Need-returns Inv-loop μ-loop Inv-strands μ-strands
+returns c =
     let p = c .before .before .before .before .push-known in
-    let g = known (c .before .before .before .before .before .before) in
-    record {
-      answer = known-over _ _ _ _ _ (c .before .before .before .before .before .before .before .before .before .before .before .before .before .before .loop .inv .1) g _ (p .last .1 .0) (p .result) (p .ensures) _ (whole (c .before .before .before .before .before .before .before .before .before .before .before .before .before .before)) (c .enum-told .given .1);
-      given = tt;
-      touched = c .before .before .before .before .before .before .before .before .before .before .before .before .before .before .before .before .before .before .strands .inv .5;
-    }
+    record { answer = known-over _ _ _ _ _ (c .before .before .before .before .before .before .before .before .before .before .before .before .before .before .loop .inv .1) (known (c .before .before .before .before .before .before)) _ (p .last .1 .0) (p .result) (p .ensures) _ (whole (c .before .before .before .before .before .before .before .before .before .before .before .before .before .before)) (c .enum-told .given .1); given = tt; touched = c .before .before .before .before .before .before .before .before .before .before .before .before .before .before .before .before .before .before .strands .inv .5 }
 
 -- the nodes that were noted are pushed
-copied : (c : tie.After-known-told Inv-loop μ-loop Inv-strands μ-strands) → (c .before .before .before .before .before .before .before .noted .result ≤ c .before .before .before .before .before .before .before .before .before .before .before .before .before .before .before .loop .left) × (Popping (node (c .before .before .before .before .before .before .before .before .before .before .before .before .before .before .before .before .before .before .before .before .before .before .before .before .before)) (c .before .before .before .before .before .before .before .before .before .before .before .before .before .before .before .before .before .before .before .before .before .before .before .before .before .args .nodes) (c .before .before .before .before .before .before .before .before .before .before .before .before .before .before .before .before .before .before .before .before .before .before .before .before .before .args .event) (c .before .before .before .before .before .before .before .before .before .before .before .before .before .before .before .before .before .before .before .before .before .before .before .before .before .args .start) (c .before .before .before .before .before .before .before .before .before .before .before .before .before .before .before .before .before .before .before .before .before .before .before .before .before .args .n) (c .before .before .before .before .before .before .before .before .before .before .before .before .before .before .before .loop .stack) (c .before .before .before .before .before .push-known .last .1 .0) (c .before .more .given .0 .0) (c .before .before .before .before .before .before .before .before .before .before .before .before .before .before .before .loop .left - c .before .before .before .before .before .before .before .noted .result) (c .before .before .before .before .before .before .before .before .before .before .before .before .before .before .before .loop .top) × Pushed (c .before .before .before .before .before .before .before .before .before .before .before .before .before .before .before .before .before .before .before .before .before .before .before .before .before .args .link-idx-match) (c .before .before .before .before .before .before .before .before .before .before .before .before .before .before .before .loop .list) (c .before .before .before .before .before .before .before .before .before .before .before .before .before .before .before .loop .at) (c .before .before .before .before .before .push-known .last .1 .0) (c .before .more .given .0 .0))
+copied : (c : tie.After-known-told Inv-loop μ-loop Inv-strands μ-strands) → (c .before .before .before .before .before .before .before .noted .result ≤ c .before .before .before .before .before .before .before .before .before .before .before .before .before .before .before .loop .left) × (Popping (node (c .before .before .before .before .before .before .before .before .before .before .before .before .before .before .before .before .before .before .before .before .before .before .before .before .before)) (c .before .before .before .before .before .before .before .before .before .before .before .before .before .before .before .before .before .before .before .before .before .before .before .before .before .args .nodes) (c .before .before .before .before .before .before .before .before .before .before .before .before .before .before .before .before .before .before .before .before .before .before .before .before .before .args .event) (c .before .before .before .before .before .before .before .before .before .before .before .before .before .before .before .before .before .before .before .before .before .before .before .before .before .args .start) (c .before .before .before .before .before .before .before .before .before .before .before .before .before .before .before .before .before .before .before .before .before .before .before .before .before .args .n) (c .before .before .before .before .before .before .before .before .before .before .before .before .before .before .before .loop .stack) (c .before .before .before .before .before .push-known .last .1 .0) (c .before .copied .given .0 .0) (c .before .before .before .before .before .before .before .before .before .before .before .before .before .before .before .loop .left - c .before .before .before .before .before .before .before .noted .result) (c .before .before .before .before .before .before .before .before .before .before .before .before .before .before .before .loop .top) × Pushed (c .before .before .before .before .before .before .before .before .before .before .before .before .before .before .before .before .before .before .before .before .before .before .before .before .before .args .link-idx-match) (c .before .before .before .before .before .before .before .before .before .before .before .before .before .before .before .loop .list) (c .before .before .before .before .before .before .before .before .before .before .before .before .before .before .before .loop .at) (c .before .before .before .before .before .push-known .last .1 .0) (c .before .copied .given .0 .0))
 copied c =
     let p = c .before .before .before .before .before .push-known in
-    known-pushed _ _ _ _ _ (c .before .before .before .before .before .before .before .before .before .before .before .before .before .before .before .loop .inv .1) (known (c .before .before .before .before .before .before .before)) _ (p .last .1 .0) (p .result) (p .ensures) (c .before .more .given .0 .0) (c .before .more .given .1)
+    known-pushed _ _ _ _ _ (c .before .before .before .before .before .before .before .before .before .before .before .before .before .before .before .loop .inv .1) (known (c .before .before .before .before .before .before .before)) _ (p .last .1 .0) (p .result) (p .ensures) (c .before .copied .given .0 .0) (c .before .copied .given .1)
 
 sub-left : tie.Need-sub-left Inv-loop μ-loop Inv-strands μ-strands
 sub-left c = omega (arith, copied c .0)
@@ -201,74 +184,81 @@ strands-again-2 c =
       v .5,
     )
 
-open-node-requires : tie.Need-open-node-requires Inv-loop μ-loop Inv-strands μ-strands
-open-node-requires c κs = (omega (arith, stack-inner (c .before .before .before .before .before .before .before), c .before .before .before .before .before .before .before .before .before .before .before .before .before .before .before .before .before .pre .0 .stack-room), (c .before .before .before .before .before .before .before .loop .inv .1 .room, c .before .before .before .before .before .before .before .loop .inv .1 .few))
-
-stack-alternative-requires : tie.Need-stack-alternative-requires Inv-loop μ-loop Inv-strands μ-strands
-stack-alternative-requires c κs = omega (arith, c .before .before .before .open-node .ensures .1 .0, c .before .before .before .open-node .kept .1 .0, c .before .before .before .before .before .before .before .before .before .before .if2 .left, stack-inner (c .before .before .before .before .before .before .before .before .before .before .before), c .before .before .before .before .before .before .before .before .before .before .before .before .before .before .before .before .before .before .before .before .before .pre .0 .stack-room)
+stack-node-requires : tie.Need-stack-node-requires Inv-loop μ-loop Inv-strands μ-strands
+stack-node-requires c κs = (omega (arith, stack-inner (c .before .before .before .before .before .before .before), c .before .before .before .before .before .before .before .before .before .before .before .before .before .before .before .before .before .pre .0 .stack-room), (c .before .before .before .before .before .before .before .loop .inv .1 .room, (c .before .before .before .before .before .before .loop-test .taken, c .before .before .before .before .before .before .before .loop .inv .1 .few)))
 
 load-requires-2 : tie.Need-load-requires-2 Inv-loop μ-loop Inv-strands μ-strands
 load-requires-2 c κs =
-    let r = c .before .before .before .before .before .before .before .before .before .before .before .before .before .before .before .before .before .before .before .before .before .before .before .before .pre .0 in
-    let h = next-within _ _ _ _ _ (c .before .before .before .before .before .before .before .before .before .before .before .before .before .before .loop .inv .1) (r .indexed) _ (c .before .before .before .before .before .before .before .before .before .before .before .before .load .ensures) in
+    let r = c .before .before .before .before .before .before .before .before .before .before .before .before .before .before .before .before .before .before .before .before .pre .0 in
+    let h = next-within _ _ _ _ _ (c .before .before .before .before .before .before .before .before .before .before .loop .inv .1) (r .indexed) _ (c .before .before .before .before .before .before .before .before .load .ensures) in
     (omega (arith, h, r .table .floats), omega (arith, h, r .table .numbers))
 
 push-if-requires : tie.Need-push-if-requires Inv-loop μ-loop Inv-strands μ-strands
-push-if-requires c κs = (omega (arith, list-inner (c .before .before .before .before .before .before .before .before .before .before .before .before .before .before .before .before .before), c .before .before .before .before .before .before .before .before .before .before .before .before .before .before .before .before .before .before .before .before .before .before .before .before .before .before .before .pre .0 .list-room), c .before .before .before .before .before .before .before .before .before .before .before .before .before .before .before .before .before .loop .inv .1 .few)
+push-if-requires c κs = (omega (arith, list-inner (c .before .before .before .before .before .before .before .before .before .before .before .before .before), c .before .before .before .before .before .before .before .before .before .before .before .before .before .before .before .before .before .before .before .before .before .before .before .pre .0 .list-room), c .before .before .before .before .before .before .before .before .before .before .before .before .before .loop .inv .1 .few)
 
 -- the next was read, and is pushed if it has the event
-turned : (c : tie.After-slice-known10 Inv-loop μ-loop Inv-strands μ-strands) → Turned (node (c .before .before .before .before .before .before .before .before .before .before .before .before .before .before .before .before .before .before .before .before .before .before .before .before .before .before .before .before .before .before)) (c .before .before .before .before .before .before .before .before .before .before .before .before .before .before .before .before .before .before .before .before .before .before .before .before .before .before .before .before .before .before .args .nodes) (c .before .before .before .before .before .before .before .before .before .before .before .before .before .before .before .before .before .before .before .before .before .before .before .before .before .before .before .before .before .before .args .event) (c .before .before .before .before .before .before .before .before .before .before .before .before .before .before .before .before .before .before .before .before .before .before .before .before .before .before .before .before .before .before .args .start) (c .before .before .before .before .before .before .before .before .before .before .before .before .before .before .before .before .before .before .before .before .before .before .before .before .before .before .before .before .before .before .args .n) (c .before .before .before .before .before .before .before .before .before .before .before .before .before .before .before .before .before .before .before .before .before .before .before .before .before .before .before .before .before .before .args .link-idx-match) (c .before .before .before .before .before .before .before .before .before .before .before .before .before .before .before .before .before .before .before .before .loop .list) (c .before .before .before .before .before .before .before .before .before .before .before .before .before .before .before .before .before .before .before .before .loop .at) (c .before .before .before .before .before .before .before .before .before .before .before .before .before .before .before .before .before .before .before .before .loop .left) (c .before .before .before .before .before .before .before .before .before .before .before .before .before .before .before .before .before .before .load .result .«idx_next») (c .before .before .before .before .before .before .before .before .stack-alternative .last .0) (c .before .before .before .before .before .before .before .before .stack-alternative .result) (c .before .before .before .before .before .load2 .result) (c .before .before .before .before .same-event .result) (c .before .before .push-if .last .1 .0) (c .before .before .push-if .result)
-unfolding entry
+turned : (c : tie.After-slice-known9 Inv-loop μ-loop Inv-strands μ-strands) → Turned (node (c .before .before .before .before .before .before .before .before .before .before .before .before .before .before .before .before .before .before .before .before .before .before .before .before .before .before)) (c .before .before .before .before .before .before .before .before .before .before .before .before .before .before .before .before .before .before .before .before .before .before .before .before .before .before .args .nodes) (c .before .before .before .before .before .before .before .before .before .before .before .before .before .before .before .before .before .before .before .before .before .before .before .before .before .before .args .event) (c .before .before .before .before .before .before .before .before .before .before .before .before .before .before .before .before .before .before .before .before .before .before .before .before .before .before .args .start) (c .before .before .before .before .before .before .before .before .before .before .before .before .before .before .before .before .before .before .before .before .before .before .before .before .before .before .args .n) (c .before .before .before .before .before .before .before .before .before .before .before .before .before .before .before .before .before .before .before .before .before .before .before .before .before .before .args .link-idx-match) (c .before .before .before .before .before .before .before .before .before .before .before .before .before .before .before .before .loop .list) (c .before .before .before .before .before .before .before .before .before .before .before .before .before .before .before .before .loop .at) (c .before .before .before .before .before .before .before .before .before .before .before .before .before .before .before .before .loop .left) (c .before .before .before .before .before .before .before .before .before .before .before .before .before .before .load .result .«idx_next») (c .before .before .before .before .before .before .before .before .stack-node .last .1 .0) (c .before .before .before .before .before .before .before .before .stack-node .result) (c .before .before .before .before .before .load2 .result) (c .before .before .before .before .same-event .result) (c .before .before .push-if .last .1 .0) (c .before .before .push-if .result)
 turned c =
-    let o = c .before .before .before .before .before .before .before .before .before .before .before .before .open-node in
-    let s = c .before .before .before .before .before .before .before .before .stack-alternative in
+    let s = c .before .before .before .before .before .before .before .before .stack-node in
     let p = c .before .before .push-if in
-    standing-turned _ _ _ _ _ (c .before .before .before .before .before .before .before .before .before .before .before .before .before .before .before .before .before .before .before .before .loop .inv .1) (c .before .before .before .before .before .before .before .before .before .before .before .before .before .before .before .before .before .before .before .before .before .before .before .before .before .before .before .before .before .before .pre .0 .indexed) _ (c .before .before .before .before .before .before .before .before .before .before .before .before .before .before .before .before .before .before .load .ensures) (c .before .before .before .before .before .before .before .before .before .before .before .before .before .before .before .before .before .before .before .if2 .left) (opens (meet (c .before .before .before .before .before .before .before .before .before .before .before .before .before .before .before .before .before .before .load .result) (c .before .before .before .before .before .before .before .before .before .before .before .before .before .before .before .before .before .before .before .before .loop .left)) (c .before .before .before .before .before .before .before .before .before .before .before .before .before .before .before .before .before .before .before .before .loop .left) (c .before .before .before .before .before .before .before .before .before .before .before .before .before .before .before .before .before .before .before .before .loop .top)) (o .last .1 .0) (o .result) (o .ensures .0) (o .ensures .1 .0) (s .last .0) (s .result) (s .ensures .0) (s .ensures .1) _ (c .before .before .before .before .before .load2 .ensures) _ _ (sym (c .before .before .before .before .same-event .ensures)) (p .last .1 .0) (p .result) (p .ensures)
+    standing-turned _ _ _ _ _ (c .before .before .before .before .before .before .before .before .before .before .before .before .before .before .before .before .loop .inv .1) (c .before .before .before .before .before .before .before .before .before .before .before .before .before .before .before .before .before .before .before .before .before .before .before .before .before .before .pre .0 .indexed) _ (c .before .before .before .before .before .before .before .before .before .before .before .before .before .before .load .ensures) (c .before .before .before .before .before .before .before .before .before .before .before .before .before .before .before .loop-test .taken) (opens (meet (c .before .before .before .before .before .before .before .before .before .before .before .before .before .before .before .before .before .before .before .before .before .before .before .before .before .before .args .several) (c .before .before .before .before .before .before .before .before .before .before .before .before .before .before .load .result) (c .before .before .before .before .before .before .before .before .before .before .before .before .before .before .before .before .loop .left)) (c .before .before .before .before .before .before .before .before .before .before .before .before .before .before .before .before .loop .left) (c .before .before .before .before .before .before .before .before .before .before .before .before .before .before .before .before .loop .top)) (s .last .1 .0) (s .result) (s .ensures .0) (s .ensures .1 .0) _ (c .before .before .before .before .before .load2 .ensures) _ _ (sym (c .before .before .before .before .same-event .ensures)) (p .last .1 .0) (p .result) (p .ensures)
 
-same-length-7 : tie.Need-same-length-7 Inv-loop μ-loop Inv-strands μ-strands
-same-length-7 c = c .before .before .before .before .before .before .before .before .before .before .before .before .before .before .before .before .before .before .before .before .before .before .before .before .before .before .strands .inv .1
+same-length-4 : tie.Need-same-length-4 Inv-loop μ-loop Inv-strands μ-strands
+same-length-4 c = c .before .before .before .before .before .before .before .before .before .before .before .before .before .before .before .before .before .before .before .before .before .before .strands .inv .1
 
-same-length-8 : tie.Need-same-length-8 Inv-loop μ-loop Inv-strands μ-strands
-same-length-8 c = c .before .before .before .before .before .before .before .before .before .before .stack-alternative .kept .0 ∙ c .before .before .before .before .before .before .before .before .before .before .before .before .before .before .open-node .kept .1 .0 ∙ stack-inner (c .before .before .before .before .before .before .before .before .before .before .before .before .before .before .before .before .before .before .before .before .before .before)
+same-length-5 : tie.Need-same-length-5 Inv-loop μ-loop Inv-strands μ-strands
+same-length-5 c = c .before .before .before .before .before .before .before .before .before .before .stack-node .kept .1 .0 ∙ stack-inner (c .before .before .before .before .before .before .before .before .before .before .before .before .before .before .before .before .before .before)
 
-same-length-9 : tie.Need-same-length-9 Inv-loop μ-loop Inv-strands μ-strands
-same-length-9 c = c .before .before .before .before .push-if .kept .1 .0 ∙ list-inner (c .before .before .before .before .before .before .before .before .before .before .before .before .before .before .before .before .before .before .before .before .before .before)
+same-length-6 : tie.Need-same-length-6 Inv-loop μ-loop Inv-strands μ-strands
+same-length-6 c = c .before .before .before .before .push-if .kept .1 .0 ∙ list-inner (c .before .before .before .before .before .before .before .before .before .before .before .before .before .before .before .before .before .before)
 
-returns-3 : tie.Need-returns-3 Inv-loop μ-loop Inv-strands μ-strands
-returns-3 c = record { answer = turned (c .before .before) .full _ (whole (c .before .before .before .before .before .before .before .before .before .before .before .before .before .before .before .before .before .before .before .before .before .before)) (c .enum-told2 .given .1); given = tt; touched = c .before .before .before .before .before .before .before .before .before .before .before .before .before .before .before .before .before .before .before .before .before .before .before .before .before .before .strands .inv .5 }
+returns-2 : tie.Need-returns-2 Inv-loop μ-loop Inv-strands μ-strands
+returns-2 c = record { answer = turned (c .before .before) .full _ (whole (c .before .before .before .before .before .before .before .before .before .before .before .before .before .before .before .before .before .before)) (c .enum-told2 .given .1); given = tt; touched = c .before .before .before .before .before .before .before .before .before .before .before .before .before .before .before .before .before .before .before .before .before .before .strands .inv .5 }
 
 -- one next less, and three numbers on the stack at most
-less : (c : tie.After-slice-known10 Inv-loop μ-loop Inv-strands μ-strands) → (c .before .before .before .before .before .before .before .before .before .before .before .before .before .before .before .before .before .before .before .before .loop .left - 1) * 4 + c .before .before .before .before .before .before .before .before .stack-alternative .result < c .before .before .before .before .before .before .before .before .before .before .before .before .before .before .before .before .before .before .before .before .loop .left * 4 + c .before .before .before .before .before .before .before .before .before .before .before .before .before .before .before .before .before .before .before .before .loop .top
-less c = omega (arith, c .before .before .before .before .before .before .before .before .before .before .before .before .before .before .before .before .before .before .before .if2 .left, c .before .before .before .before .before .before .before .before .stack-alternative .ensures .1, c .before .before .before .before .before .before .before .before .before .before .before .before .open-node .ensures .1 .1)
+less : (c : tie.After-slice-known9 Inv-loop μ-loop Inv-strands μ-strands) → (c .before .before .before .before .before .before .before .before .before .before .before .before .before .before .before .before .loop .left - 1) * 4 + c .before .before .before .before .before .before .before .before .stack-node .result < c .before .before .before .before .before .before .before .before .before .before .before .before .before .before .before .before .loop .left * 4 + c .before .before .before .before .before .before .before .before .before .before .before .before .before .before .before .before .loop .top
+less c = omega (arith, c .before .before .before .before .before .before .before .before .before .before .before .before .before .before .before .loop-test .taken, c .before .before .before .before .before .before .before .before .stack-node .ensures .1 .1)
 
 strands-less-3 : tie.Need-strands-less-3 Inv-loop μ-loop Inv-strands μ-strands
-strands-less-3 c = omega (arith, less (c .before .before .before .before .before), c .before .before .before .before .before .before .before .before .before .before .before .before .before .before .before .before .before .before .before .before .before .before .before .before .before .loop .inv .0 .reads, c .before .before .before .before .before .before .before .before .before .before .before .before .before .before .before .before .before .before .before .before .before .before .before .before .before .before .before .before .strands-test .taken)
+strands-less-3 c = omega (arith, less (c .before .before .before .before .before), c .before .before .before .before .before .before .before .before .before .before .before .before .before .before .before .before .before .before .before .before .before .loop .inv .0 .reads, c .before .before .before .before .before .before .before .before .before .before .before .before .before .before .before .before .before .before .before .before .before .before .before .before .strands-test .taken)
 
 strands-again-3 : tie.Need-strands-again-3 Inv-loop μ-loop Inv-strands μ-strands
 strands-again-3 c =
-    let v = c .before .before .before .before .before .before .before .before .before .before .before .before .before .before .before .before .before .before .before .before .before .before .before .before .before .before .before .before .before .strands .inv in
-    let i = c .before .before .before .before .before .before .before .before .before .before .before .before .before .before .before .before .before .before .before .before .before .before .before .before .before .loop .inv in
+    let v = c .before .before .before .before .before .before .before .before .before .before .before .before .before .before .before .before .before .before .before .before .before .before .before .before .before .strands .inv in
+    let i = c .before .before .before .before .before .before .before .before .before .before .before .before .before .before .before .before .before .before .before .before .before .loop .inv in
     let t = turned (c .before .before .before .before .before) in
-    let k = t .pushed (c .before .before .before .more2 .given .0 .0) (c .before .before .before .more2 .given .1) in (
-      since-next (since-joined (since-popped (v .0)) (i .0)) (c .before .before .before .before .before .before .before .before .before .before .before .before .before .stack-alternative .last .0) (c .before .before .before .before .before .before .before .push-if .last .1 .0) _ _ (c .before .before .before .before .before .before .before .before .before .before .before .before .before .stack-alternative .kept .0 ∙ c .before .before .before .before .before .before .before .before .before .before .before .before .before .before .before .before .before .open-node .kept .1 .0) (c .before .before .before .before .before .before .before .push-if .kept .1 .0) (omega (arith, less (c .before .before .before .before .before))),
+    let k = t .pushed (c .before .before .before .more .given .0 .0) (c .before .before .before .more .given .1) in (
+      since-next (since-joined (since-popped (v .0)) (i .0)) (c .before .before .before .before .before .before .before .before .before .before .before .before .before .stack-node .last .1 .0) (c .before .before .before .before .before .before .before .push-if .last .1 .0) _ _ (c .before .before .before .before .before .before .before .before .before .before .before .before .before .stack-node .kept .1 .0) (c .before .before .before .before .before .before .before .push-if .kept .1 .0) (omega (arith, less (c .before .before .before .before .before))),
       v .1,
-      t .leaves (c .before .before .before .more2 .given .0 .0) (c .before .before .before .more2 .given .1) _ (sym (c .before .ends-strand .ensures)) (c .if4 .taken),
+      t .leaves (c .before .before .before .more .given .0 .0) (c .before .before .before .more .given .1) _ (sym (c .before .ends-strand .ensures)) (c .if3 .taken),
       pushed-then (pushed-then (v .3) (i .2)) k,
       given-kept (k .same) (given-kept (i .2 .same) (v .4)),
       v .5,
     )
 
 loop-less : tie.Need-loop-less Inv-loop μ-loop Inv-strands μ-strands
-loop-less c = omega (arith, c .before .before .before .before .before .before .before .before .before .before .before .before .before .before .before .before .before .before .before .before .before .before .before .before .if2 .left)
+loop-less c = omega (arith, c .before .before .before .before .before .before .before .before .before .before .before .before .before .before .before .before .before .before .before .before .loop-test .taken)
 
 loop-again : tie.Need-loop-again Inv-loop μ-loop Inv-strands μ-strands
 loop-again c =
-    let i = c .before .before .before .before .before .before .before .before .before .before .before .before .before .before .before .before .before .before .before .before .before .before .before .before .before .loop .inv in
+    let i = c .before .before .before .before .before .before .before .before .before .before .before .before .before .before .before .before .before .before .before .before .before .loop .inv in
     let t = turned (c .before .before .before .before .before) in (
-      since-next (i .0) (c .before .before .before .before .before .before .before .before .before .before .before .before .before .stack-alternative .last .0) (c .before .before .before .before .before .before .before .push-if .last .1 .0) _ _ (c .before .before .before .before .before .before .before .before .before .before .before .before .before .stack-alternative .kept .0 ∙ c .before .before .before .before .before .before .before .before .before .before .before .before .before .before .before .before .before .open-node .kept .1 .0) (c .before .before .before .before .before .before .before .push-if .kept .1 .0) (omega (arith, less (c .before .before .before .before .before))),
-      t .goes (c .before .before .before .more2 .given .0 .0) (c .before .before .before .more2 .given .1) _ (sym (c .before .ends-strand .ensures)) (c .if4 .left),
-      pushed-then (i .2) (t .pushed (c .before .before .before .more2 .given .0 .0) (c .before .before .before .more2 .given .1)),
+      since-next (i .0) (c .before .before .before .before .before .before .before .before .before .before .before .before .before .stack-node .last .1 .0) (c .before .before .before .before .before .before .before .push-if .last .1 .0) _ _ (c .before .before .before .before .before .before .before .before .before .before .before .before .before .stack-node .kept .1 .0) (c .before .before .before .before .before .before .before .push-if .kept .1 .0) (omega (arith, less (c .before .before .before .before .before))),
+      t .goes (c .before .before .before .more .given .0 .0) (c .before .before .before .more .given .1) _ (sym (c .before .ends-strand .ensures)) (c .if3 .left),
+      pushed-then (i .2) (t .pushed (c .before .before .before .more .given .0 .0) (c .before .before .before .more .given .1)),
     )
+
+same-length-7 : tie.Need-same-length-7 Inv-loop μ-loop Inv-strands μ-strands
+same-length-7 c = c .before .before .before .before .before .strands .inv .1
+
+same-length-8 : tie.Need-same-length-8 Inv-loop μ-loop Inv-strands μ-strands
+same-length-8 c = stack-inner (c .before)
+
+same-length-9 : tie.Need-same-length-9 Inv-loop μ-loop Inv-strands μ-strands
+same-length-9 c = list-inner (c .before)
+
+returns-3 : tie.Need-returns-3 Inv-loop μ-loop Inv-strands μ-strands
+returns-3 c = record { answer = standing-over _ _ _ _ _ (c .before .loop .inv .1) _ _ (whole (c .before)) (omega (arith, c .loop-test .left)); given = tt; touched = c .before .before .before .before .before .strands .inv .5 }
 
 same-length-10 : tie.Need-same-length-10 Inv-loop μ-loop Inv-strands μ-strands
 same-length-10 c = c .before .strands .inv .1
@@ -304,10 +294,6 @@ follow-strands-spec =
     strands-less
     strands-again
     loop-holds
-    same-length
-    same-length-2
-    same-length-3
-    returns
     (λ c. search needs)
     load-requires
     known-span-requires
@@ -315,15 +301,14 @@ follow-strands-spec =
     push-known-requires
     (λ c. search needs)
     (λ c. search needs)
-    same-length-4
-    same-length-5
-    same-length-6
-    returns-2
+    same-length
+    same-length-2
+    same-length-3
+    returns
     sub-left
     strands-less-2
     strands-again-2
-    open-node-requires
-    stack-alternative-requires
+    stack-node-requires
     (λ c. search needs)
     (λ c. search needs)
     load-requires-2
@@ -331,15 +316,19 @@ follow-strands-spec =
     push-if-requires
     (λ c. search needs)
     (λ c. search needs)
-    same-length-7
-    same-length-8
-    same-length-9
-    returns-3
+    same-length-4
+    same-length-5
+    same-length-6
+    returns-2
     (λ c κs. search needs)
     strands-less-3
     strands-again-3
     loop-less
     loop-again
+    same-length-7
+    same-length-8
+    same-length-9
+    returns-3
     same-length-10
     same-length-11
     same-length-12

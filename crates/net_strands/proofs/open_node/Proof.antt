@@ -10,8 +10,8 @@ use Rattle.net_strands.proofs.Stacks.{stack-opened, stack-unopened}
 use Rattle.net_strands.proofs.open_node.Statement.{statement}
 use Rattle.net_strands.proofs.open_node.Tie as tie
 
-fits : (c : tie.Then1) → c .before .args .top + c .before .args .left + 1 < 5120
-fits c = ltb-true _ 5120 (and-right (c .before .args .wanted) _ (c .if1 .taken))
+fits : (c : tie.Then1) → c .before .args .top + c .before .args .left + 1 < 4608
+fits c = ltb-true _ 4608 (and-right (c .before .args .wanted) _ (c .if1 .taken))
 
 slice-write-stack : tie.Need-slice-write-stack
 slice-write-stack c = omega (arith, fits c, c .before .pre .0)

@@ -2,20 +2,21 @@
 use borrow.Author.Needs.{needs}
 use mathlib.Core.Path.{sym, ap, subst}
 use mathlib.Core.Bool.{Bool}
-use Rattle.net_strands.specs.Entries.{entriesIn, EntriesAs}
+use Rattle.net_strands.specs.Entries.{entry, entriesIn, EntriesAs}
 use Rattle.net_strands.specs.Space.{pushedIf}
 use Rattle.net_strands.proofs.push_if.Statement.{statement}
 use Rattle.net_strands.proofs.push_if.Tie as tie
 
 returns : tie.Need-returns
+unfolding entry
 returns c =
     let a = c .before .before .before .before .before .before .args in
-    subst (λ (b : Bool). EntriesAs (pushedIf b (entriesIn (a .list .now) (a .n)) (a .x)) (c .before .before .push-entry .last .0) (c .before .before .push-entry .result)) (sym (c .before .before .before .before .if1 .taken)) (c .before .before .push-entry .ensures)
+    subst (λ (b : Bool). EntriesAs (pushedIf b (entriesIn (a .list .now) (a .n)) (entry (a .link-idx-match) (a .est-idx-next))) (c .before .before .push-entry .last .0) (c .before .before .push-entry .result)) (sym (c .before .before .before .before .if1 .taken)) (c .before .before .push-entry .ensures)
 
 returns-2 : tie.Need-returns-2
 returns-2 c =
     let a = c .before .before .args in
-    (ap (λ (b : Bool). pushedIf b (entriesIn (a .list .now) (a .n)) (a .x)) (c .if1 .left), c .before .before .pre .1)
+    (ap (λ (b : Bool). pushedIf b (entriesIn (a .list .now) (a .n)) (entry (a .link-idx-match) (a .est-idx-next))) (c .if1 .left), c .before .before .pre .1)
 
 pub push-if-spec : {M : Type 1} → statement M
 push-if-spec = tie.close (tie.spec (λ c κs. search needs) (λ c. search needs) returns returns-2)
