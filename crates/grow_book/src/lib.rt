@@ -24,6 +24,7 @@ ghost use Rattle.grow_rules.specs.Growth.{grow};
 ghost use Rattle.grow_state.specs.Held.{PlanIn, Driving, SomeDrive, SameDrive, listsAtEntry, listsAtExit, lists};
 ghost use Rattle.grow_origins.specs.Origins.{startState, SomeOrigins, OnlyStart};
 ghost use Rattle.net_node.specs.Lent.{tableAtEntry, tableAtExit};
+ghost use Rattle.net_strands.specs.Steps.{stackLength};
 ghost use Rattle.grow_book.specs.Answers.{SomeClosing, GrownAs, TakesNext, Drives, Closes, GrowsFirst, afterAll};
 
 // The counts of a network that has grown, or the number of a refusal.
@@ -87,7 +88,7 @@ fn next_turn(
     requires { ⌜ Driving (now book) p (lists (now floats) (now numbers) (now reals) (now cells) (now joins)) g ⌝ }
     requires { ⌜ 2048 ≤ length (now joins) ⌝ }
     requires { ⌜ 2048 ≤ length (now scratch) ⌝ }
-    requires { ⌜ 4608 ≤ length (now stack) ⌝ }
+    requires { ⌜ stackLength ≤ length (now stack) ⌝ }
     requires { ⌜ (not (g .front .moves) && eqb (g .top) 0) ≡ false ⌝ }
     ensures { λ r. ⌜ TakesNext (now (book .entry)) p g (listsAtEntry floats numbers reals cells joins)
         (listsAtExit floats numbers reals cells joins) r ⌝ }
@@ -129,7 +130,7 @@ fn drive(
     requires { ⌜ Driving (now book) p (lists (now floats) (now numbers) (now reals) (now cells) (now joins)) g ⌝ }
     requires { ⌜ 2048 ≤ length (now joins) ⌝ }
     requires { ⌜ 2048 ≤ length (now scratch) ⌝ }
-    requires { ⌜ 4608 ≤ length (now stack) ⌝ }
+    requires { ⌜ stackLength ≤ length (now stack) ⌝ }
     ensures { λ r. ⌜ Drives (now (book .entry)) p g (listsAtEntry floats numbers reals cells joins)
         (listsAtExit floats numbers reals cells joins) r ⌝ }
 {
@@ -216,7 +217,7 @@ fn run_all(
     requires { ⌜ Started (now book) (now marks) ⌝ }
     requires { ⌜ 2048 ≤ length (now joins) ⌝ }
     requires { ⌜ 2048 ≤ length (now scratch) ⌝ }
-    requires { ⌜ 4608 ≤ length (now stack) ⌝ }
+    requires { ⌜ stackLength ≤ length (now stack) ⌝ }
     ensures { λ r. ⌜ GrowsFirst (now (book .entry)) p (listsAtEntry floats numbers reals cells joins)
         (tableAtExit floats numbers) r ⌝ }
 {

@@ -15,6 +15,7 @@ ghost use Rattle.event_walk.specs.Course.{courseOf, Held, Walkable};
 ghost use Rattle.event_walk.specs.Walk.{passedFrom, someBad, Within};
 ghost use Rattle.net_event_map.specs.EventMap.{Real};
 ghost use Rattle.net_node.specs.Lent.{tableAtEntry, tableAtExit};
+ghost use Rattle.net_strands.specs.Steps.{stackLength};
 ghost use Rattle.grow_events.specs.Held.{Growing, Moving, SomePath, NotFewer, stoppedAs, netAtEntry, netAtExit};
 ghost use Rattle.grow_events.specs.Held.{InsertsEvent, RunsEvent, RunsLeg, countsAdded, countsJoined};
 
@@ -147,7 +148,7 @@ pub fn run_event(
     requires { ⌜ Real (e .«link_event») (w .links) ⌝ }
     requires { ⌜ 2048 ≤ length (now joins) ⌝ }
     requires { ⌜ 2048 ≤ length (now scratch) ⌝ }
-    requires { ⌜ 4608 ≤ length (now stack) ⌝ }
+    requires { ⌜ stackLength ≤ length (now stack) ⌝ }
     ensures outcome { λ r. ⌜ RunsEvent w join c m e (netAtEntry floats numbers cells joins)
         (netAtExit floats numbers cells joins) r ⌝ }
     ensures more { λ r. ⌜ NotFewer c r ⌝ }
@@ -221,7 +222,7 @@ pub fn run_events(
     requires { ⌜ Moving w (now floats) (now numbers) (now cells) (now joins) c m ⌝ }
     requires { ⌜ 2048 ≤ length (now joins) ⌝ }
     requires { ⌜ 2048 ≤ length (now scratch) ⌝ }
-    requires { ⌜ 4608 ≤ length (now stack) ⌝ }
+    requires { ⌜ stackLength ≤ length (now stack) ⌝ }
     ensures outcome { λ r. ⌜ RunsLeg (now (book .entry)) (now (reals .entry)) v w join c m
         (netAtEntry floats numbers cells joins) (netAtExit floats numbers cells joins) r ⌝ }
     ensures more { λ r. ⌜ NotFewer c r ⌝ }

@@ -22,6 +22,7 @@ ghost use Rattle.grow_rules.specs.Growth.{isDestination};
 ghost use Rattle.grow_events.specs.Held.{NotFewer};
 ghost use Rattle.grow_state.specs.Held.{PlanIn, Driving, listsAtEntry, listsAtExit, lists};
 ghost use Rattle.net_node.specs.Lent.{tableAtEntry};
+ghost use Rattle.net_strands.specs.Steps.{stackLength};
 ghost use Rattle.grow_waiting.specs.Steps.{stacksAtEntry, stacksAtExit};
 ghost use Rattle.grow_leg.specs.OneLeg.{SomeFinish, SomeLeg, SomeEnding, SomeWay, SomeGoing, waysBehind};
 ghost use Rattle.grow_leg.specs.OneLeg.{listsSaved};
@@ -302,7 +303,7 @@ fn walk_leg(
     requires { ⌜ g .front .moves ≡ true ⌝ }
     requires { ⌜ 2048 ≤ length (now joins) ⌝ }
     requires { ⌜ 2048 ≤ length (now scratch) ⌝ }
-    requires { ⌜ 4608 ≤ length (now stack) ⌝ }
+    requires { ⌜ stackLength ≤ length (now stack) ⌝ }
     ensures walked { λ r. ⌜ WalksLeg (now (book .entry)) p g (listsAtEntry floats numbers reals cells joins)
         (listsAtExit floats numbers reals cells joins) r ⌝ }
     ensures more { λ r. ⌜ NotFewer (g .counts) r ⌝ }
@@ -357,7 +358,7 @@ pub fn turn(
     requires { ⌜ g .front .moves ≡ true ⌝ }
     requires { ⌜ 2048 ≤ length (now joins) ⌝ }
     requires { ⌜ 2048 ≤ length (now scratch) ⌝ }
-    requires { ⌜ 4608 ≤ length (now stack) ⌝ }
+    requires { ⌜ stackLength ≤ length (now stack) ⌝ }
     ensures { λ r. ⌜ TakesLeg (now (book .entry)) p g (listsAtEntry floats numbers reals cells joins)
         (listsAtExit floats numbers reals cells joins) r ⌝ }
 {

@@ -106,7 +106,7 @@ room-less n h r = record { floats = omega (arith, r .floats); numbers = omega (a
 
 -- the cells before and after a list was rebuilt
 pub cells-ungiven : {c : List ℕ} {w : Layout} {node : ℕ → EstTime} {n : ℕ} → Mapped c w node n → Ungiven c w
-cells-ungiven m = record { cell = m .ungiven; name = m .unmarked }
+cells-ungiven m = record { cell = λ i c h n. m .ungiven i c h (n .0) (n .1); name = m .unmarked }
 
 pub cells-apart : {c d : List ℕ} {w : Layout} → CellsApart c w → d ≡ c → CellsApart d w
 cells-apart {c} {d} {w} p e = subst (λ (q : List ℕ). CellsApart q w) (sym e) p

@@ -16,7 +16,7 @@ ghost use Rattle.net_node.specs.Table.{nodeAt, Room, Indexed, floatWidth, numbe
 ghost use Rattle.net_event_map.specs.EventMap.{CellsApart, Mapped, Real, firstAt};
 ghost use Rattle.net_strands.specs.Entries.{entriesIn, Valid, ListBecomes};
 ghost use Rattle.net_node.specs.Lent.{tableAtEntry};
-ghost use Rattle.net_strands.specs.Steps.{nodesAtEntry};
+ghost use Rattle.net_strands.specs.Steps.{stackLength, nodesAtEntry};
 ghost use Rattle.net_joins.specs.Joins.{closer, closest, chainEnd, joinFake, joinAt, joinedTable, appendedIf};
 ghost use Rattle.net_joins.specs.Joins.{joinsIf, joinStep, StepAs, SteppedInto};
 ghost use Rattle.net_joins.specs.Marks.{marks, NamesMarked, Ending, MapWalkable, AppendsChain, AppendsNodes};
@@ -328,7 +328,7 @@ pub fn join_step(
     requires { ⌜ count ≤ 1024 ⌝ }
     requires { ⌜ 2048 ≤ length (now joins) ⌝ }
     requires { ⌜ 2048 ≤ length (now scratch) ⌝ }
-    requires { ⌜ 4608 ≤ length (now stack) ⌝ }
+    requires { ⌜ stackLength ≤ length (now stack) ⌝ }
     requires { ⌜ Valid (entriesIn (now joins) count) n ⌝ }
     ensures answer { λ r. ⌜ StepAs
         (joinStep (nodesAtEntry floats numbers) n (w .places) join «est_time_add»

@@ -18,13 +18,13 @@ use Rattle.net_strands.specs.Space.{isArrive, followed, extendedAs, exte
 use Rattle.net_strands.specs.Steps.{newMatch}
 use Rattle.net_strands.proofs.Entries.{entries-more, listed-some, listed-none}
 
--- whether an entry's link is matched at an event
-abbrev pub matched : LinkEvent → EstJoinPath → Bool
-matched e x = eqb (x .«link_idx_match») 0 || eqb (x .«link_idx_match») (e .«link_idx»)
+-- whether an entry's link is cleared at an event
+abbrev pub cleared : LinkEvent → EstJoinPath → Bool
+cleared e x = eqb (x .«link_idx_match») 0 || eqb (x .«link_idx_match») (e .«link_idx»)
 
 -- where the entry's node was loaded as y
 module _ (node : ℕ → EstTime) (n : ℕ) (e : LinkEvent) (seen : Bool) (x : EstJoinPath) (es : List EstJoinPath) (y : EstTime) (l : y ≡ node (x .«est_idx_next»)) where
-  extended-by : (a b c d : Bool) → eqb (y .«idx_next») 0 ≡ a → isArrive (e .«est_type») ≡ b → matched e x ≡ c → seen ≡ d → extended node n e seen x es ≡ extendedAs a b c d node n e x es
+  extended-by : (a b c d : Bool) → eqb (y .«idx_next») 0 ≡ a → isArrive (e .«est_type») ≡ b → cleared e x ≡ c → seen ≡ d → extended node n e seen x es ≡ extendedAs a b c d node n e x es
   unfolding extended
   extended-by a b c d p q r s = rw (sym p, sym q, sym r, sym s, l)
 
@@ -33,19 +33,19 @@ module _ (node : ℕ → EstTime) (n : ℕ) (e : LinkEvent) (seen : Bool) (x : E
 
   -- it has a next, and the event is an Arrive or not
   module _ (h : y .«idx_next» ≡ 0 → ⊥) (arrive : Bool) (q : arrive ≡ isArrive (e .«est_type»)) where
-    pub extended-copied : not (arrive || matched e x) ≡ true → extended node n e seen x es ≡ push es x
-    extended-copied o = go arrive (matched e x) (sym q) refl (not-true (arrive || matched e x) o)
+    pub extended-copied : not (arrive || cleared e x) ≡ true → extended node n e seen x es ≡ push es x
+    extended-copied o = go arrive (cleared e x) (sym q) refl (not-true (arrive || cleared e x) o)
       where
-        go : (b c : Bool) → isArrive (e .«est_type») ≡ b → matched e x ≡ c → b || c ≡ false → extended node n e seen x es ≡ push es x
+        go : (b c : Bool) → isArrive (e .«est_type») ≡ b → cleared e x ≡ c → b || c ≡ false → extended node n e seen x es ≡ push es x
         go true c p r z = absurd (true≢false z)
         go false true p r z = absurd (true≢false z)
         go false false p r z = extended-by false false false _ (ne-eqb (y .«idx_next») 0 h) p r refl
 
-    module _ (o : not (arrive || matched e x) ≡ false) where
+    module _ (o : not (arrive || cleared e x) ≡ false) where
       pub extended-unseen : not seen ≡ true → extended node n e seen x es ≡ some es
-      extended-unseen s = go arrive (matched e x) (sym q) refl (not-false (arrive || matched e x) o)
+      extended-unseen s = go arrive (cleared e x) (sym q) refl (not-false (arrive || cleared e x) o)
         where
-          go : (b c : Bool) → isArrive (e .«est_type») ≡ b → matched e x ≡ c → b || c ≡ true → extended node n e seen x es ≡ some es
+          go : (b c : Bool) → isArrive (e .«est_type») ≡ b → cleared e x ≡ c → b || c ≡ true → extended node n e seen x es ≡ some es
           go true c p r z = extended-by false true c false (ne-eqb (y .«idx_next») 0 h) p r (not-true seen s)
           go false true p r z = extended-by false false true false (ne-eqb (y .«idx_next») 0 h) p r (not-true seen s)
           go false false p r z = absurd (true≢false (sym z))
@@ -53,17 +53,17 @@ module _ (node : ℕ → EstTime) (n : ℕ) (e : LinkEvent) (seen : Bool) (x : E
       module _ (s : not seen ≡ false) (m : ℕ) (f : m ≡ newMatch arrive (x .«link_idx_match»)) where
         pub extended-followed : extended node n e seen x es ≡ followed (x .«link_idx_match») node n e m (x .«est_idx_next») es
         extended-followed =
-            go arrive (matched e x) (sym q) refl (not-false (arrive || matched e x) o)
+            go arrive (cleared e x) (sym q) refl (not-false (arrive || cleared e x) o)
             ∙ ap (λ (k : ℕ). followed (x .«link_idx_match») node n e k (x .«est_idx_next») es) (sym f)
           where
-            go : (b c : Bool) → isArrive (e .«est_type») ≡ b → matched e x ≡ c → b || c ≡ true → extended node n e seen x es ≡ followed (x .«link_idx_match») node n e (newMatch b (x .«link_idx_match»)) (x .«est_idx_next») es
+            go : (b c : Bool) → isArrive (e .«est_type») ≡ b → cleared e x ≡ c → b || c ≡ true → extended node n e seen x es ≡ followed (x .«link_idx_match») node n e (newMatch b (x .«link_idx_match»)) (x .«est_idx_next») es
             go true c p r z = extended-by false true c true (ne-eqb (y .«idx_next») 0 h) p r (not-false seen s)
             go false true p r z = extended-by false false true true (ne-eqb (y .«idx_next») 0 h) p r (not-false seen s)
             go false false p r z = absurd (true≢false (sym z))
 
 -- ---- the loop over the old list
 
-andThen-some : (a : Option (List EstJoinPath)) → andThen a some ≡ a
+pub andThen-some : (a : Option (List EstJoinPath)) → andThen a some ≡ a
 andThen-some none = refl
 andThen-some (some es) = refl
 

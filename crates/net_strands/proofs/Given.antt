@@ -19,8 +19,8 @@ use Rattle.net_strands.specs.declared.Count.the-variants.{Entries, Over}
 use Rattle.net_strands.specs.Entries.{entriesIn, push, EntriesAs}
 use Rattle.net_strands.specs.Space.{alternatives}
 use Rattle.net_strands.specs.Walks.{poppedTo, walked, spend}
-use Rattle.net_strands.specs.Log.{matchedColumn, strandsColumn, nextsColumn, noteIn, spanNumber, spanBegin, spanEnd, Touched, Notes, Ungiven}
-use Rattle.net_strands.specs.Given.{pushedAll, nodesIn, SpanGives, CellGives, WalkGives, CellsGive, Given, GivenThen, Extends}
+use Rattle.net_strands.specs.Log.{matchedColumn, strandsColumn, nextsColumn, noteIn, spanNumber, spanBegin, spanEnd, Touched, logFull, NotedAs, Notes, Ungiven}
+use Rattle.net_strands.specs.Given.{pushedAll, nodesIn, SpanGives, Says, WalkGives, Given, GivenThen, Extends}
 use Rattle.net_strands.proofs.Entries.{listed-some, listed-none}
 use Rattle.net_strands.proofs.Targets.{nextsOf, pushed-nexts}
 use Rattle.net_strands.proofs.Spans.{SameNodes, Appended, all-appended, one-appended, nodes-stay, nodes-behind, nodes-kept}
@@ -35,35 +35,25 @@ module _ {list list′ : List ℕ} {n more : ℕ} (s : SameNodes list list′ n 
     gives = λ m es. v .gives m es ∙ ap (λ (is : List ℕ). pushedAll m is es) (nodes-kept s (end - begin) begin (omega (arith, v .rises, v .inside)));
   }
 
-  cell-kept : (rule : ℕ → List EstJoinPath → Option (List EstJoinPath)) (c : ℕ) → CellGives rule list n c → CellGives rule list′ more c
-  cell-kept rule zero v = tt
-  cell-kept rule (suc c) v = span-kept rule (c / 2048) (c % 2048) v
-
-  module _ (node : ℕ → EstTime) (e : LinkEvent) (i : ℕ) where
-    walk-kept : {begin end nexts : ℕ} → WalkGives node e list n i begin end nexts → WalkGives node e list′ more i begin end nexts
-    walk-kept {begin} {end} {nexts} v = record {
-      rises = v .rises;
-      inside = omega (arith, v .inside, s .grows);
-      within = v .within;
-      gives = λ k stack. v .gives k stack ∙ ap (λ (is : List ℕ). spend nexts is (λ j. poppedTo stack (walked j node e)) k) (nodes-kept s (end - begin) begin (omega (arith, v .rises, v .inside)));
-    }
-
-    cells-kept : (c nexts : ℕ) → CellsGive node e list n i c nexts → CellsGive node e list′ more i c nexts
-    cells-kept zero nexts v = tt
-    cells-kept (suc c) nexts v = walk-kept v
+  walk-kept : {node : ℕ → EstTime} {e : LinkEvent} {i begin end nexts : ℕ} → WalkGives node e list n i begin end nexts → WalkGives node e list′ more i begin end nexts
+  walk-kept {node} {e} {i} {begin} {end} {nexts} v = record {
+    rises = v .rises;
+    inside = omega (arith, v .inside, s .grows);
+    gives = λ k stack. v .gives k stack ∙ ap (λ (is : List ℕ). spend nexts is (λ j. poppedTo stack (walked j node e)) k) (nodes-kept s (end - begin) begin (omega (arith, v .rises, v .inside)));
+  }
 
   pub given-kept : {cells : List ℕ} {w : Layout} {node : ℕ → EstTime} {nodes : ℕ} {e : LinkEvent} → Given cells w node nodes e list n → Given cells w node nodes e list′ more
   given-kept {cells} {w} {node} {nodes} {e} v = record {
-    matched = λ i h. cell-kept (λ m es. alternatives nodes node e m i es) (noteIn cells w i matchedColumn) (v .matched i h);
-    strands = λ i h. cells-kept node e i (noteIn cells w i strandsColumn) (noteIn cells w i nextsColumn) (v .strands i h);
+    matched = λ i h z. span-kept (λ m es. alternatives nodes node e m i es) _ _ (v .matched i h z);
+    strands = λ i h z. walk-kept (v .strands i h z);
   }
 
 -- ---- at the start nothing is noted
 
 pub given-none : {cells : List ℕ} {w : Layout} (node : ℕ → EstTime) (n : ℕ) (e : LinkEvent) (list : List ℕ) → n ≤ w .places → Ungiven cells w → Given cells w node n e list 0
 given-none {cells} {w} node n e list h u = record {
-  matched = λ i l. subst (CellGives (λ m es. alternatives n node e m i es) list 0) (sym (u .cell i 5 (omega arith) (omega arith) (omega arith))) tt;
-  strands = λ i l. subst (λ (c : ℕ). CellsGive node e list 0 i c (noteIn cells w i nextsColumn)) (sym (u .cell i 6 (omega arith) (omega arith) (omega arith))) tt;
+  matched = λ i l z. absurd (z (u .cell i 5 (omega arith) (omega arith, omega arith)));
+  strands = λ i l z. absurd (z (u .cell i 6 (omega arith) (omega arith, omega arith)));
 }
 
 pub touched-none : {cells : List ℕ} {w : Layout} → 0 < w .places → Ungiven cells w → Touched w cells cells
@@ -75,35 +65,41 @@ touched-none {cells} {w} h u =
 
 -- ---- what is noted of a node
 
-module _ {cells cells′ list : List ℕ} {w : Layout} {node : ℕ → EstTime} {nodes : ℕ} {e : LinkEvent} {at : ℕ} (v : Given cells w node nodes e list at) {i a b c : ℕ} (s : Notes w i a b c cells cells′) (p : CellGives (λ m es. alternatives nodes node e m i es) list at a) (q : CellsGive node e list at i b c) where
+-- what two cells say of the strands from node i, by what stands in them
+abbrev pub Walks : (ℕ → EstTime) → LinkEvent → List ℕ → (at i strands nexts : ℕ) → Type 0
+Walks node e list at i strands nexts = Says (λ begin end. WalkGives node e list at i begin end nexts) strands
+
+pub walks-by : (node : ℕ → EstTime) (e : LinkEvent) (list : List ℕ) (at i : ℕ) {x x′ y y′ : ℕ} → x ≡ x′ → y ≡ y′ → Walks node e list at i x′ y′ → Walks node e list at i x y
+walks-by node e list at i {x} {x′} {y} {y′} f g t = subst (λ (k : ℕ). Walks node e list at i k y) (sym f) (subst (Walks node e list at i x′) (sym g) t)
+
+module _ {cells cells′ list : List ℕ} {w : Layout} {node : ℕ → EstTime} {nodes : ℕ} {e : LinkEvent} {at : ℕ} (v : Given cells w node nodes e list at) {i a b c : ℕ} (s : Notes w i a b c cells cells′) (p : Says (SpanGives (λ m es. alternatives nodes node e m i es) list at) a) (q : Walks node e list at i b c) where
+  -- what a cell says of a node's entries that match already
+  abbrev Matched : ℕ → ℕ → Type 0
+  Matched j x = Says (SpanGives (λ m es. alternatives nodes node e m j es) list at) x
+
+  -- of the node itself
+  own-matched : (full : Bool) → NotedAs full w i a b c cells cells′ → Matched i (noteIn cells w i matchedColumn) → Matched i (noteIn cells′ w i matchedColumn)
+  own-matched true t o = subst (Matched i) (sym (t 5 (omega arith, omega arith))) o
+  own-matched false t o = subst (Matched i) (sym (t .0)) p
+
+  own-walks : (full : Bool) → NotedAs full w i a b c cells cells′ → Walks node e list at i (noteIn cells w i strandsColumn) (noteIn cells w i nextsColumn) → Walks node e list at i (noteIn cells′ w i strandsColumn) (noteIn cells′ w i nextsColumn)
+  own-walks true t o = walks-by node e list at i (t 6 (omega arith, omega arith)) (t 7 (omega arith, omega arith)) o
+  own-walks false t o = walks-by node e list at i (t .1 .0) (t .1 .1) q
+
   -- the cells say it then, and what they said of others
   pub given-noted : Given cells′ w node nodes e list at
   given-noted = record { matched = λ j h. of-matched j h (equal-or-not j i); strands = λ j h. of-strands j h (equal-or-not j i) }
     where
-      Rule : ℕ → ℕ → Type 0
-      Rule j = CellGives (λ m es. alternatives nodes node e m j es) list at
+      of-matched : (j : ℕ) → j < nodes → (j ≡ i) ⊎ (j ≡ i → ⊥) → Matched j (noteIn cells′ w j matchedColumn)
+      of-matched j h (inr d) = subst (Matched j) (sym (s .others j 5 d (omega arith, omega arith))) (v .matched j h)
+      of-matched j h (inl d) =
+          subst (λ (k : ℕ). Matched k (noteIn cells′ w k matchedColumn)) (sym d) (own-matched (logFull cells w) (s .own) (subst (λ (k : ℕ). Matched k (noteIn cells w k matchedColumn)) d (v .matched j h)))
 
-      of-matched : (j : ℕ) → j < nodes → (j ≡ i) ⊎ (j ≡ i → ⊥) → Rule j (noteIn cells′ w j matchedColumn)
-      of-matched j h (inr d) = subst (Rule j) (sym (s .others j 5 d (omega arith) (omega arith))) (v .matched j h)
-      of-matched j h (inl d) = subst (λ (k : ℕ). Rule k (noteIn cells′ w k matchedColumn)) (sym d) (go (s .own))
-        where
-          go : ((noteIn cells′ w i matchedColumn ≡ a) × ((noteIn cells′ w i strandsColumn ≡ b) × (noteIn cells′ w i nextsColumn ≡ c))) ⊎ ((k : ℕ) → 5 ≤ k → k < 8 → noteIn cells′ w i k ≡ noteIn cells w i k) → Rule i (noteIn cells′ w i matchedColumn)
-          go (inl t) = subst (Rule i) (sym (t .0)) p
-          go (inr t) = subst (Rule i) (sym (t 5 (omega arith) (omega arith))) (subst (λ (k : ℕ). Rule k (noteIn cells w k matchedColumn)) d (v .matched j h))
-
-      Walk : ℕ → ℕ → ℕ → Type 0
-      Walk j = CellsGive node e list at j
-
-      walk-by : (j : ℕ) {x x′ y y′ : ℕ} → x ≡ x′ → y ≡ y′ → Walk j x′ y′ → Walk j x y
-      walk-by j {x} {x′} {y} {y′} f g t = subst (λ (k : ℕ). Walk j k y) (sym f) (subst (Walk j x′) (sym g) t)
-
-      of-strands : (j : ℕ) → j < nodes → (j ≡ i) ⊎ (j ≡ i → ⊥) → Walk j (noteIn cells′ w j strandsColumn) (noteIn cells′ w j nextsColumn)
-      of-strands j h (inr d) = walk-by j (s .others j 6 d (omega arith) (omega arith)) (s .others j 7 d (omega arith) (omega arith)) (v .strands j h)
-      of-strands j h (inl d) = subst (λ (k : ℕ). Walk k (noteIn cells′ w k strandsColumn) (noteIn cells′ w k nextsColumn)) (sym d) (go (s .own))
-        where
-          go : ((noteIn cells′ w i matchedColumn ≡ a) × ((noteIn cells′ w i strandsColumn ≡ b) × (noteIn cells′ w i nextsColumn ≡ c))) ⊎ ((k : ℕ) → 5 ≤ k → k < 8 → noteIn cells′ w i k ≡ noteIn cells w i k) → Walk i (noteIn cells′ w i strandsColumn) (noteIn cells′ w i nextsColumn)
-          go (inl t) = walk-by i (t .1 .0) (t .1 .1) q
-          go (inr t) = walk-by i (t 6 (omega arith) (omega arith)) (t 7 (omega arith) (omega arith)) (subst (λ (k : ℕ). Walk k (noteIn cells w k strandsColumn) (noteIn cells w k nextsColumn)) d (v .strands j h))
+      of-strands : (j : ℕ) → j < nodes → (j ≡ i) ⊎ (j ≡ i → ⊥) → Walks node e list at j (noteIn cells′ w j strandsColumn) (noteIn cells′ w j nextsColumn)
+      of-strands j h (inr d) = walks-by node e list at j (s .others j 6 d (omega arith, omega arith)) (s .others j 7 d (omega arith, omega arith)) (v .strands j h)
+      of-strands j h (inl d) =
+          subst (λ (k : ℕ). Walks node e list at k (noteIn cells′ w k strandsColumn) (noteIn cells′ w k nextsColumn)) (sym d)
+          (own-walks (logFull cells w) (s .own) (subst (λ (k : ℕ). Walks node e list at k (noteIn cells w k strandsColumn) (noteIn cells w k nextsColumn)) d (v .strands j h)))
 
 -- ---- what a cell says that is not 0
 
@@ -112,27 +108,12 @@ pub known-is : (b : Bool) (known x : ℕ) → known ≡ cond b x 0 → (known �
 known-is true known x k z = k
 known-is false known x k z = absurd (z k)
 
-pub cell-says : (rule : ℕ → List EstJoinPath → Option (List EstJoinPath)) (list : List ℕ) (at c : ℕ) → (c ≡ 0 → ⊥) → CellGives rule list at c → SpanGives rule list at (spanBegin c) (spanEnd c)
-cell-says rule list at zero z v = absurd (z refl)
-cell-says rule list at (suc c) z v = let e : c ≡ suc c - 1 = omega arith in subst (λ (k : ℕ). SpanGives rule list at (k / 2048) (k % 2048)) e v
-
-pub cells-say : (node : ℕ → EstTime) (e : LinkEvent) (list : List ℕ) (at i c nexts : ℕ) → (c ≡ 0 → ⊥) → CellsGive node e list at i c nexts → WalkGives node e list at i (spanBegin c) (spanEnd c) nexts
-cells-say node e list at i zero nexts z v = absurd (z refl)
-cells-say node e list at i (suc c) nexts z v = let d : c ≡ suc c - 1 = omega arith in subst (λ (k : ℕ). WalkGives node e list at i (k / 2048) (k % 2048) nexts) d v
-
--- a cell that has the number of a span says what holds of it
-pub span-said : (P : ℕ → ℕ → Type 0) (begin end : ℕ) → end ≤ 1024 → P begin end → P ((begin * 2048 + end) / 2048) ((begin * 2048 + end) % 2048)
-span-said P begin end h v =
-    let b : begin ≡ (begin * 2048 + end) / 2048 = omega arith in
-    let t : end ≡ (begin * 2048 + end) % 2048 = omega arith in
-    subst (λ (k : ℕ). P k ((begin * 2048 + end) % 2048)) b (subst (P begin) t v)
-
-pub cell-said : (rule : ℕ → List EstJoinPath → Option (List EstJoinPath)) (list : List ℕ) (at begin end : ℕ) → end ≤ 1024 → SpanGives rule list at begin end → CellGives rule list at (spanNumber begin end)
-cell-said rule list at begin end h v = subst (CellGives rule list at) (sym (add-one (begin * 2048 + end))) (span-said (SpanGives rule list at) begin end h v)
-
-pub cells-said : (node : ℕ → EstTime) (e : LinkEvent) (list : List ℕ) (at i begin end nexts : ℕ) → end ≤ 1024 → WalkGives node e list at i begin end nexts → CellsGive node e list at i (spanNumber begin end) nexts
-cells-said node e list at i begin end nexts h v =
-    subst (λ (c : ℕ). CellsGive node e list at i c nexts) (sym (add-one (begin * 2048 + end))) (span-said (λ b t. WalkGives node e list at i b t nexts) begin end h v)
+-- what holds of a span is said by a cell that has its number
+pub says-span : (Holds : ℕ → ℕ → Type 0) (begin end : ℕ) → end ≤ 1024 → Holds begin end → Says Holds (spanNumber begin end)
+says-span Holds begin end h v z =
+    let b : begin ≡ spanBegin (begin * 2048 + end + 1) = omega arith in
+    let t : end ≡ spanEnd (begin * 2048 + end + 1) = omega arith in
+    subst (λ (k : ℕ). Holds k (spanEnd (begin * 2048 + end + 1))) b (subst (Holds begin) t v)
 
 -- ---- an entry that matches already
 
@@ -140,7 +121,7 @@ module _ {cells list : List ℕ} {w : Layout} {node : ℕ → EstTime} {nodes : 
   -- its cell says what it gives
   module _ (known : ℕ) (k : known ≡ noteIn cells w i matchedColumn) (z : known ≡ 0 → ⊥) where
     pub matched-said : SpanGives (λ m es. alternatives nodes node e m i es) list n (spanBegin known) (spanEnd known)
-    matched-said = cell-says (λ m es. alternatives nodes node e m i es) list n known z (subst (CellGives (λ m es. alternatives nodes node e m i es) list n) (sym k) (v .matched i inside))
+    matched-said = subst (Says (SpanGives (λ m es. alternatives nodes node e m i es) list n)) (sym k) (v .matched i inside) z
 
     -- it is copied
     pub matched-copied : (list′ : List ℕ) (r : Count) → EntriesAs (pushedAll m (nodesIn list (spanBegin known) (spanEnd known - spanBegin known)) (entriesIn list n)) list′ r → Extends (alternatives nodes node e m i) w node nodes e cells list n cells list′ r
@@ -166,6 +147,10 @@ module _ {cells list : List ℕ} {w : Layout} {node : ℕ → EstTime} {nodes : 
     behind : Appended (entriesIn list n) (nextsOf nodes node e i) (entriesIn list′ more)
     behind = all-appended m (nextsOf nodes node e i) (entriesIn list n) (entriesIn list′ more) (sym (pushed-nexts node e m nodes i (entriesIn list n)) ∙ matched-got .0)
 
+    -- the list grows
+    pub matched-grows : n ≤ more
+    matched-grows = nodes-stay list list′ n more behind .grows
+
     -- it is not noted
     pub matched-left : Extends (alternatives nodes node e m i) w node nodes e cells list n cells list′ (Entries more)
     matched-left = record { answer = matched-got; given = given-kept (nodes-stay list list′ n more behind) v; touched = λ cells₀ t. t }
@@ -182,8 +167,8 @@ module _ {cells list : List ℕ} {w : Layout} {node : ℕ → EstTime} {nodes : 
         let k = given-kept (nodes-stay list list′ n more behind) v in
         record {
           answer = matched-got;
-          given = given-noted k s (subst (CellGives (λ m es. alternatives nodes node e m i es) list′ more) (sym f) (cell-said (λ m es. alternatives nodes node e m i es) list′ more n more (matched-got .1) matched-span))
-              (subst (λ (b : ℕ). CellsGive node e list′ more i b nexts) (sym g) (subst (CellsGive node e list′ more i (noteIn cells w i strandsColumn)) (sym h) (k .strands i inside)));
+          given = given-noted k s (subst (Says (SpanGives (λ m es. alternatives nodes node e m i es) list′ more)) (sym f) (says-span (SpanGives (λ m es. alternatives nodes node e m i es) list′ more) n more (matched-got .1) matched-span))
+              (walks-by node e list′ more i g h (k .strands i inside));
           touched = s .touched;
         }
 

@@ -1,15 +1,15 @@
 pub mod Entries
-pub mod Stacks
-pub mod Alternatives
-pub mod Targets
-pub mod Spending
-pub mod Spans
+pub mod Kept
+mod Stacks
+mod Alternatives
+mod Targets
+mod Spending
+mod Spans
 mod Log
 mod Given
-mod Rooms
 mod Opened
 mod Walking
-pub mod Extending
-pub mod Kept
-pub mod Examples
+mod Extending
+mod Rooms
+mod Examples
 mod Limits

@@ -1,7 +1,7 @@
 -- The log of the nodes of which something is noted: noting keeps it true, and all that is noted can be taken back.
-use mathlib.Core.Path.{_≡_, refl, sym, ap, _∙_}
+use mathlib.Core.Path.{_≡_, refl, sym, ap, _∙_, subst}
 use mathlib.Core.Logic.{_≢_, _⊎_, inl, inr}
-use mathlib.Core.Bool.{false, _||_}
+use mathlib.Core.Bool.{Bool, true, false, _||_}
 use mathlib.Core.List.{List}
 use Prim.Native.Nat.{ℕ, zero, suc, _+_, _*_, _≤_, _<_}
 use native.Mathlib.Omega.{arith}
@@ -12,30 +12,29 @@ use lib.Seq.{getD-set-same, getD-set-other, ext-getD}
 use Rattle.laws.proofs.Truth.{equal-or-not, none-left, none-right}
 use Rattle.net_event_map.specs.declared.Layout.{Layout}
 use Rattle.net_event_map.specs.EventMap.{CellsApart}
-use Rattle.net_strands.specs.Log.{nameColumn, matchedColumn, strandsColumn, nextsColumn, cellAt, noteIn, logged, loggedAt, LogIn, Touched, Notes, Ungiven}
+use Rattle.net_strands.specs.Log.{nameColumn, matchedColumn, strandsColumn, nextsColumn, NoteColumn, cellAt, noteIn, logged, loggedAt, LogIn, Touched, logFull, NotedAs, Notes, Ungiven}
 
 -- ---- the last three cells of a node
 
 -- a cell is one of the last three of node i
 record OfNode (w : Layout) (i q : ℕ) : Type 0 where
   column : ℕ
-  from : 5 ≤ column
-  below : column < 8
+  note : NoteColumn column
   is : q ≡ cellAt w i column
 
 -- a cell is none of the last three of node i
 abbrev pub NotOf : Layout → ℕ → ℕ → Type 0
-NotOf w i q = (c : ℕ) → 5 ≤ c → c < 8 → q ≢ cellAt w i c
+NotOf w i q = (c : ℕ) → NoteColumn c → q ≢ cellAt w i c
 
 -- it is one of them or none
 of-or-not : (w : Layout) (i q : ℕ) → OfNode w i q ⊎ NotOf w i q
 of-or-not w i q = first (equal-or-not q (cellAt w i 5)) (equal-or-not q (cellAt w i 6)) (equal-or-not q (cellAt w i 7))
   where
     first : (q ≡ cellAt w i 5) ⊎ (q ≢ cellAt w i 5) → (q ≡ cellAt w i 6) ⊎ (q ≢ cellAt w i 6) → (q ≡ cellAt w i 7) ⊎ (q ≢ cellAt w i 7) → OfNode w i q ⊎ NotOf w i q
-    first (inl e) f g = inl (record { column = 5; from = omega arith; below = omega arith; is = e })
-    first (inr d) (inl f) g = inl (record { column = 6; from = omega arith; below = omega arith; is = f })
-    first (inr d) (inr e) (inl g) = inl (record { column = 7; from = omega arith; below = omega arith; is = g })
-    first (inr d) (inr e) (inr f) = inr (λ c a b h. omega (arith, a, b, h, d, e, f))
+    first (inl e) f g = inl (record { column = 5; note = (omega arith, omega arith); is = e })
+    first (inr d) (inl f) g = inl (record { column = 6; note = (omega arith, omega arith); is = f })
+    first (inr d) (inr e) (inl g) = inl (record { column = 7; note = (omega arith, omega arith); is = g })
+    first (inr d) (inr e) (inr f) = inr (λ c a h. omega (arith, a .0, a .1, h, d, e, f))
 
 -- three numbers in the last three cells of node i
 unfoldable pub noted : Layout → ℕ → ℕ → ℕ → ℕ → List ℕ → List ℕ
@@ -50,7 +49,7 @@ module _ (w : Layout) (i matched strands nexts : ℕ) (cells : List ℕ) where
   -- every other cell stands
   noted-else : (q : ℕ) → NotOf w i q → getD (noted w i matched strands nexts cells) q 0 ≡ getD cells q 0
   unfolding noted
-  noted-else q n = getD-set-other (set (set cells (cellAt w i 5) matched) (cellAt w i 6) strands) (cellAt w i 7) q nexts 0 (n 7 (omega arith) (omega arith)) ∙ getD-set-other (set cells (cellAt w i 5) matched) (cellAt w i 6) q strands 0 (n 6 (omega arith) (omega arith)) ∙ getD-set-other cells (cellAt w i 5) q matched 0 (n 5 (omega arith) (omega arith))
+  noted-else q n = getD-set-other (set (set cells (cellAt w i 5) matched) (cellAt w i 6) strands) (cellAt w i 7) q nexts 0 (n 7 (omega arith, omega arith)) ∙ getD-set-other (set cells (cellAt w i 5) matched) (cellAt w i 6) q strands 0 (n 6 (omega arith, omega arith)) ∙ getD-set-other cells (cellAt w i 5) q matched 0 (n 5 (omega arith, omega arith))
 
   module _ (inside : cellAt w i 7 < length cells) where
     -- what entries give that match already stands there
@@ -58,7 +57,7 @@ module _ (w : Layout) (i matched strands nexts : ℕ) (cells : List ℕ) where
     unfolding noted
     noted-matched = getD-set-other (set (set cells (cellAt w i 5) matched) (cellAt w i 6) strands) (cellAt w i 7) (cellAt w i 5) nexts 0 (λ (e : cellAt w i 5 ≡ cellAt w i 7). omega (arith, e)) ∙ getD-set-other (set cells (cellAt w i 5) matched) (cellAt w i 6) (cellAt w i 5) strands 0 (λ (e : cellAt w i 5 ≡ cellAt w i 6). omega (arith, e)) ∙ getD-set-same cells (cellAt w i 5) matched 0 (omega (arith, inside))
 
-    -- what others give does
+    -- what strands from the node give does
     noted-strands : noteIn (noted w i matched strands nexts cells) w i strandsColumn ≡ strands
     unfolding noted
     noted-strands = getD-set-other (set (set cells (cellAt w i 5) matched) (cellAt w i 6) strands) (cellAt w i 7) (cellAt w i 6) nexts 0 (λ (e : cellAt w i 6 ≡ cellAt w i 7). omega (arith, e)) ∙ getD-set-same (set cells (cellAt w i 5) matched) (cellAt w i 6) strands 0 (omega (arith, inside, length-set cells (cellAt w i 5) matched))
@@ -69,8 +68,8 @@ module _ (w : Layout) (i matched strands nexts : ℕ) (cells : List ℕ) where
     noted-nexts = getD-set-same (set (set cells (cellAt w i 5) matched) (cellAt w i 6) strands) (cellAt w i 7) nexts 0 (omega (arith, inside, length-set (set cells (cellAt w i 5) matched) (cellAt w i 6) strands, length-set cells (cellAt w i 5) matched))
 
 -- three zeros are 0 in every column
-noted-zero : (w : Layout) (i : ℕ) (cells : List ℕ) → cellAt w i 7 < length cells → (c : ℕ) → 5 ≤ c → c < 8 → noteIn (noted w i 0 0 0 cells) w i c ≡ 0
-noted-zero w i cells l c a b = go (equal-or-not c 5) (equal-or-not c 6)
+noted-zero : (w : Layout) (i : ℕ) (cells : List ℕ) → cellAt w i 7 < length cells → (c : ℕ) → NoteColumn c → noteIn (noted w i 0 0 0 cells) w i c ≡ 0
+noted-zero w i cells l c a = go (equal-or-not c 5) (equal-or-not c 6)
   where
     there : ℕ → ℕ
     there k = noteIn (noted w i 0 0 0 cells) w i k
@@ -78,13 +77,17 @@ noted-zero w i cells l c a b = go (equal-or-not c 5) (equal-or-not c 6)
     go : (c ≡ 5) ⊎ (c ≢ 5) → (c ≡ 6) ⊎ (c ≢ 6) → there c ≡ 0
     go (inl e) f = ap there e ∙ noted-matched w i 0 0 0 cells l
     go (inr d) (inl f) = ap there f ∙ noted-strands w i 0 0 0 cells l
-    go (inr d) (inr e) = let f : c ≡ 7 = omega (arith, a, b, d, e) in ap there f ∙ noted-nexts w i 0 0 0 cells l
+    go (inr d) (inr e) = let f : c ≡ 7 = omega (arith, a .0, a .1, d, e) in ap there f ∙ noted-nexts w i 0 0 0 cells l
 
 -- ---- a node noted and logged
 
--- nothing is noted
-pub notes-none : (w : Layout) (i matched strands nexts : ℕ) (cells : List ℕ) → Notes w i matched strands nexts cells cells
-notes-none w i matched strands nexts cells = record { own = inr (λ c a b. refl); others = λ j c d a b. refl; touched = λ cells₀ t. t }
+-- the log is full, and nothing is noted
+pub notes-none : (w : Layout) (i matched strands nexts : ℕ) (cells : List ℕ) → logFull cells w ≡ true → Notes w i matched strands nexts cells cells
+notes-none w i matched strands nexts cells full = record {
+  own = subst (λ (b : Bool). NotedAs b w i matched strands nexts cells cells) (sym full) (λ c a. refl);
+  others = λ j c d a. refl;
+  touched = λ cells₀ t. t;
+}
 
 -- the log is not full: a name more can be counted and has a place
 pub not-full : (count places : ℕ) → (leb 65535 count || leb places (count + 1)) ≡ false → (count < 65535) × (count + 1 < places)
@@ -98,13 +101,17 @@ head w = omega arith
 pub count-is : (w : Layout) (cells : List ℕ) → getD cells (w .«nodes_at» + 1) 0 ≡ logged cells w
 count-is w cells = ap (λ (p : ℕ). getD cells p 0) (head w)
 
+-- whether it is full
+pub full-is : (w : Layout) (cells : List ℕ) (b : Bool) → (leb 65535 (getD cells (w .«nodes_at» + 1) 0) || leb (w .places) (getD cells (w .«nodes_at» + 1) 0 + 1)) ≡ b → logFull cells w ≡ b
+full-is w cells b h = ap (λ (k : ℕ). leb 65535 k || leb (w .places) (k + 1)) (sym (count-is w cells)) ∙ h
+
 -- node i behind so many names
 unfoldable pub named : Layout → ℕ → ℕ → List ℕ → List ℕ
 named w count i cells = set (set cells (cellAt w (count + 1) nameColumn) i) (w .«nodes_at» + 1) (count + 1)
 
 -- a node's last three cells are no names
 not-name : (w : Layout) (i k : ℕ) → NotOf w i (cellAt w k nameColumn)
-not-name w i k = λ c a b e. omega (arith, a, b, e)
+not-name w i k = λ c a e. omega (arith, a .0, a .1, e)
 
 module _ (w : Layout) (count i : ℕ) (cells : List ℕ) where
   -- there are as many cells
@@ -164,16 +171,17 @@ module _ (w : Layout) (count i matched strands nexts : ℕ) (cells : List ℕ) (
   after-touched cells₀ t = record {
     log = record { fits = omega (arith, after-count, fits); names = after-names (t .log) };
     elsewhere = λ q h g.
-        after-else q (λ c a b e. g (count + 1) c (omega arith) (omega (arith, after-count)) a b (e ∙ ap (λ (j : ℕ). cellAt w j c) (sym after-last))) (h 0 (omega arith)) (h (count + 1) (omega (arith, after-count)))
-        ∙ t .elsewhere q (λ k l. h k (omega (arith, l, counted, after-count))) (λ k c a l x y e. g k c a (omega (arith, l, counted, after-count)) x y (e ∙ ap (λ (j : ℕ). cellAt w j c) (sym (after-earlier k a (omega (arith, l, counted))))));
+        after-else q (λ c a e. g (count + 1) c (omega arith) (omega (arith, after-count)) a (e ∙ ap (λ (j : ℕ). cellAt w j c) (sym after-last))) (h 0 (omega arith)) (h (count + 1) (omega (arith, after-count)))
+        ∙ t .elsewhere q (λ k l. h k (omega (arith, l, counted, after-count))) (λ k c a l x e. g k c a (omega (arith, l, counted, after-count)) x (e ∙ ap (λ (j : ℕ). cellAt w j c) (sym (after-earlier k a (omega (arith, l, counted))))));
   }
 
-  -- so it is noted
-  pub notes-one : Notes w i matched strands nexts cells after
-  notes-one =
+  -- so it is noted, where the log is not full
+  pub notes-one : logFull cells w ≡ false → Notes w i matched strands nexts cells after
+  notes-one full =
       let l : cellAt w i 7 < length (named w count i cells) = omega (arith, inside, apart .nodes-inside, length-named w count i cells) in record {
-        own = inl (noted-matched w i matched strands nexts (named w count i cells) l, (noted-strands w i matched strands nexts (named w count i cells) l, noted-nexts w i matched strands nexts (named w count i cells) l));
-        others = λ j c d a b. after-else (cellAt w j c) (λ k x y e. omega (arith, d, a, b, x, y, e)) (λ (e : cellAt w j c ≡ cellAt w 0 1). omega (arith, a, b, e)) (λ (e : cellAt w j c ≡ cellAt w (count + 1) 1). omega (arith, a, b, e));
+        own = subst (λ (b : Bool). NotedAs b w i matched strands nexts cells after) (sym full)
+            (noted-matched w i matched strands nexts (named w count i cells) l, (noted-strands w i matched strands nexts (named w count i cells) l, noted-nexts w i matched strands nexts (named w count i cells) l));
+        others = λ j c d a. after-else (cellAt w j c) (λ k x e. omega (arith, d, a .0, a .1, x .0, x .1, e)) (λ (e : cellAt w j c ≡ cellAt w 0 1). omega (arith, a .0, a .1, e)) (λ (e : cellAt w j c ≡ cellAt w (count + 1) 1). omega (arith, a .0, a .1, e));
         touched = after-touched;
       }
 
@@ -252,8 +260,8 @@ module _ {w : Layout} {entry cells : List ℕ} {count k : ℕ} (apart : CellsApa
             ap (λ (p : ℕ). getD after p 0) e ∙ noted-else w i 0 0 0 gone (cellAt w k 1) (not-name w i k) ∙ getD-set-same cells (cellAt w k 1) 0 0 name-inside
             ∙ sym (ap (λ (p : ℕ). getD cells₀ p 0) e ∙ u .name k (omega (arith, h, f .counted, log .fits)))
         go cells₀ u t q d (inr n) (inl o) =
-            ap (λ (p : ℕ). getD after p 0) (o .is) ∙ noted-zero w i gone inside (o .column) (o .from) (o .below)
-            ∙ sym (ap (λ (p : ℕ). getD cells₀ p 0) (o .is) ∙ u .cell i (o .column) name-place (o .from) (o .below))
+            ap (λ (p : ℕ). getD after p 0) (o .is) ∙ noted-zero w i gone inside (o .column) (o .note)
+            ∙ sym (ap (λ (p : ℕ). getD cells₀ p 0) (o .is) ∙ u .cell i (o .column) name-place (o .note))
         go cells₀ u t q d (inr n) (inr o) = noted-else w i 0 0 0 gone q o ∙ getD-set-other cells (cellAt w k 1) q 0 0 n ∙ f .back cells₀ u t q before
           where
             name : (j : ℕ) → k ≤ j → j ≤ count → (k ≡ j) ⊎ (k ≢ j) → q ≢ cellAt w j nameColumn
@@ -261,7 +269,7 @@ module _ {w : Layout} {entry cells : List ℕ} {count k : ℕ} (apart : CellsApa
             name j a l (inr v) = d .names j (omega (arith, a, v)) l
 
             notes : (j : ℕ) → k ≤ j → j ≤ count → (k ≡ j) ⊎ (k ≢ j) → NotOf w (loggedAt entry w j) q
-            notes j a l (inl e) = λ c x y s. o c x y (s ∙ ap (λ (p : ℕ). cellAt w p c) (ap (λ (p : ℕ). loggedAt entry w p) (sym e) ∙ sym (f .names k (omega arith))))
+            notes j a l (inl e) = λ c x s. o c x (s ∙ ap (λ (p : ℕ). cellAt w p c) (ap (λ (p : ℕ). loggedAt entry w p) (sym e) ∙ sym (f .names k (omega arith))))
             notes j a l (inr v) = d .notes j (omega (arith, a, v)) l
 
             before : Done w entry count k q

@@ -11,7 +11,7 @@ use Rattle.net_event_map.specs.declared.Layout.{Layout}
 use Rattle.net_event_map.proofs.Kept.{apart-same}
 use Rattle.net_strands.specs.declared.Count.{Count}
 use Rattle.net_strands.specs.Space.{alternatives, strandFrom, strands, followed}
-use Rattle.net_strands.specs.Steps.{WalkRoom}
+use Rattle.net_strands.specs.Steps.{stackLength, WalkRoom}
 use Rattle.net_strands.specs.Given.{Extends}
 use Rattle.net_strands.proofs.Extending.{Gathering}
 use Rattle.net_strands.proofs.Given.{Noting}
@@ -31,7 +31,7 @@ room-same s v = record {
   indexed = v .indexed;
   within = v .within;
   apart = apart-same (s .cells-same) (v .apart);
-  stack-room = subst (λ (n : ℕ). 4608 ≤ n) (sym (s .stack-same)) (v .stack-room);
+  stack-room = subst (λ (n : ℕ). stackLength ≤ n) (sym (s .stack-same)) (v .stack-room);
   list-room = subst (λ (n : ℕ). 2048 ≤ n) (sym (s .list-same)) (v .list-room);
 }
 

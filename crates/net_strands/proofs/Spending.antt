@@ -1,7 +1,7 @@
 -- A walk that has read some nexts and goes on: how two such parts make one, what is left of it for few and for enough nexts, and a turn of the walk as such a part.
-use mathlib.Core.Path.{_≡_, refl, ap, _∙_}
+use mathlib.Core.Path.{_≡_, refl, sym, ap, _∙_}
 use mathlib.Core.Bool.{Bool, true, false}
-use mathlib.Core.List.{List, [], _∷_, _++_}
+use mathlib.Core.List.{List, [], _∷_, _++_, append-assoc}
 use mathlib.Core.Option.{Option, none, some}
 use Prim.Native.Nat.{ℕ, zero, suc, _+_, _-_, _≤_, _<_}
 use native.Mathlib.Nat.{not-suc-le-zero}
@@ -13,13 +13,9 @@ use Rattle.net_strands.specs.Space.{alternativeStacked}
 use Rattle.net_strands.specs.Steps.{endsStrand}
 use Rattle.net_strands.specs.Walks.{withNodes, poppedTo, walkedAs, walked, spend}
 
-append-append : (is js ks : List ℕ) → is ++ (js ++ ks) ≡ (is ++ js) ++ ks
-append-append [] js ks = refl
-append-append (i ∷ is) js ks = ap (λ (xs : List ℕ). i ∷ xs) (append-append is js ks)
-
 nodes-nodes : (is js : List ℕ) (x : Option (List ℕ)) → withNodes is (withNodes js x) ≡ withNodes (is ++ js) x
 nodes-nodes is js none = refl
-nodes-nodes is js (some ks) = ap some (append-append is js ks)
+nodes-nodes is js (some ks) = ap some (sym (append-assoc is js ks))
 
 -- no nodes change nothing
 pub nodes-empty : (x : Option (List ℕ)) → x ≡ withNodes [] x

@@ -10,7 +10,7 @@ use lib.Seq.{getD-set-same, getD-set-other}
 use Rattle.net_strands.specs.Space.{alternativeStacked}
 use Rattle.net_strands.specs.Steps.{stackIn, openedIf}
 
--- a store above them leaves what is alternativeStacked
+-- a store at n or above leaves the first n numbers
 stack-kept : (s : List ℕ) (i x n : ℕ) → n ≤ i → stackIn (set s i x) n ≡ stackIn s n
 unfolding stackIn
 stack-kept s i x zero h = refl

@@ -13,20 +13,22 @@ use Rattle.net_node.specs.declared.LinkEvent.{LinkEvent}
 use Rattle.net_node.specs.declared.EstTime.{EstTime}
 use Rattle.net_node.specs.Table.{sameEvent, Indexed}
 use Rattle.net_event_map.specs.declared.Layout.{Layout}
+use Rattle.net_event_map.specs.EventMap.{headOf}
 use Rattle.net_strands.specs.declared.EstJoinPath.{EstJoinPath}
 use Rattle.net_strands.specs.declared.Count.{Count}
 use Rattle.net_strands.specs.declared.Count.the-variants.{Entries, Over}
 use Rattle.net_strands.specs.Entries.{entry, entriesIn, push, andThen, EntriesAs}
 use Rattle.net_strands.specs.Space.{pushedIf, alternativeStacked, strandFrom, strands}
-use Rattle.net_strands.specs.Steps.{stackIn, endsStrand, openingOf, openingAt, openingLeft, openedIf}
+use Rattle.net_strands.specs.Steps.{stackLength, stackIn, endsStrand, openingOf, openingAt, openingLeft, openedIf}
 use Rattle.net_strands.specs.Walks.{poppedTo, walked, spend}
-use Rattle.net_strands.specs.Log.{strandsColumn, nextsColumn, noteIn, spanBegin, spanEnd}
-use Rattle.net_strands.specs.Given.{pushedAll, nodesIn, WalkGives, CellsGive, Given, pushedKnown}
+use Rattle.net_strands.specs.Log.{strandsColumn, nextsColumn, noteIn, spanNumber, spanBegin, spanEnd}
+use Rattle.net_strands.specs.Given.{pushedAll, nodesIn, WalkGives, Given, pushedKnown}
 use Rattle.net_strands.proofs.Entries.{listed-some, listed-none}
 use Rattle.net_strands.proofs.Stacks.{stack-push, stack-none, stack-pop}
+use Rattle.net_strands.proofs.Extending.{andThen-some}
 use Rattle.net_strands.proofs.Targets.{consIf, pushedEach}
 use Rattle.net_strands.proofs.Spending.{spend-short, walk-none, walk-met, walk-ends, walk-on}
-use Rattle.net_strands.proofs.Given.{known-is, cells-say}
+use Rattle.net_strands.proofs.Given.{known-is, Walks, walks-by, says-span}
 use Rattle.net_strands.proofs.Opened.{Item, Alternative, Open, numbersOf, stackOf, openedOn, stackedOn, opened-numbers, stacked-numbers, Rest, Reads, Closes, closes-begun, Opened, opened-on, opened-more, opened-stacked, each-over, Pushed, pushed-more, answer-is}
 
 -- ---- what the slices, and the nexts that may still be read, were when a loop began
@@ -59,20 +61,12 @@ none-some : (es : List EstJoinPath) → none ≡ some es → ⊥
 none-some es h = subst IsNone h tt
 
 -- the next, if it is to be pushed, is a list of nodes
-then-some : (a : Option (List EstJoinPath)) → a ≡ andThen a some
-then-some none = refl
-then-some (some es) = refl
-
 pushed-one : (m : ℕ) (b : Bool) (i : ℕ) (es : List EstJoinPath) → pushedIf b es (entry m i) ≡ pushedAll m (consIf b i []) es
 unfolding pushedAll
-pushed-one m true i es = then-some (push es (entry m i))
+pushed-one m true i es = sym (andThen-some (push es (entry m i)))
 pushed-one m false i es = refl
 
 -- ---- numbers on top of a stack
-
-abbrev headOf : List ℕ → ℕ
-headOf [] = 0
-headOf (i ∷ is) = i
 
 abbrev tailOf : List ℕ → List ℕ
 tailOf [] = []
@@ -95,14 +89,16 @@ pops node e k s = poppedTo s (walked k node e)
 
 module _ (node : ℕ → EstTime) (nodes : ℕ) (e : LinkEvent) where
   -- what a node gives that is closed
-  pub closes-gives : {list : List ℕ} {at left i begin opened : ℕ} → Closes node nodes e list at left i begin opened (pops node e) → WalkGives node e list at i begin at (opened - left)
-  closes-gives v = record { rises = v .inside; inside = omega arith; within = omega (arith, v .most); gives = v .gives }
+  closes-gives : {list : List ℕ} {at left i begin opened : ℕ} → Closes node nodes e list at left i begin opened (pops node e) → WalkGives node e list at i begin at (opened - left)
+  closes-gives v = record { rises = v .inside; inside = omega arith; gives = v .gives }
+
+  -- as it is noted
+  pub closes-says : {list : List ℕ} {at left i begin opened : ℕ} → Closes node nodes e list at left i begin opened (pops node e) → at ≤ 1024 → Walks node e list at i (spanNumber begin at) (opened - left)
+  closes-says {list} {at} {left} {i} {begin} {opened} v h = says-span (λ b t. WalkGives node e list at i b t (opened - left)) begin at h (closes-gives v)
 
   -- what is noted of a node, where it is looked at
   pub known-gives : {cells list : List ℕ} {w : Layout} {at here : ℕ} → Given cells w node nodes e list at → here < nodes → (meet : Bool) (known : ℕ) → known ≡ cond meet (noteIn cells w here strandsColumn) 0 → (known ≡ 0 → ⊥) → (nexts : ℕ) → nexts ≡ noteIn cells w here nextsColumn → WalkGives node e list at here (spanBegin known) (spanEnd known) nexts
-  known-gives {cells} {list} {w} {at} {here} v h meet known k z nexts g =
-      cells-say node e list at here known nexts z
-      (subst (λ (c : ℕ). CellsGive node e list at here c nexts) (sym (known-is meet known (noteIn cells w here strandsColumn) k z)) (subst (CellsGive node e list at here (noteIn cells w here strandsColumn)) (sym g) (v .strands here h)))
+  known-gives {cells} {list} {w} {at} {here} v h meet known k z nexts g = walks-by node e list at here (known-is meet known (noteIn cells w here strandsColumn) k z) g (v .strands here h) z
 
 module _ (node : ℕ → EstTime) (nodes : ℕ) (e : LinkEvent) (start n : ℕ) where
   -- A strand is left, and the stack's next is to be walked or closed.
@@ -112,7 +108,7 @@ module _ (node : ℕ → EstTime) (nodes : ℕ) (e : LinkEvent) (start n : ℕ) 
     pub opened : Opened node nodes e start n list at left items (pops node e)
     pub few : at ≤ 1024
     pub most : left ≤ 4096
-    pub room : top + left ≤ 4608
+    pub room : top + left ≤ stackLength
 
   -- The walk stands on a node.
   pub record Standing (stack list : List ℕ) (at left top here : ℕ) : Type 0 where
@@ -122,7 +118,7 @@ module _ (node : ℕ → EstTime) (nodes : ℕ) (e : LinkEvent) (start n : ℕ) 
     pub within : here < nodes
     pub few : at ≤ 1024
     pub most : left ≤ 4096
-    pub room : top + left ≤ 4608
+    pub room : top + left ≤ stackLength
 
   -- A node is to be closed: the number on top is its opening, the one below it the node.
   pub record Closing (stack list : List ℕ) (at left top opening : ℕ) : Type 0 where
@@ -251,7 +247,7 @@ module _ (node : ℕ → EstTime) (nodes : ℕ) (e : LinkEvent) (start n : ℕ) 
       next-within = subst (λ (z : EstTime). z .«idx_next» < nodes) (sym l) (ix .next here (v .within))
 
       -- its own item, and its alternative's, are on the stack
-      module _ (least : 0 < left) (b : Bool) (stack₂ : List ℕ) (top₂ : ℕ) (h₂ : stackIn stack₂ top₂ ≡ alternativeStacked (x .«idx_next_alt») (openedIf b (openingOf at left) here (stackIn stack top))) (r₂ : top₂ + left ≤ 4609) where
+      module _ (least : 0 < left) (b : Bool) (stack₂ : List ℕ) (top₂ : ℕ) (h₂ : stackIn stack₂ top₂ ≡ alternativeStacked (x .«idx_next_alt») (openedIf b (openingOf at left) here (stackIn stack top))) (r₂ : top₂ + left ≤ stackLength + 1) where
         -- the items, but for the alternative
         abbrev xs : List Item
         xs = openedOn b here at left (v .items)

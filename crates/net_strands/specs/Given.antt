@@ -3,11 +3,12 @@
 -- list before it; so they are worked out once, and copied for every other such entry of that node. What strands give is
 -- noted of each node where they can meet, and copied for every strand that comes there.
 use mathlib.Core.Path.{_≡_}
+use mathlib.Core.Logic.{_≢_}
 use mathlib.Core.Bool.{Bool, true, false}
 use mathlib.Core.List.{List, [], _∷_}
 use mathlib.Core.Option.{Option, none, some}
 use Prim.{Unit}
-use Prim.Native.Nat.{ℕ, zero, suc, _+_, _-_, _*_, _/_, _%_, _≤_, _<_}
+use Prim.Native.Nat.{ℕ, zero, suc, _+_, _-_, _*_, _≤_, _<_}
 use lib.ListN.{getD}
 use Rattle.net_node.specs.declared.LinkEvent.{LinkEvent}
 use Rattle.net_node.specs.declared.EstTime.{EstTime}
@@ -18,7 +19,7 @@ use Rattle.net_strands.specs.declared.Count.the-variants.{Entries, Over}
 use Rattle.net_strands.specs.Entries.{entry, entriesIn, push, andThen, EntriesAs}
 use Rattle.net_strands.specs.Space.{alternatives}
 use Rattle.net_strands.specs.Walks.{poppedTo, walked, spend}
-use Rattle.net_strands.specs.Log.{matchedColumn, strandsColumn, nextsColumn, noteIn, Touched}
+use Rattle.net_strands.specs.Log.{matchedColumn, strandsColumn, nextsColumn, noteIn, spanBegin, spanEnd, Touched}
 
 -- an entry with match link m for each of these nodes, behind a list
 unfoldable pub pushedAll : ℕ → List ℕ → List EstJoinPath → Option (List EstJoinPath)
@@ -37,34 +38,27 @@ pub record SpanGives (rule : ℕ → List EstJoinPath → Option (List EstJoinPa
   pub inside : end ≤ at
   pub gives : (m : ℕ) (es : List EstJoinPath) → rule m es ≡ pushedAll m (nodesIn list begin (end - begin)) es
 
--- A cell says so of a rule, or nothing (0). Both ends of a span are below 2,048; the cell is one more than 2,048 times
--- its beginning and its end together, so that no span is 0.
-abbrev pub CellGives : (ℕ → List EstJoinPath → Option (List EstJoinPath)) → List ℕ → ℕ → ℕ → Type 0
-CellGives rule list at zero = Unit
-CellGives rule list at (suc c) = SpanGives rule list at (c / 2048) (c % 2048)
+-- a cell that is not 0 has the number of a span of which something holds
+abbrev pub Says : (ℕ → ℕ → Type 0) → ℕ → Type 0
+Says Holds cell = cell ≢ 0 → Holds (spanBegin cell) (spanEnd cell)
 
 -- A node's walk gives the nodes of a span for so many nexts, whatever was stacked before it and however many may be
 -- read.
 pub record WalkGives (node : ℕ → EstTime) (e : LinkEvent) (list : List ℕ) (at i begin end nexts : ℕ) : Type 0 where
   pub rises : begin ≤ end
   pub inside : end ≤ at
-  pub within : nexts ≤ 4096
   pub gives : (k : ℕ) (stack : List ℕ)
       → walked k node e i stack
       ≡ spend nexts (nodesIn list begin (end - begin)) (λ j. poppedTo stack (walked j node e)) k
-
--- the same of two cells: the span, or 0 if nothing is noted, and the nexts
-abbrev pub CellsGive : (ℕ → EstTime) → LinkEvent → List ℕ → ℕ → ℕ → ℕ → ℕ → Type 0
-CellsGive node e list at i zero nexts = Unit
-CellsGive node e list at i (suc c) nexts = WalkGives node e list at i (c / 2048) (c % 2048) nexts
 
 -- what the cells of all nodes say of a new list that has so many entries
 pub record Given (cells : List ℕ) (w : Layout) (node : ℕ → EstTime) (n : ℕ) (e : LinkEvent) (list : List ℕ) (at : ℕ)
     : Type 0 where
   pub matched : (i : ℕ) → i < n
-      → CellGives (λ m es. alternatives n node e m i es) list at (noteIn cells w i matchedColumn)
+      → Says (SpanGives (λ m es. alternatives n node e m i es) list at) (noteIn cells w i matchedColumn)
   pub strands : (i : ℕ) → i < n
-      → CellsGive node e list at i (noteIn cells w i strandsColumn) (noteIn cells w i nextsColumn)
+      → Says (λ begin end. WalkGives node e list at i begin end (noteIn cells w i nextsColumn))
+      (noteIn cells w i strandsColumn)
 
 -- the same of an answer
 abbrev pub GivenThen : List ℕ → Layout → (ℕ → EstTime) → ℕ → LinkEvent → List ℕ → Count → Type 0
@@ -78,7 +72,7 @@ pub record Extends (rule : List EstJoinPath → Option (List EstJoinPath)) (w : 
   pub given : GivenThen cells′ w node n e list′ r
   pub touched : (cells₀ : List ℕ) → Touched w cells₀ cells → Touched w cells₀ cells′
 
--- what a node's cells say, behind a list, for a walk that may read so many nexts: none if they are too few
+-- an entry for each of these nodes behind a list, or none if the walk has too few nexts left
 abbrev pub pushedKnown : Bool → ℕ → List ℕ → List EstJoinPath → Option (List EstJoinPath)
 pushedKnown true m is es = none
 pushedKnown false m is es = pushedAll m is es

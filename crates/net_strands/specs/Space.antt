@@ -32,7 +32,8 @@ abbrev pub onward : Bool → (List EstJoinPath → Option (List EstJoinPath)) �
 onward true f es = some es
 onward false f es = f es
 
--- from node i along the alternatives, for so many of them, with m as the new match link
+-- from node i along the alternatives, at most k of them, with m as the new match link: n are enough among n nodes, since
+-- alternatives rise (`Indexed`)
 unfoldable pub alternatives : ℕ → (ℕ → EstTime) → LinkEvent → ℕ → ℕ → List EstJoinPath → Option (List EstJoinPath)
 alternatives zero node e m i es = some es
 alternatives (suc k) node e m i es =
@@ -107,13 +108,13 @@ followed zero node n e m i es = alternatives n node e m i es
 followed (suc old) node n e m i es = strands 4096 node e m (strandFrom i es)
 
 -- "New m is m for Arrive; for Clear 0 if m is 0 or the event's link, else the entry is copied."
-abbrev pub extendedAs : (stops arrive matched seen : Bool) → (ℕ → EstTime) → ℕ → LinkEvent → EstJoinPath
+abbrev pub extendedAs : (dropped arrive cleared seen : Bool) → (ℕ → EstTime) → ℕ → LinkEvent → EstJoinPath
     → List EstJoinPath → Option (List EstJoinPath)
-extendedAs true arrive matched seen node n e x es = some es
+extendedAs true arrive cleared seen node n e x es = some es
 extendedAs false false false seen node n e x es = push es x
-extendedAs false true matched false node n e x es = some es
+extendedAs false true cleared false node n e x es = some es
 extendedAs false false true false node n e x es = some es
-extendedAs false true matched true node n e x es =
+extendedAs false true cleared true node n e x es =
     followed (x .«link_idx_match») node n e (x .«link_idx_match») (x .«est_idx_next») es
 extendedAs false false true true node n e x es = followed (x .«link_idx_match») node n e 0 (x .«est_idx_next») es
 

@@ -23,13 +23,17 @@ stackIn s (suc n) = getD s n 0 ∷ stackIn s n
 abbrev pub nodesAtEntry : Lent (List Float) → Lent (List ℕ) → ℕ → EstTime
 nodesAtEntry floats numbers = nodeAt (now (floats .entry)) (now (numbers .entry))
 
+-- how many numbers the strand walk's stack has: one for an alternative of each next, and 512 for nodes to be closed
+abbrev pub stackLength : ℕ
+stackLength = 4608
+
 -- What is lent for following entries: a network, the cells of its nodes, a stack and the new list.
 pub record WalkRoom (fs : List Float) (us cells stack list : List ℕ) (nodes : ℕ) (w : Layout) : Type 0 where
   pub table : Room fs us nodes
   pub indexed : Indexed (nodeAt fs us) nodes
   pub within : nodes ≤ w .places
   pub apart : CellsApart cells w
-  pub stack-room : 4608 ≤ length stack
+  pub stack-room : stackLength ≤ length stack
   pub list-room : 2048 ≤ length list
 
 -- "is an Arrive or has no next"
@@ -43,22 +47,24 @@ newMatch false m = 0
 
 -- ---- nodes on the stack that are to be closed: what a node gives is noted when all that it stacked is walked
 
--- The stack has alternatives, which are below 65,536, and openings, each above the node that was opened. An opening
--- says how many entries the new list had and how many nexts were left when the walk came to the node.
+-- Of the stack's numbers those below 65,536 are nodes to be walked; each other one is an opening, and the number below
+-- it the node that was opened. An opening says how many entries the new list had, and how many nexts were left, when
+-- the walk came to the node: 1 to 4,096, so that it is at least 65,536.
 abbrev pub openingOf : ℕ → ℕ → ℕ
 openingOf at left = 65535 + at * 4096 + left
 
--- what it says
+-- how many entries an opening says there were
 abbrev pub openingAt : ℕ → ℕ
 openingAt opening = (opening - 65536) / 4096
 
+-- how many nexts it says were left
 abbrev pub openingLeft : ℕ → ℕ
 openingLeft opening = (opening - 65536) % 4096 + 1
 
--- A node is opened, where that is wanted, as long as the stack of 4,608 has room for it beside an alternative for each
--- next that is left.
+-- A node is opened, where that is wanted, as long as the stack has room for it beside an alternative for each next that
+-- is left.
 unfoldable pub opens : Bool → (left top : ℕ) → Bool
-opens wanted left top = wanted && ltb (top + left + 1) 4608
+opens wanted left top = wanted && ltb (top + left + 1) stackLength
 
 -- a node and its opening on a stack, if it is opened
 abbrev pub openedIf : Bool → ℕ → ℕ → List ℕ → List ℕ

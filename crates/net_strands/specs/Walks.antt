@@ -1,4 +1,4 @@
--- Words of the contracts: the nodes that a strand walk gives, and what a walk has done that goes on. The walk is that
+-- Words of the contracts: the nodes that a strand walk gives, and a walk of which a part is done. The walk is that
 -- of `strands`, without the entries: which nodes it gives depends on neither the match link nor the list before it.
 use mathlib.Core.Bool.{Bool, true, false, _||_}
 use mathlib.Core.List.{List, [], _∷_, _++_}

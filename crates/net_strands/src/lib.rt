@@ -16,18 +16,21 @@ ghost use Rattle.net_strands.specs.Entries.{entry, entryAt, entriesIn, p
 ghost use Rattle.net_strands.specs.Space.{isArrive, pushedIf, alternatives, alternativeStacked, strands};
 ghost use Rattle.net_strands.specs.Space.{strandFrom, followed, extended, extendedAll};
 ghost use Rattle.net_strands.specs.Steps.{stackIn, endsStrand, newMatch, nodesAtEntry, WalkRoom};
-ghost use Rattle.net_strands.specs.Steps.{openingOf, openingAt, openingLeft, opens, openedIf};
+ghost use Rattle.net_strands.specs.Steps.{stackLength, openingOf, openingAt, openingLeft, opens, openedIf};
 ghost use Rattle.net_strands.specs.Log.{matchedColumn, noteIn, spanNumber, spanBegin, spanEnd};
 ghost use Rattle.net_strands.specs.Log.{LogIn, Touched, Notes, Ungiven};
 ghost use Rattle.net_strands.specs.Given.{pushedAll, nodesIn, pushedKnown, Given, Extends};
 
-// The columns of a node's cells: a name of the log, and what is noted of the node (specs/Log.antt).
+// The columns of a node's cells (specs/Log.antt): a name of the log,
 const NAME: usize = 1;
 
+// what entries of the node give that match already,
 const MATCHED: usize = 5;
 
+// what strands from the node give,
 const STRANDS: usize = 6;
 
+// and how many nexts these read.
 const NEXTS: usize = 7;
 
 // A join entry: the link to be matched (0: matched already) and a node of the network.
@@ -100,7 +103,7 @@ pub fn is_arrive(k: EstType) -> bool
     }
 }
 
-// An entry that matches already: node i and each of its alternatives gives its next if that has the event.
+// An entry that matches already: node `start` and each of its alternatives gives its next if that has the event.
 fn follow_alternatives(
     floats: &[f64],
     numbers: &[u32],
@@ -178,7 +181,7 @@ fn push_span(list: &mut [u32], n: usize, link_idx_match: u32, span: u32) -> Coun
 
 // A span of the new list as a number that is not 0.
 fn span_number(begin: usize, end: usize) -> u32
-    requires { ⌜ begin < 1048576 ⌝ }
+    requires { ⌜ begin ≤ end ⌝ }
     requires { ⌜ end ≤ 1024 ⌝ }
     ensures { λ r. ⌜ r ≡ spanNumber begin end ⌝ }
 {
@@ -195,7 +198,7 @@ fn noted(cells: &[u32], w: Layout, i: u32, column: usize) -> u32
     cells[w.nodes_at + i as usize * 8 + column]
 }
 
-// The same where it is looked at, and else 0.
+// The same if it is asked for, and else 0.
 fn known_span(wanted: bool, cells: &[u32], w: Layout, i: u32, column: usize) -> u32
     requires { ⌜ CellsApart (now cells) w ⌝ }
     requires { ⌜ i < w .places ⌝ }
@@ -208,7 +211,8 @@ fn known_span(wanted: bool, cells: &[u32], w: Layout, i: u32, column: usize) -> 
     0
 }
 
-// Notes three numbers of a node and logs it, unless the log is full.
+// Notes three numbers of a node and logs it, unless the log is full. It has at most 65,535 names, since a name is
+// counted in a u32.
 fn note(cells: &mut [u32], w: Layout, i: u32, matched: u32, strands: u32, nexts: u32)
     requires { ⌜ CellsApart (now cells) w ⌝ }
     requires { ⌜ i < w .places ⌝ }
@@ -236,9 +240,9 @@ fn forget_notes(cells: &mut [u32], w: Layout)
     let count = cells[w.nodes_at + NAME] as usize;
     let mut k = 1;
     while k <= count {
-        let at = w.nodes_at + k * 8 + NAME;
-        let unit = w.nodes_at + cells[at] as usize * 8;
-        cells[at] = 0;
+        let name = w.nodes_at + k * 8 + NAME;
+        let unit = w.nodes_at + cells[name] as usize * 8;
+        cells[name] = 0;
         cells[unit + MATCHED] = 0;
         cells[unit + STRANDS] = 0;
         cells[unit + NEXTS] = 0;
@@ -326,12 +330,14 @@ fn ends_strand(node: EstTime) -> bool
 
 // Puts a node and its opening on the stack, if it is to be opened.
 fn open_node(wanted: bool, stack: &mut [u32], top: usize, here: u32, at: usize, left: u32) -> usize
-    requires { ⌜ 4608 ≤ length (now stack) ⌝ }
-    requires { ⌜ top + left ≤ 4608 ⌝ }
+    requires { ⌜ stackLength ≤ length (now stack) ⌝ }
+    requires { ⌜ top + left ≤ stackLength ⌝ }
+    requires { ⌜ 0 < left ⌝ }
+    requires { ⌜ left ≤ 4096 ⌝ }
     requires { ⌜ at ≤ 1024 ⌝ }
     ensures holds { λ r. ⌜ stackIn (now (stack .exit)) r ≡ openedIf (opens wanted left top) (openingOf at left) here
         (stackIn (now (stack .entry)) top) ⌝ }
-    ensures room { λ r. ⌜ r + left ≤ 4608 ⌝ }
+    ensures room { λ r. ⌜ r + left ≤ stackLength ⌝ }
     ensures top { λ r. ⌜ r ≤ top + 2 ⌝ }
 {
     if wanted & (top + left as usize + 1 < 4608) {
@@ -352,24 +358,26 @@ fn stack_node(
     left: u32,
     alt: u32,
 ) -> usize
-    requires { ⌜ 4608 ≤ length (now stack) ⌝ }
-    requires { ⌜ top + left ≤ 4608 ⌝ }
+    requires { ⌜ stackLength ≤ length (now stack) ⌝ }
+    requires { ⌜ top + left ≤ stackLength ⌝ }
     requires { ⌜ 0 < left ⌝ }
+    requires { ⌜ left ≤ 4096 ⌝ }
     requires { ⌜ at ≤ 1024 ⌝ }
     ensures holds { λ r. ⌜ stackIn (now (stack .exit)) r ≡ alternativeStacked alt
         (openedIf (opens wanted left top) (openingOf at left) here (stackIn (now (stack .entry)) top)) ⌝ }
-    ensures room { λ r. ⌜ r + left ≤ 4609 ⌝ }
+    ensures room { λ r. ⌜ r + left ≤ stackLength + 1 ⌝ }
     ensures top { λ r. ⌜ r ≤ top + 3 ⌝ }
 {
     let opened = open_node(wanted, stack, top, here, at, left);
     stack_alternative(stack, opened, alt)
 }
 
-// A node's opening is on top of the stack: all that the node stacked is walked, and what it gives is noted.
+// Notes what a node gives whose opening was popped: the entries, and the nexts read, since then.
 fn close_node(cells: &mut [u32], w: Layout, i: u32, opening: u32, at: usize, left: u32)
     requires { ⌜ CellsApart (now cells) w ⌝ }
     requires { ⌜ i < w .places ⌝ }
     requires { ⌜ 65536 ≤ opening ⌝ }
+    requires { ⌜ openingAt opening ≤ at ⌝ }
     requires { ⌜ at ≤ 1024 ⌝ }
     requires { ⌜ left ≤ openingLeft opening ⌝ }
     ensures { λ _. ⌜ Notes w i (noteIn (now (cells .entry)) w i matchedColumn) (spanNumber (openingAt opening) at)
@@ -383,7 +391,8 @@ fn close_node(cells: &mut [u32], w: Layout, i: u32, opening: u32, at: usize, lef
     note(cells, w, i, matched, span, nexts);
 }
 
-// An entry for each node of a span, put behind the n of their list, if the walk may read as many nexts.
+// An entry for each node of a span, put behind the n of their list; Over if the walk has fewer nexts left than the span
+// was read for.
 fn push_known(over: bool, list: &mut [u32], n: usize, link_idx_match: u32, span: u32) -> Count
     requires { ⌜ 2048 ≤ length (now list) ⌝ }
     requires { ⌜ n ≤ 1024 ⌝ }
@@ -425,7 +434,7 @@ fn follow_strands(
         (nodesAtEntry floats numbers) nodes event (now (cells .entry)) (now (list .entry)) n (now (cells .exit))
         (now (list .exit)) r ⌝ }
 {
-    // The first `top` of the stack are still to be walked or closed, the last of them next; `left` nexts may be read.
+    // The first `top` of the stack are still to be walked or closed, from the last down; `left` nexts may be read.
     let mut at = n;
     let mut left: u32 = 4096;
     stack[0] = start;
@@ -435,14 +444,14 @@ fn follow_strands(
         let mut here = stack[top];
         if here >= 65536 {
             top -= 1;
-            let opened = stack[top];
-            close_node(cells, w, opened, here, at, left);
+            let i = stack[top];
+            close_node(cells, w, i, here, at, left);
             continue 'strands;
         }
         while left > 0 {
             let node = net_node::load(floats, numbers, here as usize);
-            let meet = several & ((node.idx_prev_alt != 0) | (left == 4096));
-            let known = known_span(meet, cells, w, here, STRANDS);
+            let may_meet = several & ((node.idx_prev_alt != 0) | (left == 4096));
+            let known = known_span(may_meet, cells, w, here, STRANDS);
             if known != 0 {
                 let nexts = noted(cells, w, here, NEXTS);
                 let copied = push_known(left < nexts, list, at, link_idx_match, known);
@@ -453,17 +462,17 @@ fn follow_strands(
                 left -= nexts;
                 continue 'strands;
             }
-            top = stack_node(meet, stack, top, here, at, left, node.idx_next_alt);
+            top = stack_node(may_meet, stack, top, here, at, left, node.idx_next_alt);
             left -= 1;
             let next = node.idx_next;
             let there = net_node::load(floats, numbers, next as usize);
-            let met = net_node::same_event(there.link_event, event);
-            let Count::Entries(more) = push_if(met, list, at, link_idx_match, next) else {
+            let has_event = net_node::same_event(there.link_event, event);
+            let Count::Entries(more) = push_if(has_event, list, at, link_idx_match, next) else {
                 return Count::Over;
             };
             at = more;
             let ends = ends_strand(there);
-            if met | ends {
+            if has_event | ends {
                 continue 'strands;
             }
             here = next;
@@ -565,8 +574,8 @@ fn extend(
     }
     let kind = event.est_type;
     let arrive = is_arrive(kind);
-    let matched = (m == 0) | (m == event.link_idx);
-    if !(arrive | matched) {
+    let cleared = (m == 0) | (m == event.link_idx);
+    if !(arrive | cleared) {
         return push_entry(list, n, x);
     }
     if !seen {
@@ -589,7 +598,8 @@ fn extend(
     )
 }
 
-// The new list for an event, out of the old one's `count` entries, each followed; what they give stays noted.
+// The new list for an event, out of the old one's `count` entries, each dropped, copied or followed; what was noted
+// stays in the cells.
 fn extend_all(
     floats: &[f64],
     numbers: &[u32],

@@ -1,7 +1,7 @@
 -- `net_strands::follow_matched` meets its contract: the node's cell says what the entry gives, or it is worked out and noted.
 use borrow.Author.Needs.{needs}
 use native.Mathlib.Omega.{arith}
-use Rattle.net_strands.proofs.Given.{known-is, matched-said, matched-copied, matched-over, matched-got, matched-left, matched-noted}
+use Rattle.net_strands.proofs.Given.{known-is, matched-said, matched-copied, matched-over, matched-got, matched-grows, matched-left, matched-noted}
 use Rattle.net_strands.proofs.follow_matched.Statement.{statement}
 use Rattle.net_strands.proofs.follow_matched.Tie as tie
 
@@ -43,7 +43,7 @@ span-number-requires c κs =
     let r = c .before .before .before .before .before .before .before .before .before .before .before .before .before .before .before .pre .1 .1 in
     let f = c .before .before .before .before .before .before .follow-alternatives in
     let g = matched-got (r .1 .1 .1 .1 .1) (a .link-idx-match) (a .start) (r .0) (f .last .1 .1 .1 .1 .1 .1 .0) (f .result) (f .ensures) (c .before .before .followed .given .0 .0) (c .before .before .followed .given .1) in
-    (omega (arith, r .1 .1 .1 .1 .0), g .1)
+    (matched-grows (r .1 .1 .1 .1 .1) (a .link-idx-match) (a .start) (r .0) (f .last .1 .1 .1 .1 .1 .1 .0) (f .result) (f .ensures) (c .before .before .followed .given .0 .0) (c .before .before .followed .given .1), g .1)
 
 note-requires : tie.Need-note-requires
 note-requires c κs = let r = c .before .before .before .before .before .before .before .before .before .before .before .before .before .before .before .before .before .before .before .before .before .pre .1 .1 in (r .1 .1 .0, omega (arith, r .0, r .1 .0))

@@ -12,12 +12,13 @@ use Rattle.net_node.specs.declared.EstTime.{EstTime}
 use Rattle.net_node.specs.Table.{nodeAt}
 use Rattle.net_event_map.specs.EventMap.{CellsApart}
 use Rattle.net_event_map.proofs.Kept.{apart-same}
+use Rattle.net_strands.specs.Entries.{entry}
 use Rattle.net_strands.specs.Steps.{opens}
 use Rattle.net_strands.specs.Log.{spanBegin, spanEnd, Touched}
 use Rattle.net_strands.specs.Given.{WalkGives, Given}
-use Rattle.net_strands.proofs.Given.{given-kept, given-noted, cells-said}
+use Rattle.net_strands.proofs.Given.{given-kept, given-noted}
 use Rattle.net_strands.proofs.Opened.{Pushed, pushed-start, pushed-then}
-use Rattle.net_strands.proofs.Walking.{Since, since-begun, since-joined, since-next, since-popped, Popping, Standing, Closing, Turned, popping-start, popping-last, popping-on, popping-closes, closes-gives, known-gives, standing-over, known-over, known-pushed, next-within, standing-turned}
+use Rattle.net_strands.proofs.Walking.{Since, since-begun, since-joined, since-next, since-popped, Popping, Standing, Closing, Turned, popping-start, popping-last, popping-on, popping-closes, closes-says, known-gives, standing-over, known-over, known-pushed, next-within, standing-turned}
 use Rattle.net_strands.proofs.follow_strands.Statement.{statement}
 use Rattle.net_strands.proofs.follow_strands.Tie as tie
 
@@ -52,7 +53,7 @@ stack-outer c = c .strands .inv .0 .stack-length ∙ length-set (c .before .befo
 apart-outer : (c : tie.At-strands Inv-loop μ-loop Inv-strands μ-strands) → CellsApart (c .strands .cells) (c .before .before .before .before .before .before .args .w)
 apart-outer c = apart-same (c .strands .inv .1) (c .before .before .before .before .before .before .pre .0 .apart)
 
--- an opening is on top of the stack
+-- a mark is on top of the stack
 closing : (c : tie.Then1 Inv-loop μ-loop Inv-strands μ-strands) → Closing (node (c .before .before .before .before .before .before .before .before .before)) (c .before .before .before .before .before .before .before .before .before .args .nodes) (c .before .before .before .before .before .before .before .before .before .args .event) (c .before .before .before .before .before .before .before .before .before .args .start) (c .before .before .before .before .before .before .before .before .before .args .n) (c .before .before .before .strands .stack) (c .before .before .before .strands .list) (c .before .before .before .strands .at) (c .before .before .before .strands .left) (c .before .before .before .strands .top) (getD (c .before .before .before .strands .stack) (c .before .before .before .strands .top - 1) 0)
 closing c = popping-closes _ _ _ _ _ (c .before .before .before .strands .inv .2) (c .before .before .before .before .before .before .before .before .before .pre .0 .table .most) (c .before .before .strands-test .taken) (c .if1 .taken)
 
@@ -90,16 +91,16 @@ slice-read-here c = omega (arith, c .before .before .strands .inv .2 .room, stac
 sub-top-2 : tie.Need-sub-top-2 Inv-loop μ-loop Inv-strands μ-strands
 sub-top-2 c = omega (arith, closing c .two)
 
-mul-opened : tie.Need-mul-opened Inv-loop μ-loop Inv-strands μ-strands
-mul-opened c = omega (arith, c .before .before .before .strands .inv .2 .room)
+mul-i : tie.Need-mul-i Inv-loop μ-loop Inv-strands μ-strands
+mul-i c = omega (arith, c .before .before .before .strands .inv .2 .room)
 
-slice-read-opened : tie.Need-slice-read-opened Inv-loop μ-loop Inv-strands μ-strands
-slice-read-opened c = omega (arith, c .before .before .before .before .strands .inv .2 .room, stack-outer (c .before .before .before .before), c .before .before .before .before .before .before .before .before .before .before .pre .0 .stack-room, c .before .before .before .strands-test .taken)
+slice-read-i : tie.Need-slice-read-i Inv-loop μ-loop Inv-strands μ-strands
+slice-read-i c = omega (arith, c .before .before .before .before .strands .inv .2 .room, stack-outer (c .before .before .before .before), c .before .before .before .before .before .before .before .before .before .before .pre .0 .stack-room, c .before .before .before .strands-test .taken)
 
 close-node-requires : tie.Need-close-node-requires Inv-loop μ-loop Inv-strands μ-strands
 close-node-requires c κs =
     let k = closing (c .before .before) in
-    (apart-outer (c .before .before .before .before .before), (omega (arith, k .closes .named, c .before .before .before .before .before .before .before .before .before .before .before .pre .0 .within), (c .before .before .if1 .taken, (c .before .before .before .before .before .strands .inv .2 .few, k .closes .spent))))
+    (apart-outer (c .before .before .before .before .before), (omega (arith, k .closes .named, c .before .before .before .before .before .before .before .before .before .before .before .pre .0 .within), (c .before .before .if1 .taken, (k .closes .inside, (c .before .before .before .before .before .strands .inv .2 .few, k .closes .spent)))))
 
 strands-less : tie.Need-strands-less Inv-loop μ-loop Inv-strands μ-strands
 strands-less c = omega (arith, closing (c .before .before .before .before .before) .two)
@@ -113,7 +114,7 @@ strands-again c =
       s .kept .0 ∙ v .1,
       k .popping,
       v .3,
-      given-noted (v .4) (s .ensures) (v .4 .matched _ (k .closes .named)) (cells-said _ _ _ _ _ _ _ _ (v .2 .few) (closes-gives _ _ _ (k .closes))),
+      given-noted (v .4) (s .ensures) (v .4 .matched _ (k .closes .named)) (closes-says _ _ _ (k .closes) (v .2 .few)),
       λ z t. s .ensures .touched z (v .5 z t),
     )
 
@@ -185,7 +186,7 @@ strands-again-2 c =
     )
 
 stack-node-requires : tie.Need-stack-node-requires Inv-loop μ-loop Inv-strands μ-strands
-stack-node-requires c κs = (omega (arith, stack-inner (c .before .before .before .before .before .before .before), c .before .before .before .before .before .before .before .before .before .before .before .before .before .before .before .before .before .pre .0 .stack-room), (c .before .before .before .before .before .before .before .loop .inv .1 .room, (c .before .before .before .before .before .before .loop-test .taken, c .before .before .before .before .before .before .before .loop .inv .1 .few)))
+stack-node-requires c κs = (omega (arith, stack-inner (c .before .before .before .before .before .before .before), c .before .before .before .before .before .before .before .before .before .before .before .before .before .before .before .before .before .pre .0 .stack-room), (c .before .before .before .before .before .before .before .loop .inv .1 .room, (c .before .before .before .before .before .before .loop-test .taken, (c .before .before .before .before .before .before .before .loop .inv .1 .most, c .before .before .before .before .before .before .before .loop .inv .1 .few))))
 
 load-requires-2 : tie.Need-load-requires-2 Inv-loop μ-loop Inv-strands μ-strands
 load-requires-2 c κs =
@@ -288,8 +289,8 @@ follow-strands-spec =
     mul-here
     slice-read-here
     sub-top-2
-    mul-opened
-    slice-read-opened
+    mul-i
+    slice-read-i
     close-node-requires
     strands-less
     strands-again

@@ -27,14 +27,14 @@ cast-count c = omega (arith, c .slice-known .given (c .before .before .args .w .
 loop-holds : tie.Need-loop-holds Inv-loop μ-loop
 loop-holds c = forgetting-start _ _
 
-mul-at : tie.Need-mul-at Inv-loop μ-loop
-mul-at c = omega (arith, name-inside (c .before .before .before .before .pre .0) (c .before .before .before .before .pre .1) (c .before .loop .inv) (c .loop-test .taken))
+mul-name : tie.Need-mul-name Inv-loop μ-loop
+mul-name c = omega (arith, name-inside (c .before .before .before .before .pre .0) (c .before .before .before .before .pre .1) (c .before .loop .inv) (c .loop-test .taken))
 
-add-at : tie.Need-add-at Inv-loop μ-loop
-add-at c = omega (arith, name-inside (c .before .before .before .before .before .pre .0) (c .before .before .before .before .before .pre .1) (c .before .before .loop .inv) (c .before .loop-test .taken))
+add-name : tie.Need-add-name Inv-loop μ-loop
+add-name c = omega (arith, name-inside (c .before .before .before .before .before .pre .0) (c .before .before .before .before .before .pre .1) (c .before .before .loop .inv) (c .before .loop-test .taken))
 
-add-at-2 : tie.Need-add-at-2 Inv-loop μ-loop
-add-at-2 c = omega (arith, name-inside (c .before .before .before .before .before .pre .0) (c .before .before .before .before .before .pre .1) (c .before .before .loop .inv) (c .before .loop-test .taken))
+add-name-2 : tie.Need-add-name-2 Inv-loop μ-loop
+add-name-2 c = omega (arith, name-inside (c .before .before .before .before .before .pre .0) (c .before .before .before .before .before .pre .1) (c .before .before .loop .inv) (c .before .loop-test .taken))
 
 mul-unit : tie.Need-mul-unit Inv-loop μ-loop
 mul-unit c = omega (arith, name-inside (c .before .before .before .before .before .pre .0) (c .before .before .before .before .before .pre .1) (c .before .before .loop .inv) (c .before .loop-test .taken))
@@ -120,9 +120,9 @@ forget-notes-spec =
     slice-read-count
     cast-count
     loop-holds
-    mul-at
-    add-at
-    add-at-2
+    mul-name
+    add-name
+    add-name-2
     mul-unit
     slice-read-unit
     cast-unit

@@ -1,9 +1,10 @@
 -- `net_strands::note` meets its contract: a node is named and noted, or nothing is if the log is full.
 use borrow.Author.Needs.{needs}
+use mathlib.Core.Bool.{true, false}
 use Prim.Native.Nat.{_+_, _<_}
 use native.Mathlib.Omega.{arith}
 use lib.ListN.{getD, length-set}
-use Rattle.net_strands.proofs.Log.{noted, named, not-full, count-is, notes-none, notes-one}
+use Rattle.net_strands.proofs.Log.{noted, named, not-full, count-is, full-is, notes-none, notes-one}
 use Rattle.net_strands.proofs.note.Statement.{statement}
 use Rattle.net_strands.proofs.note.Tie as tie
 
@@ -14,7 +15,7 @@ add-if1 : tie.Need-add-if1
 add-if1 c = omega (arith, c .slice-known .given (c .before .before .args .w .«nodes_at» + 1))
 
 returns : tie.Need-returns
-returns c = notes-none _ _ _ _ _ _
+returns c = notes-none _ _ _ _ _ _ (full-is (c .before .before .before .before .args .w) (c .before .before .before .before .args .cells .now) true (c .if1 .taken))
 
 -- a name more can be counted and has a place
 room : (c : tie.Else1) → (getD (c .before .before .before .before .args .cells .now) (c .before .before .before .before .args .w .«nodes_at» + 1) 0 < 65535) × (getD (c .before .before .before .before .args .cells .now) (c .before .before .before .before .args .w .«nodes_at» + 1) 0 + 1 < c .before .before .before .before .args .w .places)
@@ -58,7 +59,7 @@ slice-write-cells-5 c = simp length-set (omega (arith, c .before .before .before
 
 returns-2 : tie.Need-returns-2
 unfolding noted named
-returns-2 c = notes-one _ _ _ _ _ _ _ (c .before .before .before .before .before .before .before .pre .0) (c .before .before .before .before .before .before .before .pre .1) (count-is (c .before .before .before .before .before .before .before .args .w) (c .before .before .before .before .before .before .before .args .cells .now)) (room (c .before .before .before) .1)
+returns-2 c = notes-one _ _ _ _ _ _ _ (c .before .before .before .before .before .before .before .pre .0) (c .before .before .before .before .before .before .before .pre .1) (count-is (c .before .before .before .before .before .before .before .args .w) (c .before .before .before .before .before .before .before .args .cells .now)) (room (c .before .before .before) .1) (full-is (c .before .before .before .before .before .before .before .args .w) (c .before .before .before .before .before .before .before .args .cells .now) false (c .before .before .before .if1 .left))
 
 pub note-spec : {M : Type 1} → statement M
 note-spec =

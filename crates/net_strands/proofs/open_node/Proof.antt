@@ -5,13 +5,13 @@ use borrow.Author.Tests.{ltb-true}
 use Prim.Native.Nat.{_+_, _<_}
 use Rattle.laws.proofs.Truth.{and-right}
 use lib.ListN.{length-set}
-use Rattle.net_strands.specs.Steps.{opens}
+use Rattle.net_strands.specs.Steps.{stackLength, opens}
 use Rattle.net_strands.proofs.Stacks.{stack-opened, stack-unopened}
 use Rattle.net_strands.proofs.open_node.Statement.{statement}
 use Rattle.net_strands.proofs.open_node.Tie as tie
 
-fits : (c : tie.Then1) → c .before .args .top + c .before .args .left + 1 < 4608
-fits c = ltb-true _ 4608 (and-right (c .before .args .wanted) _ (c .if1 .taken))
+fits : (c : tie.Then1) → c .before .args .top + c .before .args .left + 1 < stackLength
+fits c = ltb-true _ stackLength (and-right (c .before .args .wanted) _ (c .if1 .taken))
 
 slice-write-stack : tie.Need-slice-write-stack
 slice-write-stack c = omega (arith, fits c, c .before .pre .0)
