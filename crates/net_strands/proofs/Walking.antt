@@ -17,7 +17,7 @@ use Rattle.net_event_map.specs.EventMap.{headOf}
 use Rattle.net_strands.specs.declared.EstJoinPath.{EstJoinPath}
 use Rattle.net_strands.specs.declared.Count.{Count}
 use Rattle.net_strands.specs.declared.Count.the-variants.{Entries, Over}
-use Rattle.net_strands.specs.Entries.{entry, entriesIn, push, andThen, EntriesAs}
+use Rattle.net_strands.specs.Entries.{entry, entriesIn, push, EntriesAs}
 use Rattle.net_strands.specs.Space.{pushedIf, alternativeStacked, strandFrom, strands}
 use Rattle.net_strands.specs.Steps.{stackLength, stackIn, endsStrand, openingOf, openingAt, openingLeft, openedIf}
 use Rattle.net_strands.specs.Walks.{poppedTo, walked, spend}

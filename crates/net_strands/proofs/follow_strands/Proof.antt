@@ -12,7 +12,6 @@ use Rattle.net_node.specs.declared.EstTime.{EstTime}
 use Rattle.net_node.specs.Table.{nodeAt}
 use Rattle.net_event_map.specs.EventMap.{CellsApart}
 use Rattle.net_event_map.proofs.Kept.{apart-same}
-use Rattle.net_strands.specs.Entries.{entry}
 use Rattle.net_strands.specs.Steps.{opens}
 use Rattle.net_strands.specs.Log.{spanBegin, spanEnd, Touched}
 use Rattle.net_strands.specs.Given.{WalkGives, Given}
