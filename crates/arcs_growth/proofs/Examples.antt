@@ -3,7 +3,7 @@ use mathlib.Core.Path.{_≡_, refl}
 use mathlib.Core.List.{List, [], _∷_, _++_}
 use Prim.Native.Nat.{ℕ, _*_}
 use lib.ListN.{replicate}
-use lib.Ieee.{binary64, ofBits, isNan, le, add, sub, mul, div}
+use lib.Ieee.{binary64, ofBits, isNan, le, add, sub, mul, div, eq}
 use Rattle.net_node.specs.Table.{floatWidth, numberWidth, Table}
 use Rattle.laws.specs.Answer.{Answer, refused, given}
 use Rattle.laws.specs.Below.{someBelow}
@@ -56,7 +56,7 @@ unfolding BelowOf.someBelow FieldsOf.u64At FormatOf.links FormatOf.originsAt For
 worked-read = read-rows worked refl refl refl
 
 worked-grows : counts (grow worked 8 zeros) ≡ 8 ∷ 4 ∷ 0 ∷ 0 ∷ 1 ∷ []
-unfolding le add ofBits sub isNan mul div BelowOf.someBelow BelowOf.sumBelow FieldsOf.u64At FloatsOf.tableFloat FloatsOf.gap FloatsOf.smaller RootRoot.sqrt FormatOf.joinBits FormatOf.departureBits FormatOf.lengthBits FormatOf.links FormatOf.originsAt FormatOf.origins FormatOf.destinationsAt FormatOf.destinations FormatOf.legsAt FormatOf.legs FormatOf.samplesAt FormatOf.linkLength FormatOf.linkNext FormatOf.linkNextAlt FormatOf.linkPrev FormatOf.originLink FormatOf.destinationLink FormatOf.legLink FormatOf.legParent FormatOf.legSamples FormatOf.sampleTime FormatOf.sampleOffset FormatOf.sampleSpeed FormatOf.firstSample FormatOf.sampleAt ChainsOf.legBelow OptionsOf.member OptionsOf.originBelow OptionsOf.stacked OptionsOf.pushed OptionsOf.inSet OptionsOf.keptOrigins EventOf.passingAt EventOf.badPassing TableOf.sameEvent TableOf.nodeAt TableOf.putFloats TableOf.putNumbers WalkOf.turned WalkOf.turn WalkOf.passedAs WalkOf.row11 InsertionOf.linkedTo InsertionOf.eventNode InsertionOf.addBehind InsertionOf.placeAt InsertionOf.inserted InsertionOf.insertedTable SpaceOf.extendedAll EventMapOf.seenIn JoinsOf.joinStep PathOf.legEvents RunOf.arcToEnd RunOf.runEvents GrowthOf.badFinish GrowthOf.finishedAt GrowthOf.grow FormatOf.linkPrevAlt
+unfolding le eq add ofBits sub isNan mul div BelowOf.someBelow BelowOf.sumBelow FieldsOf.u64At FloatsOf.tableFloat FloatsOf.gap FloatsOf.smaller RootRoot.sqrt FormatOf.joinBits FormatOf.departureBits FormatOf.lengthBits FormatOf.links FormatOf.originsAt FormatOf.origins FormatOf.destinationsAt FormatOf.destinations FormatOf.legsAt FormatOf.legs FormatOf.samplesAt FormatOf.linkLength FormatOf.linkNext FormatOf.linkNextAlt FormatOf.linkPrev FormatOf.originLink FormatOf.destinationLink FormatOf.legLink FormatOf.legParent FormatOf.legSamples FormatOf.sampleTime FormatOf.sampleOffset FormatOf.sampleSpeed FormatOf.firstSample FormatOf.sampleAt ChainsOf.legBelow OptionsOf.member OptionsOf.originBelow OptionsOf.stacked OptionsOf.pushed OptionsOf.inSet OptionsOf.keptOrigins EventOf.passingAt EventOf.badPassing TableOf.sameEvent TableOf.nodeAt TableOf.putFloats TableOf.putNumbers WalkOf.turned WalkOf.turn WalkOf.passedAs WalkOf.row11 InsertionOf.linkedTo InsertionOf.eventNode InsertionOf.addBehind InsertionOf.placeAt InsertionOf.inserted InsertionOf.insertedTable SpaceOf.extendedAll EventMapOf.seenIn JoinsOf.joinStep PathOf.legEvents RunOf.arcToEnd RunOf.runEvents GrowthOf.badFinish GrowthOf.finishedAt GrowthOf.grow FormatOf.linkPrevAlt
 worked-grows = refl
 
 -- its one run, by document 01's listing: it ends in leg 2, and its four events have nodes 2 to 5
@@ -65,5 +65,5 @@ runsBy (refused n) = []
 runsBy (given g) = g .runs
 
 worked-runs : runsBy (grow worked 8 zeros) ≡ record { leg = 2; nodes = 2 ∷ 3 ∷ 4 ∷ 5 ∷ [] } ∷ []
-unfolding le add ofBits sub isNan mul div BelowOf.someBelow BelowOf.sumBelow FieldsOf.u64At FloatsOf.tableFloat FloatsOf.gap FloatsOf.smaller RootRoot.sqrt FormatOf.joinBits FormatOf.departureBits FormatOf.lengthBits FormatOf.links FormatOf.originsAt FormatOf.origins FormatOf.destinationsAt FormatOf.destinations FormatOf.legsAt FormatOf.legs FormatOf.samplesAt FormatOf.linkLength FormatOf.linkNext FormatOf.linkNextAlt FormatOf.linkPrev FormatOf.originLink FormatOf.destinationLink FormatOf.legLink FormatOf.legParent FormatOf.legSamples FormatOf.sampleTime FormatOf.sampleOffset FormatOf.sampleSpeed FormatOf.firstSample FormatOf.sampleAt ChainsOf.legBelow OptionsOf.member OptionsOf.originBelow OptionsOf.stacked OptionsOf.pushed OptionsOf.inSet OptionsOf.keptOrigins EventOf.passingAt EventOf.badPassing TableOf.sameEvent TableOf.nodeAt TableOf.putFloats TableOf.putNumbers WalkOf.turned WalkOf.turn WalkOf.passedAs WalkOf.row11 InsertionOf.linkedTo InsertionOf.eventNode InsertionOf.addBehind InsertionOf.placeAt InsertionOf.inserted InsertionOf.insertedTable SpaceOf.extendedAll EventMapOf.seenIn JoinsOf.joinStep PathOf.legEvents RunOf.arcToEnd RunOf.runEvents GrowthOf.badFinish GrowthOf.finishedAt GrowthOf.grow FormatOf.linkPrevAlt
+unfolding le eq add ofBits sub isNan mul div BelowOf.someBelow BelowOf.sumBelow FieldsOf.u64At FloatsOf.tableFloat FloatsOf.gap FloatsOf.smaller RootRoot.sqrt FormatOf.joinBits FormatOf.departureBits FormatOf.lengthBits FormatOf.links FormatOf.originsAt FormatOf.origins FormatOf.destinationsAt FormatOf.destinations FormatOf.legsAt FormatOf.legs FormatOf.samplesAt FormatOf.linkLength FormatOf.linkNext FormatOf.linkNextAlt FormatOf.linkPrev FormatOf.originLink FormatOf.destinationLink FormatOf.legLink FormatOf.legParent FormatOf.legSamples FormatOf.sampleTime FormatOf.sampleOffset FormatOf.sampleSpeed FormatOf.firstSample FormatOf.sampleAt ChainsOf.legBelow OptionsOf.member OptionsOf.originBelow OptionsOf.stacked OptionsOf.pushed OptionsOf.inSet OptionsOf.keptOrigins EventOf.passingAt EventOf.badPassing TableOf.sameEvent TableOf.nodeAt TableOf.putFloats TableOf.putNumbers WalkOf.turned WalkOf.turn WalkOf.passedAs WalkOf.row11 InsertionOf.linkedTo InsertionOf.eventNode InsertionOf.addBehind InsertionOf.placeAt InsertionOf.inserted InsertionOf.insertedTable SpaceOf.extendedAll EventMapOf.seenIn JoinsOf.joinStep PathOf.legEvents RunOf.arcToEnd RunOf.runEvents GrowthOf.badFinish GrowthOf.finishedAt GrowthOf.grow FormatOf.linkPrevAlt
 worked-runs = refl

@@ -14,7 +14,7 @@ use Rattle.floats.specs.Floats.{tableFloat}
 use Rattle.root.specs.Root.{sqrt}
 use Rattle.book_format.specs.declared.Sample.{Sample}
 use Rattle.event_formula.specs.declared.Passing.{Passing}
-use Rattle.event_formula.specs.Event.{twiceAhead, speedAt, timeAt, passingAt, badPassing}
+use Rattle.event_formula.specs.Event.{twiceAhead, speedAt, timeByQuotient, standsAt, timeAt, passingAt, badPassing}
 
 -- ---- a float less itself
 
@@ -50,9 +50,21 @@ finite-is (fin s m e) = ap (λ (x : Float). eq x (ofBits binary64 0)) (no-sum s 
 
 -- ---- the formula
 
-pub passing-is : (s before : Sample) (offset speed : Float) → speed ≡ speedAt s before (twiceAhead s offset) → record { time = timeAt s speed (twiceAhead s offset); speed = speed } ≡ passingAt s before offset
+-- a train that stands on the point has the sample's own time, and any other the quotient's
+pub own-time : (s : Sample) (speed d : Float) → standsAt s speed d ≡ true → timeAt s speed d ≡ s .time
+unfolding timeAt
+own-time s speed d e = ap (λ (t : Bool). cond t (s .time) (timeByQuotient s speed d)) e
+
+pub quotient-time : (s : Sample) (speed d : Float) → standsAt s speed d ≡ false → timeAt s speed d ≡ timeByQuotient s speed d
+unfolding timeAt
+quotient-time s speed d e = ap (λ (t : Bool). cond t (s .time) (timeByQuotient s speed d)) e
+
+pub passing-is : (s before : Sample) (offset speed time : Float) → speed ≡ speedAt s before (twiceAhead s offset) → time ≡ timeAt s speed (twiceAhead s offset)
+    → record { time = time; speed = speed } ≡ passingAt s before offset
 unfolding passingAt
-passing-is s before offset speed e = ap {B = Passing} (λ (v : Float). record { time = timeAt s v (twiceAhead s offset); speed = v }) e
+passing-is s before offset speed time e f =
+    ap {B = Passing} (λ (t : Float). record { time = t; speed = speed }) f
+    ∙ ap {B = Passing} (λ (v : Float). record { time = timeAt s v (twiceAhead s offset); speed = v }) e
 
 pub bad-is : (p : Passing) (a b : Bool) → a ≡ finite (p .speed) → b ≡ tableFloat (p .time) → (not a || not b) ≡ badPassing p
 unfolding badPassing

@@ -1,9 +1,9 @@
--- One event of a run, document 01 under "Events": where it is, which kind it has, and when and how fast the train
--- passes it. Every operation is rounded once, in the order of the source's `update_est_times_add`.
+-- One event of a run, document 01 under "Events" and document 02, Ask 1: where it is, which kind it has, and when and how
+-- fast the train passes it. Every operation is rounded once, in the order of the source's `update_est_times_add`.
 -- The floats are a path's points, the train's length and two samples, one after the other; nothing here says which
 -- points and samples are looked at.
-use mathlib.Core.Bool.{Bool, not, _||_}
-use lib.Ieee.{Float, binary64, add, sub, mul, div, lt, ofBits}
+use mathlib.Core.Bool.{Bool, not, _&&_, _||_, cond}
+use lib.Ieee.{Float, binary64, add, sub, mul, div, lt, eq, ofBits}
 use lib.Ieee.Scale.{finite}
 use Rattle.floats.specs.Floats.{tableFloat, smaller}
 use Rattle.root.specs.Root.{sqrt}
@@ -31,8 +31,20 @@ speedAt s before d =
     (mul binary64 (div binary64 (sub binary64 (s .speed) (before .speed)) (sub binary64 (s .time) (before .time))) d))
 
 -- "and the time is t − d/(v + speed)"
+unfoldable pub timeByQuotient : Sample → Float → Float → Float
+timeByQuotient s speed d = sub binary64 (s .time) (div binary64 d (add binary64 (s .speed) speed))
+
+-- Document 02, Ask 1: "An event whose d and v + speed are both zero", as they are rounded. The train stands on the point
+-- at the sample.
+-- It is not a train that stands short of the sample's offset: there d is above zero. Nor is it one that passes at a speed
+-- whose square is zero.
+unfoldable pub standsAt : Sample → Float → Float → Bool
+standsAt s speed d = eq d (ofBits binary64 0) && eq (add binary64 (s .speed) speed) (ofBits binary64 0)
+
+-- "is to take the sample's own time"
 unfoldable pub timeAt : Sample → Float → Float → Float
-timeAt s speed d = sub binary64 (s .time) (div binary64 d (add binary64 (s .speed) speed))
+unfolding timeByQuotient standsAt
+timeAt s speed d = cond (standsAt s speed d) (s .time) (timeByQuotient s speed d)
 
 -- time and speed at an offset between two samples
 unfoldable pub passingAt : Sample → Sample → Float → Passing

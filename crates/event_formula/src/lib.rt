@@ -2,7 +2,7 @@
 use book_format::Sample;
 ghost use mathlib.Core.Path.{_≡_};
 ghost use lib.Ieee.Scale.{finite};
-ghost use Rattle.event_formula.specs.Event.{eventOffset, clears, passingAt, badPassing};
+ghost use Rattle.event_formula.specs.Event.{eventOffset, clears, timeAt, passingAt, badPassing};
 
 // When and how fast a point is passed.
 pub struct Passing {
@@ -24,6 +24,18 @@ pub fn is_clear(front: f64, back: f64, length: f64) -> bool
     back + length < front
 }
 
+// When a point is passed, by the speed there: the sample's own time where the train stands on the point, since the
+// quotient has no value there.
+fn time_at(s: Sample, speed: f64, dist_diff_x2: f64) -> f64
+    ensures { λ r. ⌜ r ≡ timeAt s speed «dist_diff_x2» ⌝ }
+{
+    let speed_sum = s.speed + speed;
+    if (dist_diff_x2 == 0.0) & (speed_sum == 0.0) {
+        return s.time;
+    }
+    s.time - dist_diff_x2 / speed_sum
+}
+
 // The time and speed at an offset that the train passes between two samples.
 pub fn pass_at(s: Sample, before: Sample, offset: f64) -> Passing
     ensures { λ r. ⌜ r ≡ passingAt s before offset ⌝ }
@@ -32,7 +44,7 @@ pub fn pass_at(s: Sample, before: Sample, offset: f64) -> Passing
     let speed = root::root(
         s.speed * s.speed - (s.speed - before.speed) / (s.time - before.time) * dist_diff_x2,
     );
-    let time = s.time - dist_diff_x2 / (s.speed + speed);
+    let time = time_at(s, speed, dist_diff_x2);
     Passing { time, speed }
 }
 

@@ -5,7 +5,7 @@ use mathlib.Core.List.{List, [], _∷_, _++_}
 use Prim.Native.Nat.{ℕ, zero, suc, _*_, _/_, _%_}
 use lib.IntN.{pos}
 use lib.ListN.{length}
-use lib.Ieee.{Float, nan, fin, binary64, add, sub, mul, div, lt, le, isNan, ofBits, toBits, ofInt}
+use lib.Ieee.{Float, nan, fin, binary64, add, sub, mul, div, lt, le, isNan, ofBits, toBits, ofInt, eq}
 use Rattle.floats.specs.Floats.{tableFloat, bookFloat, bookValue, smaller}
 use Rattle.fields.specs.Fields.{u64At, u32At}
 use Rattle.laws.specs.Below.{someBelow}
@@ -77,5 +77,5 @@ record Examples : Type 0 where
   fallen : answer (whole 10) leg (whole 0 ∷ whole 200 ∷ whole 112 ∷ []) links 2 ≡ Refused 7
 
 examples : Examples
-unfolding answerOf firstOf lentCourse courseOf badCounts badFloats falling listPlaces eventFloats eventNumbers zeros zeroFloats bookValue bookFloat badSampleFrom sampleFrom u64At u32At row11 reachesLast someBad someBelow pointsPassed passedFrom walk turnsLeft start turn turned emits inRange clearsNext offsetNext passedNext passedAs firstBeyond eventOffset clears passingAt badPassing smaller tableFloat sqrt ofInt ofBits toBits add sub mul div lt le isNan
+unfolding answerOf firstOf lentCourse courseOf badCounts badFloats falling listPlaces eventFloats eventNumbers zeros zeroFloats bookValue bookFloat badSampleFrom sampleFrom u64At u32At row11 reachesLast someBad someBelow pointsPassed passedFrom walk turnsLeft start turn turned emits inRange clearsNext offsetNext passedNext passedAs firstBeyond eventOffset clears passingAt badPassing smaller tableFloat sqrt ofInt ofBits toBits add sub mul div lt le eq isNan
 examples = record { worked = refl; worked-floats = refl; worked-numbers = refl; short = refl; last = refl; bad = refl; bad-beyond = refl; none = refl; part = refl; pointless = refl; nan-length = refl; signed-length = refl; still = refl; back = refl; fallen = refl }

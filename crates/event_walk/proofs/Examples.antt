@@ -1,11 +1,12 @@
--- Worked examples of the walk, computed: document 01's leg 2 and its marked cases.
+-- Worked examples of the walk, computed: document 01's leg 2 and its marked cases, and trains that stand on a point, worked
+-- out by hand.
 use mathlib.Core.Path.{_≡_, refl}
 use mathlib.Core.Bool.{true, false}
 use mathlib.Core.List.{List, [], _∷_, map}
 use Prim.Native.Nat.{ℕ}
 use lib.IntN.{pos}
 use lib.ListN.{length, getD}
-use lib.Ieee.{Float, nan, binary64, add, sub, mul, div, lt, le, isNan, ofBits, ofInt}
+use lib.Ieee.{Float, nan, binary64, add, sub, mul, div, lt, le, isNan, ofBits, ofInt, eq}
 use Rattle.floats.specs.Floats.{tableFloat, smaller}
 use Rattle.laws.specs.Below.{someBelow}
 use Rattle.root.specs.Root.{sqrt}
@@ -61,6 +62,30 @@ level = course (whole 0 ∷ whole 5 ∷ whole 15 ∷ whole 100 ∷ []) (at 0 12 
 abbrev entering : Course
 entering = course (whole 0 ∷ whole 100 ∷ whole 200 ∷ []) (at 0 5 5 ∷ at 1 10 5 ∷ at 2 15 5 ∷ [])
 
+-- leg 2 with a stop of a minute, the front on the point between the links: document 02, Ask 1
+abbrev front-stands : Course
+front-stands = course (whole 0 ∷ whole 12 ∷ whole 112 ∷ []) (at 0 10 0 ∷ at 2 12 0 ∷ at 62 12 0 ∷ [])
+
+-- with the train's end there
+abbrev end-stands : Course
+end-stands = course (whole 0 ∷ whole 12 ∷ whole 112 ∷ []) (at 4 18 4 ∷ at 6 22 0 ∷ at 66 22 0 ∷ [])
+
+-- points 10 m apart, as far as the train is long, and a stop with the front on one and the end on the other
+abbrev both-stand : Course
+both-stand = course (whole 0 ∷ whole 5 ∷ whole 15 ∷ whole 100 ∷ []) (at 0 12 3 ∷ at 2 15 0 ∷ at 60 15 0 ∷ [])
+
+-- a leg that begins with the front on a point: what the first sample has behind it was passed before
+abbrev stands-first : Course
+stands-first = course (whole 0 ∷ whole 12 ∷ whole 112 ∷ []) (at 2 12 0 ∷ at 62 12 0 ∷ [])
+
+-- the front stands a metre beyond the point, at both samples
+abbrev stands-beyond : Course
+stands-beyond = course (whole 0 ∷ whole 12 ∷ whole 112 ∷ []) (at 0 10 0 ∷ at 2 13 0 ∷ [])
+
+-- the train's end stands on the first point
+abbrev stands-entering : Course
+stands-entering = course (whole 0 ∷ whole 100 ∷ whole 200 ∷ []) (at 0 5 5 ∷ at 2 10 0 ∷ at 62 10 0 ∷ [])
+
 -- where an event is, and which point is passed how
 record Told : Type 0 where
   offset : Float
@@ -85,7 +110,18 @@ record Examples : Type 0 where
   entered-unseen : pointsPassed entering ≡ []
   -- a sample at the last point
   last : row11 too-far ≡ true
+  -- of the samples that stand on the point the first tells the time: 2 s and not 62 s
+  front : pointsPassed front-stands ≡ event (ofBits binary64 0x4000000000000000) 12 (ofBits binary64 0) 1 Arrive ∷ []
+  front-taken : row11 front-stands ≡ false
+  end : pointsPassed end-stands ≡ event (ofBits binary64 0x4018000000000000) 22 (ofBits binary64 0) 1 Clear ∷ []
+  end-taken : row11 end-stands ≡ false
+  both : pointsPassed both-stand ≡ event (ofBits binary64 0x4000000000000000) 15 (ofBits binary64 0) 2 Arrive ∷ event (ofBits binary64 0x4000000000000000) 15 (ofBits binary64 0) 1 Clear ∷ []
+  first-stands : pointsPassed stands-first ≡ []
+  beyond : row11 stands-beyond ≡ true
+  -- nothing is emitted where the back index becomes 1, so nothing is asked there
+  entering-stands : pointsPassed stands-entering ≡ []
+  entering-taken : row11 stands-entering ≡ false
 
 examples : Examples
-unfolding row11 reachesLast someBad someBelow pointsPassed passedFrom walk turnsLeft start turn turned emits inRange clearsNext offsetNext passedNext passedAs firstBeyond eventOffset clears passingAt badPassing smaller tableFloat sqrt ofInt ofBits add sub mul div lt le isNan
-examples = record { worked = refl; worked-links = refl; worked-taken = refl; one = refl; one-taken = refl; equal = refl; equal-arrives = refl; entered = refl; entered-unseen = refl; last = refl }
+unfolding row11 reachesLast someBad someBelow pointsPassed passedFrom walk turnsLeft start turn turned emits inRange clearsNext offsetNext passedNext passedAs firstBeyond eventOffset clears passingAt badPassing smaller tableFloat sqrt ofInt ofBits add sub mul div lt le eq isNan
+examples = record { worked = refl; worked-links = refl; worked-taken = refl; one = refl; one-taken = refl; equal = refl; equal-arrives = refl; entered = refl; entered-unseen = refl; last = refl; front = refl; front-taken = refl; end = refl; end-taken = refl; both = refl; first-stands = refl; beyond = refl; entering-stands = refl; entering-taken = refl }

@@ -1,9 +1,9 @@
 -- Laws of the definitions of specs/Floats.antt, one for each way through the code. A function's proof hands them what its branches told.
 -- Assumes nothing.
 use mathlib.Core.Path.{_≡_, refl, sym, ap, _∙_, subst}
-use mathlib.Core.Bool.{Bool, true, false, not, _&&_, _||_, Bool·beq, cond}
+use mathlib.Core.Bool.{Bool, true, false, not, _&&_, cond}
 use Prim.Native.Nat.{ℕ, zero, suc, _+_, _*_, _^_, _≤_, _<_}
-use native.Mathlib.Nat.{mod-eq-of-lt, mul-pos, zero-lt-suc, pow-succ'}
+use native.Mathlib.Nat.{mod-eq-of-lt, pow-succ'}
 use native.Mathlib.Omega.{arith}
 use borrow.Author.Tests.{ltb-true, ltb-false, eqb-true, eqb-false, lt-ltb, le-ltb, eq-eqb, ne-eqb}
 use lib.Dec.{T, ltb, eqb, eqb→eq}
@@ -11,10 +11,11 @@ use lib.IntN.{ℤ, pos, negsuc}
 use lib.Ieee.{Float, nan, inf, fin, binary64, up, down, top, ones, hid, neg, sub, lt, le, eq, ne, isNan, fits, ofBits, toBits, nanBits}
 use lib.Ieee.Scale.{finite}
 use lib.Ieee.Bits.{nanBits-is, nanBits-above}
-use lib.Ieee.Fits.{down-pos, up-pos, sub-fits}
+use lib.Ieee.Fits.{down-pos, sub-fits}
 use lib.Ieee.Compare.{differs-from-itself}
-use Rattle.laws.proofs.Truth.{never, and-left}
+use Rattle.laws.proofs.Truth.{never}
 use Rattle.floats.specs.Floats.{billion, tableFloat, bookFloat, bookValue, abs, gap, smaller}
+use Rattle.floats.proofs.Zeros.{no-digits}
 
 -- ---- the code's literals
 
@@ -131,9 +132,7 @@ unfolding fits eq ofBits abs
 size-zero nan f h = never (sym h)
 size-zero (inf s) f h = never (sym h)
 size-zero (fin s zero e) f h = ap (fin false 0) (sym (zero-place e (eqb→eq (up e * down e) 1 f)))
-size-zero (fin s (suc m) e) f h =
-    let l : suc m * up e * 1 ≡ 0 * down e = eqb-true (suc m * up e * 1) (0 * down e) (and-left (eqb (suc m * up e * 1) (0 * down e)) (Bool·beq s false || eqb (suc m * up e * 1) 0) h) in
-    absurd (omega (arith, up-pos e, mul-pos (zero-lt-suc m) (up-pos e)))
+size-zero (fin s (suc m) e) f h = let z : suc m ≡ 0 = no-digits s (suc m) e h in absurd (omega arith)
 
 size-above : (d : Float) → lt d origin ≡ false → eq d origin ≡ false → d ≡ abs d
 unfolding lt eq ofBits abs

@@ -258,7 +258,7 @@ unfolding units
 units-number f s q k =
     cond-number (ltb (q * 2 ^ k) (2 ^ (low f + suc (emax f)))) (odd (suc (prec f)) s q k (low f)) (inf s) (odd-number (suc (prec f)) s q k (low f)) (inf-number s)
 
-round-number : (f : Format) (s : Bool) (n c : ℕ) → isNan (round f s n c) ≡ false
+pub round-number : (f : Format) (s : Bool) (n c : ℕ) → isNan (round f s n c) ≡ false
 round-number f s n c = rw (round-is f s n c) (units-number f s (kept (prec f) (n * 2 ^ low f) c) (drop (prec f) (n * 2 ^ low f) c))
 
 odd-low : (d q k l : ℕ) → le (odd d true q k l) origin ≡ true
@@ -380,7 +380,7 @@ zero-itself f s n c C z = round-exact f s n c 0 0 C (pow-pos (prec f)) (pow-pos 
 no-times : (u : ℕ) → 0 * u ≡ 0
 no-times u = omega arith
 
-itself : (f : Format) (s : Bool) (m : ℕ) (e : ℤ) → T (fits f (fin s m e)) → HasValue (round f false (m * up e) (down e)) false (m * up e) (down e)
+pub itself : (f : Format) (s : Bool) (m : ℕ) (e : ℤ) → T (fits f (fin s m e)) → HasValue (round f false (m * up e) (down e)) false (m * up e) (down e)
 unfolding fits
 itself f s zero e t = zero-itself f false (0 * up e) (down e) (down-pos e) (no-times (up e))
 itself f s (suc m) e t =
