@@ -507,7 +507,7 @@ bits-high : (f : Format) (n : ℕ) → n < top f → isNan (ofBits f n) ≡ fals
 unfolding ofBits
 bits-high f n h k = rw (lt-leb (top f) n h) (fields-high f (n % top f / hid f) (n % hid f) (rw (lt-leb (top f) n h) at k))
 
-table-number : (x : Float) → tableFloat x ≡ true → isNan x ≡ false
+pub table-number : (x : Float) → tableFloat x ≡ true → isNan x ≡ false
 unfolding tableFloat isNan
 table-number nan h = sym h
 table-number (inf s) h = refl
