@@ -1,5 +1,6 @@
-// What is noted of a node while one event is looked at, and the log of the nodes of which something is noted, so that
-// all of it can be taken back. Contracts: specs/Log.antt.
+// What is noted of a node while a run's join entries are followed for one event, which `net_strands` does: spans of the
+// new list. And the log of the nodes of which something is noted, by which all of it is taken back. Contracts:
+// specs/Log.antt.
 use net_event_map::Layout;
 ghost use mathlib.Core.Path.{_≡_};
 ghost use mathlib.Core.Bool.{cond};
