@@ -19,12 +19,12 @@ use Rattle.net_event_map.specs.declared.Layout.{Layout}
 use Rattle.net_event_map.specs.EventMap.{seenIn, eventNodes, arriveAt, CellsApart, Mapped}
 use Rattle.net_event_map.proofs.Chains.{arrive-is}
 use Rattle.net_event_map.proofs.Kept.{apart-same}
+use Rattle.net_notes.specs.Log.{Ungiven}
 use Rattle.net_strands.specs.declared.EstJoinPath.{EstJoinPath}
 use Rattle.net_strands.specs.declared.Count.{Count}
 use Rattle.net_strands.specs.declared.Count.the-variants.{Entries, Over}
 use Rattle.net_strands.specs.Entries.{entriesIn, EntriesAs, Valid}
 use Rattle.net_strands.specs.Space.{isArrive, extendedAll}
-use Rattle.net_strands.specs.Log.{Ungiven}
 use Rattle.net_strands.proofs.Entries.{listed-some, listed-none}
 use Rattle.net_strands.proofs.Kept.{space-listed}
 use Rattle.net_joins.specs.declared.SpeedJoin.{SpeedJoin}

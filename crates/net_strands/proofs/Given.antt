@@ -1,25 +1,25 @@
 -- What was given stays said while the list grows; what is noted of a node; entries that are followed by alternatives, and entries that are not followed.
-use mathlib.Core.Path.{_≡_, refl, sym, ap, _∙_, subst}
+use mathlib.Core.Path.{_≡_, sym, ap, _∙_, subst}
 use mathlib.Core.Logic.{_⊎_, inl, inr}
-use mathlib.Core.Bool.{Bool, true, false, cond}
+use mathlib.Core.Bool.{Bool, true, false}
 use mathlib.Core.List.{List}
 use mathlib.Core.Option.{Option, some}
 use Prim.{tt}
-use Prim.Native.Nat.{ℕ, _+_, _-_, _*_, _≤_, _<_}
+use Prim.Native.Nat.{ℕ, _-_, _≤_, _<_}
 use native.Mathlib.Omega.{arith}
-use lib.ListN.{getD}
 use Rattle.laws.proofs.Truth.{equal-or-not}
 use Rattle.net_node.specs.declared.LinkEvent.{LinkEvent}
 use Rattle.net_node.specs.declared.EstTime.{EstTime}
 use Rattle.net_event_map.specs.declared.Layout.{Layout}
+use Rattle.net_notes.specs.Log.{matchedColumn, strandsColumn, nextsColumn, noteIn, spanNumber, spanBegin, spanEnd, Says, Touched, logFull, NotedAs, Notes, Ungiven}
+use Rattle.net_notes.proofs.Log.{touched-none, says-span}
 use Rattle.net_strands.specs.declared.EstJoinPath.{EstJoinPath}
 use Rattle.net_strands.specs.declared.Count.{Count}
 use Rattle.net_strands.specs.declared.Count.the-variants.{Entries, Over}
 use Rattle.net_strands.specs.Entries.{entriesIn, push, EntriesAs}
 use Rattle.net_strands.specs.Space.{alternatives}
 use Rattle.net_strands.specs.Walks.{poppedTo, walked, spend}
-use Rattle.net_strands.specs.Log.{matchedColumn, strandsColumn, nextsColumn, noteIn, spanNumber, spanBegin, spanEnd, Touched, logFull, NotedAs, Notes, Ungiven}
-use Rattle.net_strands.specs.Given.{pushedAll, nodesIn, SpanGives, Says, WalkGives, Given, GivenThen, Extends}
+use Rattle.net_strands.specs.Given.{pushedAll, nodesIn, SpanGives, WalkGives, Given, GivenThen, Extends}
 use Rattle.net_strands.proofs.Entries.{listed-some, listed-none}
 use Rattle.net_strands.proofs.Targets.{nextsOf, pushed-nexts}
 use Rattle.net_strands.proofs.Spans.{SameNodes, Appended, all-appended, one-appended, nodes-stay, nodes-behind, nodes-kept}
@@ -54,13 +54,6 @@ given-none {cells} {w} node n e list h u = record {
   matched = λ i l z. absurd (z (u .cell i 5 (omega arith) (omega arith, omega arith)));
   strands = λ i l z. absurd (z (u .cell i 6 (omega arith) (omega arith, omega arith)));
 }
-
-pub touched-none : {cells : List ℕ} {w : Layout} → 0 < w .places → Ungiven cells w → Touched w cells cells
-touched-none {cells} {w} h u =
-    let z : getD cells (w .«nodes_at» + 0 * 8 + 1) 0 ≡ 0 = u .name 0 h in record {
-      log = record { fits = omega (arith, z); names = λ k a b. absurd (omega (arith, z)) };
-      elsewhere = λ q f g. refl;
-    }
 
 -- ---- what is noted of a node
 
@@ -99,20 +92,6 @@ module _ {cells cells′ list : List ℕ} {w : Layout} {node : ℕ → EstTime} 
       of-strands j h (inl d) =
           subst (λ (k : ℕ). Walks node e list at k (noteIn cells′ w k strandsColumn) (noteIn cells′ w k nextsColumn)) (sym d)
           (own-walks (logFull cells w) (s .own) (subst (λ (k : ℕ). Walks node e list at k (noteIn cells w k strandsColumn) (noteIn cells w k nextsColumn)) d (v .strands j h)))
-
--- ---- what a cell says that is not 0
-
--- what is looked at and is not 0 is what is noted
-pub known-is : (b : Bool) (known x : ℕ) → known ≡ cond b x 0 → (known ≡ 0 → ⊥) → known ≡ x
-known-is true known x k z = k
-known-is false known x k z = absurd (z k)
-
--- what holds of a span is said by a cell that has its number
-pub says-span : (Holds : ℕ → ℕ → Type 0) (begin end : ℕ) → end ≤ 1024 → Holds begin end → Says Holds (spanNumber begin end)
-says-span Holds begin end h v z =
-    let b : begin ≡ spanBegin (begin * 2048 + end + 1) = omega arith in
-    let t : end ≡ spanEnd (begin * 2048 + end + 1) = omega arith in
-    subst (λ (k : ℕ). Holds k (spanEnd (begin * 2048 + end + 1))) b (subst (Holds begin) t v)
 
 -- ---- an entry that matches already
 

@@ -5,7 +5,6 @@ mod Alternatives
 mod Targets
 mod Spending
 mod Spans
-mod Log
 mod Given
 mod Opened
 mod Walking

@@ -3,7 +3,6 @@
 -- list before it; so they are worked out once, and copied for every other such entry of that node. What strands give is
 -- noted of each node where they can meet, and copied for every strand that comes there.
 use mathlib.Core.Path.{_≡_}
-use mathlib.Core.Logic.{_≢_}
 use mathlib.Core.Bool.{Bool, true, false}
 use mathlib.Core.List.{List, [], _∷_}
 use mathlib.Core.Option.{Option, none, some}
@@ -13,13 +12,13 @@ use lib.ListN.{getD}
 use Rattle.net_node.specs.declared.LinkEvent.{LinkEvent}
 use Rattle.net_node.specs.declared.EstTime.{EstTime}
 use Rattle.net_event_map.specs.declared.Layout.{Layout}
+use Rattle.net_notes.specs.Log.{matchedColumn, strandsColumn, nextsColumn, noteIn, Says, Touched}
 use Rattle.net_strands.specs.declared.EstJoinPath.{EstJoinPath}
 use Rattle.net_strands.specs.declared.Count.{Count}
 use Rattle.net_strands.specs.declared.Count.the-variants.{Entries, Over}
 use Rattle.net_strands.specs.Entries.{entry, entriesIn, push, andThen, EntriesAs}
 use Rattle.net_strands.specs.Space.{alternatives}
 use Rattle.net_strands.specs.Walks.{poppedTo, walked, spend}
-use Rattle.net_strands.specs.Log.{matchedColumn, strandsColumn, nextsColumn, noteIn, spanBegin, spanEnd, Touched}
 
 -- an entry with match link m for each of these nodes, behind a list
 unfoldable pub pushedAll : ℕ → List ℕ → List EstJoinPath → Option (List EstJoinPath)
@@ -37,10 +36,6 @@ pub record SpanGives (rule : ℕ → List EstJoinPath → Option (List EstJoinPa
   pub rises : begin ≤ end
   pub inside : end ≤ at
   pub gives : (m : ℕ) (es : List EstJoinPath) → rule m es ≡ pushedAll m (nodesIn list begin (end - begin)) es
-
--- a cell that is not 0 has the number of a span of which something holds
-abbrev pub Says : (ℕ → ℕ → Type 0) → ℕ → Type 0
-Says Holds cell = cell ≢ 0 → Holds (spanBegin cell) (spanEnd cell)
 
 -- A node's walk gives the nodes of a span for so many nexts, whatever was stacked before it and however many may be
 -- read.

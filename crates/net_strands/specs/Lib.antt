@@ -2,5 +2,4 @@ pub mod Entries
 pub mod Space
 pub mod Steps
 pub mod Walks
-pub mod Log
 pub mod Given

@@ -1,37 +1,23 @@
 // A run's join entries, followed along the network to the nodes that have an event: `update_join_paths_space`.
-// Contracts: specs/Space.antt; of the inner functions specs/Steps.antt, specs/Walks.antt, specs/Log.antt,
-// specs/Given.antt.
+// Contracts: specs/Space.antt; of the inner functions specs/Steps.antt, specs/Walks.antt, specs/Given.antt.
 use net_event_map::Layout;
 use net_node::EstTime;
 use net_node::EstType;
 use net_node::LinkEvent;
 ghost use mathlib.Core.Path.{_≡_};
-ghost use mathlib.Core.Bool.{true, false, cond};
+ghost use mathlib.Core.Bool.{true, false};
 ghost use mathlib.Core.List.{List, []};
-ghost use Prim.Native.Nat.{ℕ, _+_, _-_, _*_, _/_, _%_, _≤_, _<_};
+ghost use Prim.Native.Nat.{_+_, _-_, _*_, _/_, _%_, _≤_, _<_};
 ghost use lib.ListN.{length};
 ghost use Rattle.net_node.specs.Table.{nodeAt, Room, Indexed};
 ghost use Rattle.net_event_map.specs.EventMap.{CellsApart};
+ghost use Rattle.net_notes.specs.Log.{matchedColumn, noteIn, spanNumber, spanBegin, spanEnd, Touched, Notes, Ungiven};
 ghost use Rattle.net_strands.specs.Entries.{entry, entryAt, entriesIn, push, EntriesAs, Valid, ListBecomes};
 ghost use Rattle.net_strands.specs.Space.{isArrive, pushedIf, alternatives, alternativeStacked, strands};
 ghost use Rattle.net_strands.specs.Space.{strandFrom, followed, extended, extendedAll};
 ghost use Rattle.net_strands.specs.Steps.{stackIn, endsStrand, newMatch, nodesAtEntry, WalkRoom};
 ghost use Rattle.net_strands.specs.Steps.{stackLength, openingOf, openingAt, openingLeft, opens, openedIf};
-ghost use Rattle.net_strands.specs.Log.{matchedColumn, noteIn, spanNumber, spanBegin, spanEnd};
-ghost use Rattle.net_strands.specs.Log.{LogIn, Touched, Notes, Ungiven};
 ghost use Rattle.net_strands.specs.Given.{pushedAll, nodesIn, pushedKnown, Given, Extends};
-
-// The columns of a node's cells (specs/Log.antt): a name of the log,
-const NAME: usize = 1;
-
-// what entries of the node give that match already,
-const MATCHED: usize = 5;
-
-// what strands from the node give,
-const STRANDS: usize = 6;
-
-// and how many nexts these read.
-const NEXTS: usize = 7;
 
 // A join entry: the link to be matched (0: matched already) and a node of the network.
 pub struct EstJoinPath {
@@ -179,78 +165,6 @@ fn push_span(list: &mut [u32], n: usize, link_idx_match: u32, span: u32) -> Coun
     push_nodes(list, n, link_idx_match, c / 2048, c % 2048)
 }
 
-// A span of the new list as a number that is not 0.
-fn span_number(begin: usize, end: usize) -> u32
-    requires { ⌜ begin ≤ end ⌝ }
-    requires { ⌜ end ≤ 1024 ⌝ }
-    ensures { λ r. ⌜ r ≡ spanNumber begin end ⌝ }
-{
-    (begin * 2048 + end + 1) as u32
-}
-
-// What is noted of a node in one column.
-fn noted(cells: &[u32], w: Layout, i: u32, column: usize) -> u32
-    requires { ⌜ CellsApart (now cells) w ⌝ }
-    requires { ⌜ i < w .places ⌝ }
-    requires { ⌜ column < 8 ⌝ }
-    ensures { λ r. ⌜ r ≡ noteIn (now (cells .entry)) w i column ⌝ }
-{
-    cells[w.nodes_at + i as usize * 8 + column]
-}
-
-// The same if it is asked for, and else 0.
-fn known_span(wanted: bool, cells: &[u32], w: Layout, i: u32, column: usize) -> u32
-    requires { ⌜ CellsApart (now cells) w ⌝ }
-    requires { ⌜ i < w .places ⌝ }
-    requires { ⌜ column < 8 ⌝ }
-    ensures { λ r. ⌜ r ≡ cond wanted (noteIn (now (cells .entry)) w i column) 0 ⌝ }
-{
-    if wanted {
-        return noted(cells, w, i, column);
-    }
-    0
-}
-
-// Notes three numbers of a node and logs it, unless the log is full. It has at most 65,535 names, since a name is
-// counted in a u32.
-fn note(cells: &mut [u32], w: Layout, i: u32, matched: u32, strands: u32, nexts: u32)
-    requires { ⌜ CellsApart (now cells) w ⌝ }
-    requires { ⌜ i < w .places ⌝ }
-    ensures { λ _. ⌜ Notes w i matched strands nexts (now (cells .entry)) (now (cells .exit)) ⌝ }
-{
-    let count = cells[w.nodes_at + NAME];
-    if (count >= 65535) | (count as usize + 1 >= w.places) {
-        return;
-    }
-    let unit = w.nodes_at + i as usize * 8;
-    cells[w.nodes_at + (count as usize + 1) * 8 + NAME] = i;
-    cells[w.nodes_at + NAME] = count + 1;
-    cells[unit + MATCHED] = matched;
-    cells[unit + STRANDS] = strands;
-    cells[unit + NEXTS] = nexts;
-}
-
-// Takes back all that is noted and logged.
-fn forget_notes(cells: &mut [u32], w: Layout)
-    requires { ⌜ CellsApart (now cells) w ⌝ }
-    requires { ⌜ LogIn (now cells) w ⌝ }
-    ensures { λ _. ⌜ ((cells₀ : List ℕ) → length cells₀ ≡ length (now (cells .entry)) → Ungiven cells₀ w
-        → Touched w cells₀ (now (cells .entry)) → now (cells .exit) ≡ cells₀) ⌝ }
-{
-    let count = cells[w.nodes_at + NAME] as usize;
-    let mut k = 1;
-    while k <= count {
-        let name = w.nodes_at + k * 8 + NAME;
-        let unit = w.nodes_at + cells[name] as usize * 8;
-        cells[name] = 0;
-        cells[unit + MATCHED] = 0;
-        cells[unit + STRANDS] = 0;
-        cells[unit + NEXTS] = 0;
-        k += 1;
-    }
-    cells[w.nodes_at + NAME] = 0;
-}
-
 // What an entry gives that matches already: worked out and, with several entries in the list, noted, or copied where it
 // is noted.
 fn follow_matched(
@@ -278,7 +192,7 @@ fn follow_matched(
         (nodesAtEntry floats numbers) nodes event (now (cells .entry)) (now (list .entry)) n (now (cells .exit))
         (now (list .exit)) r ⌝ }
 {
-    let known = known_span(several, cells, w, start, MATCHED);
+    let known = net_notes::known_span(several, cells, w, start, net_notes::MATCHED);
     if known != 0 {
         return push_span(list, n, link_idx_match, known);
     }
@@ -298,10 +212,10 @@ fn follow_matched(
     if !several {
         return Count::Entries(more);
     }
-    let span = span_number(n, more);
-    let strands = noted(cells, w, start, STRANDS);
-    let nexts = noted(cells, w, start, NEXTS);
-    note(cells, w, start, span, strands, nexts);
+    let span = net_notes::span_number(n, more);
+    let strands = net_notes::noted(cells, w, start, net_notes::STRANDS);
+    let nexts = net_notes::noted(cells, w, start, net_notes::NEXTS);
+    net_notes::note(cells, w, start, span, strands, nexts);
     Count::Entries(more)
 }
 
@@ -385,10 +299,10 @@ fn close_node(cells: &mut [u32], w: Layout, i: u32, opening: u32, at: usize, lef
 {
     let c = opening - 65536;
     let begin = (c / 4096) as usize;
-    let span = span_number(begin, at);
+    let span = net_notes::span_number(begin, at);
     let nexts = c % 4096 + 1 - left;
-    let matched = noted(cells, w, i, MATCHED);
-    note(cells, w, i, matched, span, nexts);
+    let matched = net_notes::noted(cells, w, i, net_notes::MATCHED);
+    net_notes::note(cells, w, i, matched, span, nexts);
 }
 
 // An entry for each node of a span, put behind the n of their list; Over if the walk has fewer nexts left than the span
@@ -451,9 +365,9 @@ fn follow_strands(
         while left > 0 {
             let node = net_node::load(floats, numbers, here as usize);
             let may_meet = several & ((node.idx_prev_alt != 0) | (left == 4096));
-            let known = known_span(may_meet, cells, w, here, STRANDS);
+            let known = net_notes::known_span(may_meet, cells, w, here, net_notes::STRANDS);
             if known != 0 {
-                let nexts = noted(cells, w, here, NEXTS);
+                let nexts = net_notes::noted(cells, w, here, net_notes::NEXTS);
                 let copied = push_known(left < nexts, list, at, link_idx_match, known);
                 let Count::Entries(more) = copied else {
                     return Count::Over;
@@ -690,6 +604,6 @@ pub fn update_join_paths_space(
         stack,
         list,
     );
-    forget_notes(cells, w);
+    net_notes::forget_notes(cells, w);
     built
 }

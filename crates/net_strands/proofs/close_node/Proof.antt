@@ -2,7 +2,7 @@
 use borrow.Author.Needs.{needs}
 use mathlib.Core.Path.{subst}
 use Prim.Native.Nat.{ℕ, _+_, _-_, _/_, _%_}
-use Rattle.net_strands.specs.Log.{spanNumber, Notes}
+use Rattle.net_notes.specs.Log.{spanNumber, Notes}
 use Rattle.net_strands.proofs.close_node.Statement.{statement}
 use Rattle.net_strands.proofs.close_node.Tie as tie
 

@@ -1,7 +1,8 @@
 -- `net_strands::follow_matched` meets its contract: the node's cell says what the entry gives, or it is worked out and noted.
 use borrow.Author.Needs.{needs}
 use native.Mathlib.Omega.{arith}
-use Rattle.net_strands.proofs.Given.{known-is, matched-said, matched-copied, matched-over, matched-got, matched-grows, matched-left, matched-noted}
+use Rattle.net_notes.proofs.Log.{known-is}
+use Rattle.net_strands.proofs.Given.{matched-said, matched-copied, matched-over, matched-got, matched-grows, matched-left, matched-noted}
 use Rattle.net_strands.proofs.follow_matched.Statement.{statement}
 use Rattle.net_strands.proofs.follow_matched.Tie as tie
 

@@ -12,8 +12,8 @@ use Rattle.net_node.specs.declared.EstTime.{EstTime}
 use Rattle.net_node.specs.Table.{nodeAt}
 use Rattle.net_event_map.specs.EventMap.{CellsApart}
 use Rattle.net_event_map.proofs.Kept.{apart-same}
+use Rattle.net_notes.specs.Log.{spanBegin, spanEnd, Touched}
 use Rattle.net_strands.specs.Steps.{opens}
-use Rattle.net_strands.specs.Log.{spanBegin, spanEnd, Touched}
 use Rattle.net_strands.specs.Given.{WalkGives, Given}
 use Rattle.net_strands.proofs.Given.{given-kept, given-noted}
 use Rattle.net_strands.proofs.Opened.{Pushed, pushed-start, pushed-then}

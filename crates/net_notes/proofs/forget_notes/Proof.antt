@@ -1,10 +1,10 @@
--- `net_strands::forget_notes` meets its contract: `Forgetting` is the loop's invariant.
+-- `net_notes::forget_notes` meets its contract: `Forgetting` is the loop's invariant.
 use Prim.Native.Nat.{_+_, _-_, _*_}
 use native.Mathlib.Omega.{arith}
 use lib.ListN.{length-set}
-use Rattle.net_strands.proofs.Log.{noted, Forgetting, forgetting-start, head-inside, name-inside, notes-inside, forgetting-on, forgetting-all}
-use Rattle.net_strands.proofs.forget_notes.Statement.{statement}
-use Rattle.net_strands.proofs.forget_notes.Tie as tie
+use Rattle.net_notes.proofs.Log.{noted, Forgetting, forgetting-start, head-inside, name-inside, notes-inside, forgetting-on, forgetting-all}
+use Rattle.net_notes.proofs.forget_notes.Statement.{statement}
+use Rattle.net_notes.proofs.forget_notes.Tie as tie
 
 abbrev Inv-loop : tie.InvT-loop
 Inv-loop cells₀ w count k₀ cells k = Forgetting w cells₀ count cells k

@@ -50,6 +50,10 @@ spanBegin span = (span - 1) / 2048
 abbrev pub spanEnd : ℕ → ℕ
 spanEnd span = (span - 1) % 2048
 
+-- a cell that is not 0 has the number of a span of which something holds
+abbrev pub Says : (ℕ → ℕ → Type 0) → ℕ → Type 0
+Says Holds cell = cell ≢ 0 → Holds (spanBegin cell) (spanEnd cell)
+
 -- how many names the log has
 abbrev pub logged : List ℕ → Layout → ℕ
 logged cells w = noteIn cells w 0 nameColumn

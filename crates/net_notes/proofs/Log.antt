@@ -1,7 +1,7 @@
--- The log of the nodes of which something is noted: noting keeps it true, and all that is noted can be taken back.
+-- The log of the nodes of which something is noted: noting keeps it true, and all that is noted can be taken back. What a noted span says.
 use mathlib.Core.Path.{_≡_, refl, sym, ap, _∙_, subst}
 use mathlib.Core.Logic.{_≢_, _⊎_, inl, inr}
-use mathlib.Core.Bool.{Bool, true, false, _||_}
+use mathlib.Core.Bool.{Bool, true, false, cond, _||_}
 use mathlib.Core.List.{List}
 use Prim.Native.Nat.{ℕ, zero, suc, _+_, _*_, _≤_, _<_}
 use native.Mathlib.Omega.{arith}
@@ -12,7 +12,7 @@ use lib.Seq.{getD-set-same, getD-set-other, ext-getD}
 use Rattle.laws.proofs.Truth.{equal-or-not, none-left, none-right}
 use Rattle.net_event_map.specs.declared.Layout.{Layout}
 use Rattle.net_event_map.specs.EventMap.{CellsApart}
-use Rattle.net_strands.specs.Log.{nameColumn, matchedColumn, strandsColumn, nextsColumn, NoteColumn, cellAt, noteIn, logged, loggedAt, LogIn, Touched, logFull, NotedAs, Notes, Ungiven}
+use Rattle.net_notes.specs.Log.{nameColumn, matchedColumn, strandsColumn, nextsColumn, NoteColumn, cellAt, noteIn, spanNumber, spanBegin, spanEnd, Says, logged, loggedAt, LogIn, Touched, logFull, NotedAs, Notes, Ungiven}
 
 -- ---- the last three cells of a node
 
@@ -284,3 +284,26 @@ module _ {w : Layout} {entry cells : List ℕ} {count k : ℕ} (apart : CellsApa
           ap (λ (p : ℕ). getD (set cells (w .«nodes_at» + 1) 0) p 0) e ∙ getD-set-same cells (w .«nodes_at» + 1) 0 0 head-inside
           ∙ sym (ap (λ (p : ℕ). getD cells₀ p 0) (e ∙ head w) ∙ u .name 0 (omega (arith, log .fits)))
       go q (inr n) = getD-set-other cells (w .«nodes_at» + 1) q 0 0 n ∙ f .back cells₀ u t q (record { head = λ e. n (e ∙ sym (head w)); names = λ j a b. absurd (omega (arith, h, a, b)); notes = λ j a b. absurd (omega (arith, h, a, b)) })
+
+-- ---- at the start nothing is noted
+
+pub touched-none : {cells : List ℕ} {w : Layout} → 0 < w .places → Ungiven cells w → Touched w cells cells
+touched-none {cells} {w} h u =
+    let z : getD cells (w .«nodes_at» + 0 * 8 + 1) 0 ≡ 0 = u .name 0 h in record {
+      log = record { fits = omega (arith, z); names = λ k a b. absurd (omega (arith, z)) };
+      elsewhere = λ q f g. refl;
+    }
+
+-- ---- what a cell says that is not 0
+
+-- what is looked at and is not 0 is what is noted
+pub known-is : (b : Bool) (known x : ℕ) → known ≡ cond b x 0 → (known ≡ 0 → ⊥) → known ≡ x
+known-is true known x k z = k
+known-is false known x k z = absurd (z k)
+
+-- what holds of a span is said by a cell that has its number
+pub says-span : (Holds : ℕ → ℕ → Type 0) (begin end : ℕ) → end ≤ 1024 → Holds begin end → Says Holds (spanNumber begin end)
+says-span Holds begin end h v z =
+    let b : begin ≡ spanBegin (begin * 2048 + end + 1) = omega arith in
+    let t : end ≡ spanEnd (begin * 2048 + end + 1) = omega arith in
+    subst (λ (k : ℕ). Holds k (spanEnd (begin * 2048 + end + 1))) b (subst (Holds begin) t v)

@@ -1,12 +1,12 @@
--- `net_strands::note` meets its contract: a node is named and noted, or nothing is if the log is full.
+-- `net_notes::note` meets its contract: a node is named and noted, or nothing is if the log is full.
 use borrow.Author.Needs.{needs}
 use mathlib.Core.Bool.{true, false}
 use Prim.Native.Nat.{_+_, _<_}
 use native.Mathlib.Omega.{arith}
 use lib.ListN.{getD, length-set}
-use Rattle.net_strands.proofs.Log.{noted, named, not-full, count-is, full-is, notes-none, notes-one}
-use Rattle.net_strands.proofs.note.Statement.{statement}
-use Rattle.net_strands.proofs.note.Tie as tie
+use Rattle.net_notes.proofs.Log.{noted, named, not-full, count-is, full-is, notes-none, notes-one}
+use Rattle.net_notes.proofs.note.Statement.{statement}
+use Rattle.net_notes.proofs.note.Tie as tie
 
 cast-if1 : tie.Need-cast-if1
 cast-if1 c = omega (arith, c .slice-known .given (c .before .before .args .w .«nodes_at» + 1))
