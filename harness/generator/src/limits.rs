@@ -16,6 +16,8 @@ pub struct Limit {
     pub expected: &'static str,
     /// Whether it takes more than a moment.
     pub is_slow: bool,
+    /// Whether a train stands on a point, so that the reference has no answer (document 02, Ask 1).
+    pub stands: bool,
 }
 
 /// The book of document 01.
@@ -200,14 +202,14 @@ struct List(Vec<Limit>);
 impl List {
     fn add(&mut self, name: impl Into<String>, item: BookItem, expected: &'static str) {
         let is_slow = item.bytes.len() > 200_000;
-        self.0.push(Limit { kind: "books", name: name.into(), item, expected, is_slow });
+        self.0.push(Limit { kind: "books", name: name.into(), item, expected, is_slow, stands: false });
     }
 
     /// A table or an event list.
     fn other(&mut self, kind: &'static str, name: impl Into<String>, bytes: Vec<u8>, expected: &'static str) {
         let item = BookItem { bytes, places: 65_535, work: None };
         let is_slow = item.bytes.len() > 200_000;
-        self.0.push(Limit { kind, name: name.into(), item, expected, is_slow });
+        self.0.push(Limit { kind, name: name.into(), item, expected, is_slow, stands: false });
     }
 
     fn book(&mut self, name: impl Into<String>, book: &Book, expected: &'static str) {
