@@ -1,6 +1,7 @@
 //! The kinds of items: how one is made, and how each side answers it.
 
 use generator::{BookItem, Tables};
+use outside::Answers;
 use std::panic::{catch_unwind, AssertUnwindSafe};
 
 #[derive(Clone, Copy, PartialEq, Debug)]
@@ -34,6 +35,10 @@ impl Kind {
     /// The name of a single one, for a file's ending.
     pub fn one(self) -> &'static str {
         self.name().trim_end_matches('s')
+    }
+
+    pub fn answers(self, item: &BookItem) -> Answers {
+        Answers::new(self.reference(item), self.plain(item))
     }
 
     pub fn plain(self, item: &BookItem) -> Vec<u8> {

@@ -1,4 +1,4 @@
-//! compare: the same inputs through `reference` and `plain`, every byte of the answers compared.
+//! compare: the same inputs through `reference` and `plain`, every byte of the answers compared where both have one.
 
 mod kinds;
 mod run;
@@ -19,7 +19,7 @@ compare quick                        some seconds of each, for the gate
 compare write KIND N [--seed S]      a stream of N items to standard output
 compare vectors FOLDER N [--seed S]  stdin and stdout of the proved program `vectors`
 compare shrink FILE                  a smaller book that still makes a difference
-Exit status 1: a difference.";
+Exit status 1: a difference, or the reference has an answer to nothing.";
 
 struct Options {
     words: Vec<String>,

@@ -3,6 +3,7 @@
 use crate::kinds::{Kind, Source};
 use crate::tally::Tally;
 use generator::{BookItem, Limit};
+use outside::Answers;
 use std::path::PathBuf;
 use std::sync::atomic::{AtomicU64, Ordering};
 use std::sync::Mutex;
@@ -35,7 +36,7 @@ impl Order {
         });
         let total = total.into_inner().unwrap();
         total.print(self.kind, start.elapsed().as_secs_f64());
-        total.differences == 0
+        total.held.faults() == 0
     }
 
     /// One thread's part.
@@ -48,23 +49,17 @@ impl Order {
                 return tally;
             }
             for number in first..count.min(first + PORTION) {
-                let item = source.item(number);
-                if !self.answer(&item, number, &mut tally) {
-                    tally.differences += 1;
-                }
+                self.answer(&source.item(number), number, &mut tally);
             }
         }
     }
 
-    fn answer(&self, item: &BookItem, number: u64, tally: &mut Tally) -> bool {
-        let reference = self.kind.reference(item);
-        let plain = self.kind.plain(item);
-        tally.count(self.kind, &reference);
-        if reference == plain {
-            return true;
+    fn answer(&self, item: &BookItem, number: u64, tally: &mut Tally) {
+        let answers = self.kind.answers(item);
+        tally.count(self.kind, &answers);
+        if !answers.agree() {
+            keep(self.kind, &format!("{}-{number}", self.seed), item, &answers);
         }
-        keep(self.kind, &format!("{}-{number}", self.seed), item, &reference, &plain);
-        false
     }
 }
 
@@ -79,31 +74,31 @@ fn folder() -> PathBuf {
 const MOST_KEPT: u64 = 100;
 static KEPT: AtomicU64 = AtomicU64::new(0);
 
-/// Prints a line on an item that differs, and keeps it.
-pub fn keep(kind: Kind, name: &str, item: &BookItem, reference: &[u8], plain: &[u8]) {
+/// Prints a line on an item to which both have an answer, not the same one, and keeps it.
+pub fn keep(kind: Kind, name: &str, item: &BookItem, answers: &Answers) {
     if KEPT.fetch_add(1, Ordering::Relaxed) >= MOST_KEPT {
         return;
     }
-    let kept = match write(kind, name, item, reference, plain) {
+    let kept = match write(kind, name, item, answers) {
         Ok(()) => format!("kept as differences/{name}.{}", kind.one()),
         Err(error) => format!("not kept: {error}"),
     };
     println!(
         "{} {name}: reference {}, plain {}, {kept}",
         kind.one(),
-        head(kind, reference),
-        head(kind, plain)
+        head(kind, answers.given()),
+        head(kind, &answers.plain)
     );
 }
 
 /// Writes the item, and beside it a text with its room and both answers.
-fn write(kind: Kind, name: &str, item: &BookItem, reference: &[u8], plain: &[u8]) -> io::Result<()> {
+fn write(kind: Kind, name: &str, item: &BookItem, answers: &Answers) -> io::Result<()> {
     let file = folder().join(format!("{name}.{}", kind.one()));
     let work = item.work.map_or("as asked".to_string(), |bytes| bytes.to_string());
     let mut text = format!("places {}\nwork {work}\n\nreference:\n", item.places).into_bytes();
-    text.extend(shown(kind, reference));
+    text.extend(shown(kind, answers.given()));
     text.extend(b"\nplain:\n");
-    text.extend(shown(kind, plain));
+    text.extend(shown(kind, &answers.plain));
     fs::create_dir_all(folder())?;
     fs::write(&file, &item.bytes)?;
     fs::write(file.with_extension(format!("{}.txt", kind.one())), text)
@@ -140,7 +135,7 @@ pub fn limits(with_slow: bool) -> bool {
     wrong == 0
 }
 
-/// Whether both sides gave the answer that a case expects.
+/// Whether both sides gave the answer that a case expects; where its train stands on a point, the second alone.
 fn is_right(limit: &Limit, prints_all: bool) -> bool {
     let kind = Kind::named(limit.kind).expect("a kind");
     let start = Instant::now();
@@ -148,14 +143,16 @@ fn is_right(limit: &Limit, prints_all: bool) -> bool {
     let between = Instant::now();
     let plain = kind.plain(&limit.item);
     let times = [between - start, between.elapsed()].map(|time| time.as_secs_f64());
-    let answer = head(kind, &reference);
-    let is_expected = format!("{answer} ").starts_with(limit.expected);
+    let answers = Answers::new(reference, plain);
+    let answer = head(kind, answers.given());
+    let is_expected =
+        format!("{answer} ").starts_with(limit.expected) && answers.reference.is_none() == limit.stands;
     if prints_all || !is_expected {
         let remark = if is_expected { "" } else { "  NOT AS EXPECTED" };
         println!("{}: {answer} ({:.2} s, {:.2} s){remark}", limit.name, times[0], times[1]);
     }
-    if reference != plain {
-        keep(kind, &limit.name.replace([' ', ','], "-"), &limit.item, &reference, &plain);
+    if !answers.agree() {
+        keep(kind, &limit.name.replace([' ', ','], "-"), &limit.item, &answers);
     }
-    reference == plain && is_expected
+    answers.agree() && is_expected
 }

@@ -21,10 +21,10 @@ pub fn shrink(file: &str) -> io::Result<bool> {
         show(&book);
         println!("places {}", item.places);
     }
-    let (reference, plain) = (Kind::Books.reference(&item), Kind::Books.plain(&item));
-    println!("reference {}\nplain {}", head(Kind::Books, &reference), head(Kind::Books, &plain));
+    let answers = Kind::Books.answers(&item);
+    println!("reference {}\nplain {}", head(Kind::Books, answers.given()), head(Kind::Books, &answers.plain));
     let name = file.rsplit('/').next().unwrap_or(file).trim_end_matches(".book");
-    keep(Kind::Books, &format!("{name}-small"), &item, &reference, &plain);
+    keep(Kind::Books, &format!("{name}-small"), &item, &answers);
     Ok(false)
 }
 
@@ -48,7 +48,7 @@ fn read(file: &str) -> io::Result<BookItem> {
 }
 
 fn differs(item: &BookItem) -> bool {
-    Kind::Books.reference(item) != Kind::Books.plain(item)
+    !Kind::Books.answers(item).agree()
 }
 
 /// The first smaller book that still differs.

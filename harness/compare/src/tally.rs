@@ -1,10 +1,11 @@
 //! Counts over the answers of a run.
 
 use crate::kinds::Kind;
+use outside::{Answers, Held};
 
 #[derive(Default)]
 pub struct Tally {
-    items: u64,
+    pub held: Held,
     accepted: u64,
     /// How often each number from 1 to 16 was the answer; what is no answer at 0.
     refused: [u64; 17],
@@ -13,16 +14,16 @@ pub struct Tally {
     with_finishes: u64,
     nodes: u64,
     most_nodes: u64,
-    pub differences: u64,
 }
 
 impl Tally {
-    pub fn count(&mut self, kind: Kind, answer: &[u8]) {
-        self.items += 1;
+    pub fn count(&mut self, kind: Kind, answers: &Answers) {
+        self.held.count(answers, answers.agree());
         if kind == Kind::Roots {
             self.accepted += 1;
             return;
         }
+        let answer = answers.given();
         let end = answer.iter().position(|byte| *byte == b'\n').unwrap_or(answer.len());
         let head = String::from_utf8_lossy(&answer[..end]);
         let words: Vec<&str> = head.split(' ').collect();
@@ -42,7 +43,7 @@ impl Tally {
     }
 
     pub fn add(&mut self, other: &Tally) {
-        self.items += other.items;
+        self.held.add(&other.held);
         self.accepted += other.accepted;
         for (sum, count) in self.refused.iter_mut().zip(other.refused) {
             *sum += count;
@@ -52,11 +53,10 @@ impl Tally {
         self.with_finishes += other.with_finishes;
         self.nodes += other.nodes;
         self.most_nodes = self.most_nodes.max(other.most_nodes);
-        self.differences += other.differences;
     }
 
     pub fn print(&self, kind: Kind, seconds: f64) {
-        println!("{} {} in {seconds:.1} s", self.items, kind.name());
+        println!("{} {} in {seconds:.1} s", self.held.items, kind.name());
         println!("  accepted {}", self.accepted);
         let refused = self.refused.iter().enumerate().skip(1).filter(|(_, count)| **count > 0);
         for (number, count) in refused {
@@ -75,6 +75,6 @@ impl Tally {
             let mean = self.nodes as f64 / self.accepted.max(1) as f64;
             println!("  nodes: mean {mean:.1}, most {}", self.most_nodes);
         }
-        println!("  differences {}", self.differences);
+        println!("  {}", self.held);
     }
 }

@@ -31,7 +31,7 @@ fn most(kind: &str) -> usize {
     }
 }
 
-/// Writes `stdin` and `stdout` to a folder: the named limits and the first `count` random books of a seed, as far as they are short and of a kind that isn't there often enough.
+/// Writes `stdin` and `stdout` to a folder: the named limits and the first `count` random books of a seed, as far as they are short, have the reference's answer and are of a kind that isn't there often enough.
 pub fn write(folder: &Path, count: u64, seed: u64) -> std::io::Result<()> {
     let mut input = BufWriter::new(File::create(folder.join("stdin"))?);
     let mut output = BufWriter::new(File::create(folder.join("stdout"))?);
@@ -42,6 +42,9 @@ pub fn write(folder: &Path, count: u64, seed: u64) -> std::io::Result<()> {
     let mut k = 0;
     for bytes in named.chain(random) {
         let answer = reference::book(&bytes, PLACES, Some(WORK));
+        if answer == reference::NO_ANSWER {
+            continue;
+        }
         let times = kinds.entry(kind(&answer)).or_default();
         if *times == most(&kind(&answer)) {
             continue;

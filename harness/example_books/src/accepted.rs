@@ -1,7 +1,7 @@
 //! Books that are accepted.
 //!
-//! All but document 01's have links of 100 m and a train of 10 m that departs at 0 s, its front at 10 m.
-//! All but that and `siding` have a J of 2.5 m/s if none is named, and legs that end 10 m before their links.
+//! All but document 01's and the two on its line have links of 100 m and a train of 10 m that departs at 0 s, its front
+//! at 10 m. All but these and `siding` have a J of 2.5 m/s if none is named, and legs that end 10 m before their links.
 
 use generator::{example, link, origins, Book, Link, Writer};
 
@@ -9,6 +9,8 @@ use generator::{example, link, origins, Book, Link, Writer};
 pub fn accepted() -> Vec<(&'static str, Book)> {
     vec![
         ("worked", example()),
+        ("front_on_point", front_on_point()),
+        ("back_on_point", back_on_point()),
         ("siding", siding()),
         ("loop_joins", passing_loop(2.5)),
         ("loop_gap", passing_loop(2.0)),
@@ -17,6 +19,23 @@ pub fn accepted() -> Vec<(&'static str, Book)> {
         ("two_origins", two_origins()),
         ("ring", ring()),
     ]
+}
+
+/// Document 01's book with other samples behind leg 2's first, (0, 10, 0).
+fn worked_with(samples: &[[f64; 3]]) -> Book {
+    let mut book = example();
+    book.legs[1].samples.splice(1.., samples.iter().copied());
+    book
+}
+
+/// The front stands on the point between the links for a minute: Arrive of link 2 at 2 s, its Clear at 66.5 s.
+fn front_on_point() -> Book {
+    worked_with(&[[2.0, 12.0, 0.0], [62.0, 12.0, 0.0], [66.0, 20.0, 4.0], [70.0, 36.0, 4.0]])
+}
+
+/// The train's end stands on it for a minute: Arrive of link 2 at 2 s, its Clear at 6 s.
+fn back_on_point() -> Book {
+    worked_with(&[[4.0, 18.0, 4.0], [6.0, 22.0, 0.0], [66.0, 22.0, 0.0], [70.0, 30.0, 4.0]])
 }
 
 /// A book without legs. Links from 1, each as next, next alternative, previous, previous alternative.

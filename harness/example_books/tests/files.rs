@@ -1,6 +1,6 @@
 //! The files of examples/ are what the program writes, and both answers agree to them.
 
-use example_books::{accepted, files, refused, refused_tables, PLACES, WORK};
+use example_books::{accepted, answers, files, refused, refused_tables, WORK};
 use std::collections::BTreeMap;
 use std::fs;
 use std::path::Path;
@@ -35,9 +35,32 @@ fn accepted_books_have_their_sheets() {
     for (name, book) in accepted() {
         let sheet = fs::read(examples().join(format!("{name}.sheet"))).unwrap();
         assert!(sheet.starts_with(b"nodes "), "{name}");
-        assert_eq!(reference::book(&book.bytes(), PLACES, Some(WORK)), sheet, "{name}");
-        assert_eq!(plain::book(&book.bytes(), PLACES, Some(WORK)), sheet, "{name}");
+        assert!(answers(&book).are(&sheet), "{name}");
     }
+}
+
+/// Document 02, Ask 1: a train that stands on a point. All other sheets are the reference's.
+#[test]
+fn two_sheets_are_the_second_answers() {
+    let unanswered = accepted().into_iter().filter(|(_, book)| answers(book).reference.is_none());
+    assert_eq!(unanswered.map(|(name, _)| name).collect::<Vec<_>>(), ["front_on_point", "back_on_point"]);
+}
+
+/// The times of link 2's Arrive and Clear, nodes 4 and 5: 2 and 66.5 s, 2 and 6 s.
+#[test]
+fn standing_trains_have_their_times() {
+    for (book, times) in [("front_on_point", [2.0, 66.5]), ("back_on_point", [2.0, 6.0])] {
+        let sheet = fs::read_to_string(examples().join(format!("{book}.sheet"))).unwrap();
+        let rows: Vec<Vec<&str>> = sheet.lines().skip(1).map(|row| row.split(' ').collect()).collect();
+        for (row, kind, time) in [(&rows[4], "A", times[0]), (&rows[5], "C", times[1])] {
+            assert_eq!((row[1], row[2], bits(row[7])), (kind, "2", f64::to_bits(time)), "{book}");
+        }
+    }
+}
+
+/// The bits of a float in the listing, whose closing zeros are dropped.
+fn bits(digits: &str) -> u64 {
+    u64::from_str_radix(&format!("{digits:0<16}"), 16).unwrap()
 }
 
 #[test]

@@ -2,7 +2,7 @@
 
 use crate::book::{work_asked, Book, Leg, Origin};
 use crate::damage::damaged;
-use crate::driving::{Driving, Grain, Speeds, Way};
+use crate::driving::{Driving, Grain, Speeds, Stops, Way};
 use crate::hostile;
 use crate::limits;
 use crate::networks::{self, Lengths, Network};
@@ -114,12 +114,22 @@ fn driving(r: &mut Random, grain: Grain) -> Driving {
         grain,
         speeds: speeds[drawn].0,
         speed,
+        stops: stops(r),
         lag: [0, 1, 2, 3][r.weighted(&[70, 18, 8, 4])],
         part: r.pick(&[0.25, 0.5, 0.5, 0.75, 0.9, 1.0]),
         steps: r.pick(&[1, 2, 3, 3, 5]),
         rests: if r.one_in(8) { r.pick(&[5, 20, 60]) } else { 0 },
         overruns: if r.one_in(20) { 1_500 } else { 0 },
         resting: vec![],
+    }
+}
+
+/// Where trains stop: nowhere in about half of the books.
+fn stops(r: &mut Random) -> Stops {
+    match r.below(100) {
+        0..=44 => Stops::Nowhere,
+        45..=69 => Stops::Drawn(r.pick(&[20, 50, 90])),
+        _ => Stops::ByLink(r.pick(&[1, 2, 3])),
     }
 }
 
@@ -133,6 +143,7 @@ fn blank(r: &mut Random, net: &Network, lengths: Lengths, driving: &Driving) -> 
         3 => r.pick(&[1e6, 1e9]),
         4 => typical,
         5..=8 => lengths.grain.value(r, 0, lengths.high / 2),
+        9 => r.pick(&net.links[1..]).length,
         _ => lengths.grain.value(r, lengths.low, lengths.high),
     };
     let mut links = net.links.clone();
@@ -248,6 +259,7 @@ fn special(r: &mut Random) -> Book {
     let mut driving = driving(r, grain);
     driving.overruns = 0;
     driving.rests = 0;
+    driving.stops = Stops::Nowhere;
     let kind = r.below(4);
     let net = match kind {
         0 => networks::meeting(r, lengths, 4),

@@ -66,10 +66,42 @@ pub enum Speeds {
 
 const CRAWL: f64 = 1.0 / (1u64 << 24) as f64;
 
+/// Where trains stop on their way, with the front or the back on a point.
+#[derive(Clone, Copy)]
+pub enum Stops {
+    Nowhere,
+    /// In so many of 100 legs, at one or two places drawn for each.
+    Drawn(u64),
+    /// Every train at the same places: with its front where a link starts whose number is a multiple of this, with its
+    /// back where one starts whose number is one more.
+    ByLink(u32),
+}
+
+/// A stop where an end of the train is on a point.
+pub struct Stop {
+    /// Mostly just there, now and then a unit in the last place before or behind.
+    pub offset: f64,
+    /// Mostly 0, now and then so small that its square is 0.
+    pub speed: f64,
+    /// Whether it takes next to no time. From time 0 the quotient (v − v′)/(t − t′) then overflows.
+    pub is_sudden: bool,
+}
+
+impl Stop {
+    pub fn draw(r: &mut Random, time: f64, point: f64) -> Stop {
+        Stop {
+            offset: [point, point.next_down(), point.next_up()][r.weighted(&[20, 1, 1])],
+            speed: [0.0, 1e-200, f64::from_bits(1)][r.weighted(&[18, 1, 1])],
+            is_sudden: r.one_in(if time == 0.0 { 6 } else { 40 }),
+        }
+    }
+}
+
 pub struct Driving {
     pub grain: Grain,
     pub speeds: Speeds,
     pub speed: f64,
+    pub stops: Stops,
     /// How many links the front stays behind the end of its path.
     pub lag: usize,
     /// The part of its last link that a leg runs through.
@@ -94,6 +126,13 @@ pub struct Way<'a> {
 }
 
 impl Way<'_> {
+    /// Where the front is when it is on a point, and where it is when the back is; each with the link that starts
+    /// at the point.
+    fn fronts_and_backs(&self) -> [Vec<(u32, f64)>; 2] {
+        let back = |(link, start): &(u32, f64)| (*link, start + self.length);
+        [self.path.to_vec(), self.path.iter().map(back).collect()]
+    }
+
     /// The link that the front is on, and the one before it.
     fn links_at(&self, offset: f64) -> (u32, u32) {
         let place = self.path.iter().rposition(|point| point.1 <= offset).unwrap_or(0);
@@ -131,13 +170,63 @@ impl Driving {
             }
             return samples;
         }
+        let stops = self.stops_between(r, first[1], goal, way);
+        for stop in &stops {
+            self.stop(r, &mut samples, *stop, way);
+        }
+        // Now and then the leg ends where it stops.
+        if stops.is_empty() || !r.one_in(4) {
+            self.run(r, &mut samples, goal, way);
+        }
+        samples
+    }
+
+    /// From the last sample to the goal, in a few steps.
+    fn run(&self, r: &mut Random, samples: &mut Vec<Sample>, goal: f64, way: &Way) {
+        let goal = goal.max(samples[samples.len() - 1][1]);
         let steps = r.between(1, self.steps);
         for step in 1..=steps {
             let before = samples[samples.len() - 1];
-            let offset = if step == steps { goal } else { self.stop(r, before[1], goal, way) };
+            let offset = if step == steps { goal } else { self.place(r, before[1], goal, way) };
             samples.push(self.advance(r, before, offset, way));
         }
-        samples
+    }
+
+    /// Where the train stops behind `from` and up to the goal, in rising order.
+    fn stops_between(&self, r: &mut Random, from: f64, goal: f64, way: &Way) -> Vec<f64> {
+        let mut places = way.fronts_and_backs();
+        if let Stops::ByLink(every) = self.stops {
+            places[0].retain(|(link, _)| link % every == 0);
+            places[1].retain(|(link, _)| link % every == 1 % every);
+        }
+        let mut stops: Vec<f64> = places.concat().into_iter().map(|(_, offset)| offset).collect();
+        stops.retain(|offset| from < *offset && *offset <= goal);
+        match self.stops {
+            Stops::ByLink(_) => {}
+            Stops::Drawn(percent) if !stops.is_empty() && r.chance(percent) => {
+                stops = (0..r.between(1, 2)).map(|_| r.pick(&stops)).collect();
+            }
+            _ => stops.clear(),
+        }
+        stops.sort_by(f64::total_cmp);
+        stops.dedup();
+        stops
+    }
+
+    /// Comes to a stop at a point, mostly after running; then stands for a while or not.
+    fn stop(&self, r: &mut Random, samples: &mut Vec<Sample>, point: f64, way: &Way) {
+        let before = samples[samples.len() - 1];
+        if is_still(before[2]) && !r.one_in(6) {
+            let middle = self.grain.fit(before[1] + (point - before[1]) / 2.0).max(before[1]);
+            samples.push(self.advance(r, before, middle, way));
+        }
+        let [time, from, before] = samples[samples.len() - 1];
+        let Stop { offset, speed, is_sudden } = Stop::draw(r, time, point);
+        let takes = if is_sudden { 0.0 } else { self.takes(r, offset - from, before + speed) };
+        samples.push([later(time, takes), offset.max(from), speed]);
+        if r.chance(40) {
+            self.stand(r, samples);
+        }
     }
 
     fn stand(&self, r: &mut Random, samples: &mut Vec<Sample>) {
@@ -160,14 +249,14 @@ impl Driving {
         let part = if way.is_last && !r.one_in(8) { self.part.max(0.9) } else { self.part };
         let goal = self.grain.fit(start + (stop - start) * part);
         if r.one_in(12) {
-            self.stop(r, start, goal, way)
+            self.place(r, start, goal, way)
         } else {
             goal.min(self.grain.under(way.end)).max(0.0)
         }
     }
 
     /// An offset on the way to the goal, now and then exactly where an event is.
-    fn stop(&self, r: &mut Random, from: f64, goal: f64, way: &Way) -> f64 {
+    fn place(&self, r: &mut Random, from: f64, goal: f64, way: &Way) -> f64 {
         let drawn = match r.below(6) {
             0 => from,
             1 => way.path[r.index(way.path.len())].1,
@@ -183,15 +272,18 @@ impl Driving {
 
     fn advance(&self, r: &mut Random, before: Sample, offset: f64, way: &Way) -> Sample {
         let speed = self.speed_at(r, before, offset, way);
-        let distance = offset - before[1];
-        let sum = before[2] + speed;
-        let takes = if matches!(self.speeds, Speeds::Wild | Speeds::Crawling) || sum <= 0.0 || distance <= 0.0
-        {
+        let takes = self.takes(r, offset - before[1], before[2] + speed);
+        [later(before[0], takes), offset, speed]
+    }
+
+    /// How long the train takes for a distance, by the sum of its speeds before and behind it.
+    fn takes(&self, r: &mut Random, distance: f64, sum: f64) -> f64 {
+        let is_free = matches!(self.speeds, Speeds::Wild | Speeds::Crawling) || is_still(sum);
+        if is_free || distance <= 0.0 {
             self.grain.value(r, 1, 20)
         } else {
             2.0 * distance / sum
-        };
-        [later(before[0], takes), offset, speed]
+        }
     }
 
     fn speed_at(&self, r: &mut Random, before: Sample, offset: f64, way: &Way) -> f64 {
@@ -224,7 +316,12 @@ impl Driving {
     }
 }
 
+/// Whether a speed is 0 or so small that its square is.
+pub fn is_still(speed: f64) -> bool {
+    speed * speed == 0.0
+}
+
 /// A time after `time`, by `takes` where that makes a difference.
-fn later(time: f64, takes: f64) -> f64 {
+pub fn later(time: f64, takes: f64) -> f64 {
     (time + takes).max(time.next_up())
 }

@@ -1,6 +1,6 @@
 //! Inputs for the event maker by itself: a length, samples, points and list places.
 
-use crate::driving::Grain;
+use crate::driving::{is_still, later, Grain, Stop};
 use crate::random::Random;
 
 /// Item `number` of a seed.
@@ -59,7 +59,7 @@ pub(crate) fn even(samples: u32, points: u32, places: u32) -> Vec<u8> {
 
 /// Points from 0 or from anywhere, some of them equal; the last mostly names 0.
 fn points(r: &mut Random, grain: Grain) -> Vec<(f64, u32)> {
-    let count = r.between(1, 9);
+    let count = if r.one_in(8) { r.between(1, 2) } else { r.between(3, 9) };
     let step = r.pick(&[2, 5, 20, 100]);
     let mut at = if r.chance(80) { 0.0 } else { grain.value(r, 0, step) };
     let mut points = vec![];
@@ -76,34 +76,82 @@ fn points(r: &mut Random, grain: Grain) -> Vec<(f64, u32)> {
     points
 }
 
+/// How the samples of a list follow each other.
+struct Steps<'a> {
+    grain: Grain,
+    points: &'a [(f64, u32)],
+    length: f64,
+    /// The largest offset.
+    high: f64,
+    /// The speed, if there is one; else it is drawn at each sample.
+    even: Option<f64>,
+    /// Whether times are those that offsets and speeds ask for.
+    is_fair: bool,
+    /// Of 100 samples on a point, in how many the train stops.
+    stops: u64,
+}
+
+impl Steps<'_> {
+    fn speed(&self, r: &mut Random) -> f64 {
+        self.even.unwrap_or_else(|| draw_speed(r, self.grain))
+    }
+
+    /// Where the front is when it or the back is on a point that is still ahead, if there is one.
+    fn point_ahead(&self, r: &mut Random, from: f64) -> Option<f64> {
+        let fronts_and_backs = self.points.iter().flat_map(|point| [point.0, point.0 + self.length]);
+        let ahead: Vec<f64> = fronts_and_backs.filter(|at| from < *at && *at <= self.high).collect();
+        (!ahead.is_empty()).then(|| r.pick(&ahead))
+    }
+
+    /// The same offset again, or a later one.
+    fn anywhere(&self, r: &mut Random, from: f64) -> f64 {
+        let end = self.points[self.points.len() - 1].0;
+        from + if r.one_in(3) { 0.0 } else { self.grain.value(r, 0, (end / 3.0) as u64 + 2) }
+    }
+
+    fn takes(&self, r: &mut Random, distance: f64, sum: f64) -> f64 {
+        if self.is_fair && !is_still(sum) {
+            2.0 * distance / sum
+        } else {
+            self.grain.value(r, 1, 20)
+        }
+    }
+
+    /// The sample behind this one.
+    fn after(&self, r: &mut Random, [time, from, before]: [f64; 3]) -> [f64; 3] {
+        let point = self.point_ahead(r, from).filter(|_| r.chance(75));
+        let stop = point.filter(|_| r.chance(self.stops)).map(|point| Stop::draw(r, time, point));
+        let (place, speed) = match &stop {
+            Some(stop) => (stop.offset, stop.speed),
+            None => (point.unwrap_or_else(|| self.anywhere(r, from)), self.speed(r)),
+        };
+        let offset = place.min(self.high).max(from);
+        let is_sudden = stop.is_some_and(|stop| stop.is_sudden);
+        let takes = if is_sudden { 0.0 } else { self.takes(r, offset - from, before + speed) };
+        [later(time, takes), offset, speed]
+    }
+}
+
+/// Samples below the last point, mostly; some are on points, and at some of these the train stops.
 fn samples(r: &mut Random, grain: Grain, points: &[(f64, u32)], length: f64) -> Vec<[f64; 3]> {
     let end = points[points.len() - 1].0;
-    let low = if r.chance(60) { length.min(end * 0.5) } else { r.unit() * end };
-    let is_fair = r.chance(70);
+    let low = match r.below(10) {
+        0..=2 => length.min(end * 0.5),
+        3..=8 => r.unit() * r.pick(points).0,
+        _ => r.unit() * end,
+    };
     let high = if r.one_in(25) { end } else { end.next_down().max(0.0) };
-    let mut time = r.pick(&[0.0, 0.0, 12.0, 1e9 - 30.0]);
-    let mut offset = low.min(high);
-    if grain != Grain::Any {
-        offset = offset.floor();
-    }
     let crawl = if r.one_in(12) { 1e-9 } else { 1.0 };
     let even = r.chance(50).then(|| r.between(1, 20) as f64 * crawl);
-    let mut speed = even.unwrap_or_else(|| draw_speed(r, grain));
-    let mut samples = vec![[time, offset, speed]];
-    for _ in 0..r.below(7) {
-        let before = (offset, speed);
-        let drawn = match r.below(5) {
-            0 => offset,
-            1 => points[r.index(points.len())].0,
-            2 => points[r.index(points.len())].0 + length,
-            _ => offset + grain.value(r, 0, (end / 3.0) as u64 + 2),
-        };
-        offset = drawn.min(high).max(offset);
-        speed = even.unwrap_or_else(|| draw_speed(r, grain));
-        let sum = before.1 + speed;
-        let fair = if is_fair && sum > 0.0 { 2.0 * (offset - before.0) / sum } else { grain.value(r, 1, 20) };
-        time = (time + fair).max(time.next_up());
-        samples.push([time, offset, speed]);
+    let stops = r.pick(&[0, 60, 100, 100]);
+    let steps = Steps { grain, points, length, high, even, is_fair: r.chance(70), stops };
+    let time = r.pick(&[0.0, 0.0, 0.0, 12.0, 12.0, 12.0, 1e9 - 30.0]);
+    let offset = if grain == Grain::Any { low.min(high) } else { low.min(high).floor() };
+    let mut samples = vec![[time, offset, steps.speed(r)]];
+    let more = if r.one_in(20) { 0 } else { r.between(1, 8) };
+    for _ in 0..more {
+        let next = steps.after(r, samples[samples.len() - 1]);
+        samples.push(next);
     }
     samples
 }

@@ -1,4 +1,4 @@
-//! Single books on each limit of rows 3 and 12, from both sides.
+//! Single books on each limit of rows 3 and 12, from both sides; trains that stand on points.
 
 use crate::book::{work_asked, Book, Leg, Link};
 use crate::books::BookItem;
@@ -16,6 +16,8 @@ pub struct Limit {
     pub expected: &'static str,
     /// Whether it takes more than a moment.
     pub is_slow: bool,
+    /// Whether a train stands on a point, so that the reference has no answer (document 02, Ask 1).
+    pub stands: bool,
 }
 
 /// The book of document 01.
@@ -200,14 +202,14 @@ struct List(Vec<Limit>);
 impl List {
     fn add(&mut self, name: impl Into<String>, item: BookItem, expected: &'static str) {
         let is_slow = item.bytes.len() > 200_000;
-        self.0.push(Limit { kind: "books", name: name.into(), item, expected, is_slow });
+        self.0.push(Limit { kind: "books", name: name.into(), item, expected, is_slow, stands: false });
     }
 
     /// A table or an event list.
     fn other(&mut self, kind: &'static str, name: impl Into<String>, bytes: Vec<u8>, expected: &'static str) {
         let item = BookItem { bytes, places: 65_535, work: None };
         let is_slow = item.bytes.len() > 200_000;
-        self.0.push(Limit { kind, name: name.into(), item, expected, is_slow });
+        self.0.push(Limit { kind, name: name.into(), item, expected, is_slow, stands: false });
     }
 
     fn book(&mut self, name: impl Into<String>, book: &Book, expected: &'static str) {
@@ -217,6 +219,11 @@ impl List {
     fn places(&mut self, name: &str, book: &Book, places: usize, expected: &'static str) {
         let name = format!("{name}, {places} places");
         self.add(name, BookItem { places, ..default_room(book) }, expected);
+    }
+
+    /// In the case added last a train stands on a point.
+    fn stands(&mut self) {
+        self.0.last_mut().unwrap().stands = true;
     }
 
     /// Work space as much as row 3 asks for, and one byte less.
@@ -240,6 +247,7 @@ pub fn limits() -> Vec<Limit> {
     long_work(&mut list);
     tables_and_events(&mut list);
     times(&mut list);
+    standing(&mut list);
     list.0
 }
 
@@ -407,6 +415,35 @@ fn times(list: &mut List) {
         let points = [(0.0, 1), (1.0, 2), (2e6, 0)];
         let name = format!("event of time {}", 512.0 - metres / crawl);
         list.other("events", name, events::item(1e7, &samples, &points, 9), expected);
+    }
+}
+
+/// The example with a minute on the point between its links, and event lists of a train of 10 m on points at 0, 10, 20
+/// and 100: it stands on one, or nearly does.
+fn standing(list: &mut List) {
+    let mut book = example();
+    let rest = [[2.0, 12.0, 0.0], [62.0, 12.0, 0.0], [66.0, 20.0, 4.0], [70.0, 36.0, 4.0]];
+    book.legs[1].samples.splice(1.., rest);
+    list.book("front on a point for a minute", &book, "nodes 8 ");
+    list.stands();
+    let (runs, waits, on_point) = ([0.0, 5.0, 2.0], [0.0, 5.0, 0.0], [5.0, 10.0, 0.0]);
+    let in_no_time = [f64::from_bits(1), 10.0, 0.0];
+    for (name, samples, expected, stands) in [
+        ("front on a point", &[runs, on_point][..], "events 1 ", true),
+        ("front and back on points", &[[0.0, 15.0, 2.0], [5.0, 20.0, 0.0]], "events 2 ", true),
+        ("front on a point twice", &[waits, on_point, [65.0, 10.0, 0.0]], "events 1 ", true),
+        ("front on a point, then behind one", &[runs, on_point, [6.0, 30.0, 0.0]], "refused 11", true),
+        ("front on a point, then at the last", &[runs, on_point, [6.0, 100.0, 2.0]], "refused 11", false),
+        ("front on a point as first sample", &[on_point, [6.0, 15.0, 2.0]], "events 0 ", false),
+        ("front on a point in no time", &[runs, in_no_time], "refused 11", false),
+        ("front on a point, square of speed 0", &[runs, [5.0, 10.0, 1e-200]], "events 1 ", false),
+        ("from standing to standing behind a point", &[waits, [5.0, 11.0, 0.0]], "refused 11", false),
+    ] {
+        let points = [(0.0, 1), (10.0, 2), (20.0, 3), (100.0, 0)];
+        list.other("events", name, events::item(10.0, samples, &points, 9), expected);
+        if stands {
+            list.stands();
+        }
     }
 }
 

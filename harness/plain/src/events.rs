@@ -1,8 +1,9 @@
 //! Events: "A path of links has points at 0 and at each running sum of lengths, naming
 //! the link that starts there; the last names 0."
 //!
-//! Written from document 01 and the readings of DESIGN.md; points that both leave open
-//! are settled by the reference's answers as a black box (docs/DIFFERENCES.md).
+//! Written from document 01, Ask 1 of document 02 and the readings of DESIGN.md; points
+//! that these leave open are settled by the reference's answers as a black box
+//! (docs/DIFFERENCES.md).
 
 use crate::book::{fall, sample, Sample};
 use crate::bytes::{bad_float, bad_size, float, number, Bytes};
@@ -95,13 +96,15 @@ pub fn make(
 
 /// "With d = 2 times (sample offset minus event offset), the speed at the point is the
 /// rounded square root of v·v − (v − v′)/(t − t′)·d, and the time is
-/// t − d/(v + speed), each operation rounded once." Row 11: "event speed or time not
-/// finite, or time above 1,000,000,000 in size".
+/// t − d/(v + speed), each operation rounded once." Document 02, Ask 1: "An event whose
+/// d and v + speed are both zero is to take the sample's own time." Row 11: "event speed
+/// or time not finite, or time above 1,000,000,000 in size".
 fn timed(event: Event, offset: f64, before: &Sample, sample: &Sample) -> Answer<Timed> {
     let (t, v) = (sample.time, sample.speed);
     let d = 2.0 * (sample.offset - offset);
     let speed = root(v * v - (v - before.speed) / (t - before.time) * d);
-    let time = t - d / (v + speed);
+    let stands = d == 0.0 && v + speed == 0.0;
+    let time = if stands { t } else { t - d / (v + speed) };
     refuse_if(!speed.is_finite() || bad_size(time), 11)?;
     Ok(Timed {
         event,

@@ -1,6 +1,7 @@
-//! plain: a second, independent answer to document 01 (docs/01-scope.md).
+//! plain: a second, independent answer to document 01 (docs/01-scope.md), with Ask 1 of
+//! document 02 (docs/02-change-requests.md).
 //!
-//! It was written from the request's text and DESIGN.md's readings, and not from the
+//! It was written from the requests' text and DESIGN.md's readings, and not from the
 //! source: points that both leave open are settled by the reference's answers as a black
 //! box (docs/DIFFERENCES.md). It shares no line with `reference`; where both give the same
 //! bytes for a book, two readings of the request agree.

@@ -50,6 +50,74 @@ fn back_index_1_emits_nothing() {
     assert_eq!(answer(10.0, &samples, &[(0.0, 1), (8.0, 2), (50.0, 0)], 9), "refused 11\n");
 }
 
+/// Document 02, Ask 1: "An event whose d and v + speed are both zero is to take the
+/// sample's own time." The front stands on point 12, reached at speed 2 and at speed 0.
+#[test]
+fn the_front_stands_on_a_point() {
+    for speed in [2.0, 0.0] {
+        let samples = [[0.0, 10.0, speed], [2.0, 12.0, 0.0]];
+        assert_eq!(answer(10.0, &samples, &PATH, 1), "events 1\nA 2 4 4028 0\n");
+        assert_eq!(answer(10.0, &samples, &PATH, 0), "refused 12\n");
+    }
+}
+
+/// The back stands on point 12, the front on 22. The Arrive before it is the worked book's.
+#[test]
+fn the_back_stands_on_a_point() {
+    let samples = [WORKED[0], WORKED[1], [6.0, 22.0, 0.0]];
+    assert_eq!(answer(10.0, &samples, &PATH, 9), "events 2\nA 2 4 4028 4\nC 2 4018 4036 0\n");
+}
+
+/// Back point 10 and length 10, front point 20: the Arrive first, both at 10 s.
+#[test]
+fn front_and_back_stand_on_points() {
+    let points = [(0.0, 1), (10.0, 2), (20.0, 3), (100.0, 0)];
+    let expected = "events 2\nA 3 4024 4034 0\nC 2 4024 4034 0\n";
+    assert_eq!(answer(10.0, &[[0.0, 10.0, 2.0], [10.0, 20.0, 0.0]], &points, 9), expected);
+}
+
+/// On point 12 from 2 s to 62 s, with the back on it at 70 s: of the standing samples the
+/// first counts. As the leg's first sample one gives nothing.
+#[test]
+fn standing_twice() {
+    let samples = [[0.0, 10.0, 2.0], [2.0, 12.0, 0.0], [62.0, 12.0, 0.0], [70.0, 22.0, 0.0], [71.0, 22.0, 0.0]];
+    assert_eq!(answer(10.0, &samples, &PATH, 9), "events 2\nA 2 4 4028 0\nC 2 40518 4036 0\n");
+    assert_eq!(answer(10.0, &samples[1..], &PATH, 9), "events 1\nC 2 40518 4036 0\n");
+    assert_eq!(answer(10.0, &samples[3..], &PATH, 9), "events 0\n");
+}
+
+/// v·v is 0 and v isn't: v + speed is v, and the quotient is 0.
+#[test]
+fn a_speed_whose_square_is_zero() {
+    for small in [1e-200, f64::from_bits(1)] {
+        for before in [2.0, small, 0.0] {
+            let samples = [[0.0, 10.0, before], [2.0, 12.0, small]];
+            assert_eq!(answer(10.0, &samples, &PATH, 9), "events 1\nA 2 4 4028 0\n");
+        }
+    }
+}
+
+/// (v − v′)/(t − t′) overflows, and the speed is no number. With a smaller v′ it doesn't.
+#[test]
+fn a_stop_in_no_time() {
+    let least = f64::from_bits(1);
+    assert_eq!(answer(10.0, &[[0.0, 10.0, 2.0], [least, 12.0, 0.0]], &PATH, 9), "refused 11\n");
+    let slower = [[0.0, 10.0, 1e-20], [least, 12.0, 0.0]];
+    assert_eq!(answer(10.0, &slower, &PATH, 9), "events 1\nA 2 0000000000000001 4028 0\n");
+}
+
+/// v = v′ = 0 with d above 0. A unit in the last place before the point there is no event.
+#[test]
+fn standing_behind_a_point() {
+    let at = |offset: f64, speed| answer(10.0, &[[0.0, 10.0, speed], [2.0, offset, 0.0]], &PATH, 9);
+    assert_eq!(at(14.0, 0.0), "refused 11\n");
+    assert_eq!(at(12f64.next_up(), 0.0), "refused 11\n");
+    // d = 2^-48, speed = root(1 · d) = 2^-24, time = 2 - d/speed = 2 - 2^-24.
+    assert_eq!(at(12f64.next_up(), 2.0), "events 1\nA 2 3ffffffff 4028 3e7\n");
+    assert_eq!(at(12f64.next_down(), 0.0), "events 0\n");
+    assert_eq!(at(12f64.next_down(), 2.0), "events 0\n");
+}
+
 #[test]
 fn refusals() {
     assert_eq!(answer(10.0, &[], &PATH, 9), "refused 3\n");

@@ -1,5 +1,6 @@
 //! The published Rust over shims, as document 01 has it fed: books, node tables and event
-//! lists in, listings or numbers out.
+//! lists in, listings or numbers out. Document 02's Ask 1 gives a number where the Rust has
+//! none: for such books and event lists there is no answer.
 
 use std::rc::Rc;
 
@@ -25,9 +26,13 @@ use meet_pass::disp_structs::{EstType, LinkEvent};
 use meet_pass::est_times::{make_est_times, EstTime, EstTimeNet};
 use shims::track::{LinkIdx, LinkPoint};
 use shims::train::{Path, SpeedLimitTrainSim};
-use watch::{Orders, Outcome, Stop};
+use watch::{Ending, Orders, Outcome, Stop};
 
-/// A book's listing, or `refused N`. `places` are lent for nodes, and `work` bytes of work
+/// What `book`, `grown` and `events` give where a train of a leg that is taken stands on a point
+/// (document 02, Ask 1: "The Rust has no number there").
+pub const NO_ANSWER: &[u8] = b"no answer\n";
+
+/// A book's listing, `refused N` or `NO_ANSWER`. `places` are lent for nodes, and `work` bytes of work
 /// space, as many as row 3 asks for if None.
 pub fn book(bytes: &[u8], places: usize, work: Option<u64>) -> Vec<u8> {
     answer(|out| {
@@ -49,7 +54,7 @@ pub fn parse(bytes: &[u8], places: usize, work: Option<u64>) -> u32 {
     }
 }
 
-/// The network before the passes, in the same form, or `refused N` with N from 1 to 13.
+/// The network before the passes, in the same form, `refused N` with N from 1 to 13, or `NO_ANSWER`.
 pub fn grown(bytes: &[u8], places: usize, work: Option<u64>) -> Vec<u8> {
     answer(|out| {
         let book = Book::read(bytes, places, work)?;
@@ -73,7 +78,7 @@ pub fn table(item: &[u8]) -> Vec<u8> {
     })
 }
 
-/// The events of samples along points, or `refused N`.
+/// The events of samples along points, `refused N` or `NO_ANSWER`.
 pub fn events(item: &[u8]) -> Vec<u8> {
     answer(|out| {
         let (book, places) = read_events(item)?;
@@ -141,11 +146,13 @@ pub fn root(bits: u64) -> u64 {
     }
 }
 
-fn answer(work: impl FnOnce(&mut Vec<u8>) -> Result<(), u32>) -> Vec<u8> {
+fn answer(work: impl FnOnce(&mut Vec<u8>) -> Result<(), Ending>) -> Vec<u8> {
     let mut out = Vec::new();
     match work(&mut out) {
         Ok(()) => out,
-        Err(number) => listing::refused(number),
+        Err(Ending::Refused(number)) => listing::refused(number),
+        Err(Ending::NoAnswer) => NO_ANSWER.to_vec(),
+        Err(Ending::Stopped) => unreachable!("nobody asked for what was caught"),
     }
 }
 
@@ -169,20 +176,20 @@ fn run_table(departure: f64, nodes: Vec<EstTime>) -> Outcome<EstTimeNet> {
 
 /// The nodes after both passes. Row 15 has two tests that the source lacks: a node never
 /// timed, a node never passed. Neither pass stops for them, and 15 is below 16.
-fn timed(outcome: Outcome<EstTimeNet>) -> Result<Vec<EstTime>, u32> {
+fn timed(outcome: Outcome<EstTimeNet>) -> Result<Vec<EstTime>, Ending> {
     match outcome.result {
-        Err(16) | Ok(_) if outcome.unpassed => Err(15),
-        Err(number) => Err(number),
-        Ok(network) if network.val.iter().any(|node| node.time_sched.is_nan()) => Err(15),
+        Err(Ending::Refused(16)) | Ok(_) if outcome.unpassed => Err(Ending::Refused(15)),
+        Err(ending) => Err(ending),
+        Ok(network) if network.val.iter().any(|node| node.time_sched.is_nan()) => Err(Ending::Refused(15)),
         Ok(network) => Ok(network.val.into_iter().collect()),
     }
 }
 
 /// The nodes or events that were there at an early stop.
-fn caught(outcome: Outcome<EstTimeNet>) -> Result<Vec<EstTime>, u32> {
+fn caught(outcome: Outcome<EstTimeNet>) -> Result<Vec<EstTime>, Ending> {
     match outcome.result {
-        Err(0) => Ok(outcome.caught),
-        Err(number) => Err(number),
+        Err(Ending::Stopped) => Ok(outcome.caught),
+        Err(ending) => Err(ending),
         Ok(_) => unreachable!("the work stops early"),
     }
 }

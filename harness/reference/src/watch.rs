@@ -16,9 +16,22 @@ const STRAND_NEXTS: u32 = 4_096;
 /// The largest size of an event's time (row 11).
 const LARGEST: f64 = 1e9;
 
-/// A refusal on its way out, as an error or as a panic's payload. 0 is an early stop.
+/// Why the published function returns no network, as an error or as a panic's payload.
 #[derive(Debug, Clone, Copy, PartialEq)]
-pub struct Refused(pub u32);
+pub enum Ending {
+    /// A refusal with its number.
+    Refused(u32),
+    /// The source has no number for an event (`stands`).
+    NoAnswer,
+    /// The orders say to stop here.
+    Stopped,
+}
+
+impl From<u32> for Ending {
+    fn from(number: u32) -> Self {
+        Ending::Refused(number)
+    }
+}
 
 /// Where the work stops before the published function returns.
 #[derive(Clone, Copy, Default, PartialEq)]
@@ -79,14 +92,14 @@ fn watch<T>(look: impl FnOnce(&mut Watch) -> T) -> T {
 
 /// What is known after a piece of work.
 pub struct Outcome<T> {
-    pub result: Result<T, u32>,
+    pub result: Result<T, Ending>,
     pub finished: usize,
     pub unpassed: bool,
     pub caught: Vec<EstTime>,
 }
 
 /// Runs the published text under the orders. Its errors and failed tests come back as numbers.
-pub fn run<T>(orders: Orders, work: impl FnOnce() -> Result<T, Refused>) -> Outcome<T> {
+pub fn run<T>(orders: Orders, work: impl FnOnce() -> Result<T, Ending>) -> Outcome<T> {
     quiet();
     GAP.set(orders.gap);
     STEPS.set(u64::MAX);
@@ -96,11 +109,11 @@ pub fn run<T>(orders: Orders, work: impl FnOnce() -> Result<T, Refused>) -> Outc
     PASSING.set(GROWN.take().map_or(Duration::ZERO, |grown| grown.elapsed()));
     let number = NUMBER.replace(0);
     let result = match ended {
-        Ok(result) => result.map_err(|refused| refused.0),
-        Err(payload) => match payload.downcast::<Refused>() {
-            Ok(refused) => Err(refused.0),
+        Ok(result) => result,
+        Err(payload) => match payload.downcast::<Ending>() {
+            Ok(ending) => Err(*ending),
             // The event maker's index past the last point.
-            Err(_) if number == 11 => Err(11),
+            Err(_) if number == 11 => Err(Ending::Refused(11)),
             Err(other) => resume_unwind(other),
         },
     };
@@ -121,13 +134,17 @@ fn quiet() {
     });
 }
 
+fn end(ending: Ending) -> ! {
+    resume_unwind(Box::new(ending))
+}
+
 pub fn refuse(number: u32) -> ! {
-    resume_unwind(Box::new(Refused(number)))
+    end(Ending::Refused(number))
 }
 
 /// What an error of the published text is just now: `bail!` and `ensure!`.
-pub fn error() -> Refused {
-    Refused(NUMBER.get())
+pub fn error() -> Ending {
+    Ending::Refused(NUMBER.get())
 }
 
 /// A failed `assert!`: a refusal in the checks and passes, before them a fault of this crate.
@@ -158,14 +175,25 @@ pub fn making() -> Duration {
     MAKING.get()
 }
 
-/// The events are made, none inserted yet.
+/// The events are made, none inserted yet. Where a train stands on a point there is no answer,
+/// whatever the leg's other events are.
 pub fn events_made(events: &[EstTime]) {
+    if events.iter().any(stands) {
+        end(Ending::NoAnswer)
+    }
     if !events.iter().all(within) {
         refuse(11)
     }
     MAKING.set(MOVED.take().map_or(Duration::ZERO, |moved| moved.elapsed()));
     NUMBER.set(9);
     stop_at(Stop::Events, events);
+}
+
+/// Document 02, Ask 1: "An event whose d and v + speed are both zero is to take the sample's own
+/// time. The Rust has no number there". By rows 4 and 7 t, v and d are finite, and so is v + speed
+/// where the speed is. Then t - d/(v + speed) is a NaN just where the quotient is 0/0.
+fn stands(event: &EstTime) -> bool {
+    event.speed.is_finite() && event.time_to_next.is_nan()
 }
 
 fn within(event: &EstTime) -> bool {
@@ -181,7 +209,7 @@ fn stop_at(stop: Stop, nodes: &[EstTime]) {
         here
     });
     if here {
-        refuse(0)
+        end(Ending::Stopped)
     }
 }
 

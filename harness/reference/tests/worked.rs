@@ -162,8 +162,11 @@ fn event_list_refusals() {
     // A sample at the last point.
     assert_eq!(events(10.0, &SAMPLES, &[(0.0, 1), (12.0, 2), (34.0, 0)], 9), "refused 11\n");
     assert_eq!(events(10.0, &SAMPLES[..1], &[(0.0, 1), (10.0, 0)], 9), "refused 11\n");
-    // A train that stands on a point: the quotient has no value. 11 comes before 12.
-    assert_eq!(events(10.0, &[[0.0, 10.0, 0.0], [4.0, 12.0, 0.0]], &POINTS, 0), "refused 11\n");
+    // v = v' = 0 with d above 0: the time is no number. 11 comes before 12.
+    assert_eq!(events(10.0, &[[0.0, 10.0, 0.0], [4.0, 14.0, 0.0]], &POINTS, 0), "refused 11\n");
+    // A stop in so little time that (v - v')/(t - t') overflows: the speed is no number.
+    let in_no_time = [[0.0, 10.0, 2.0], [f64::from_bits(1), 12.0, 0.0]];
+    assert_eq!(events(10.0, &in_no_time, &POINTS, 9), "refused 11\n");
 }
 
 /// Start, one event of a link that no book has, the end. The lent times are not looked at.

@@ -95,7 +95,8 @@ fn ours(work: &mut Work, item: &BookItem) -> Result<u32, &'static str> {
     }
 }
 
-/// An outside answer's number as far as rows 1 to 8 give it.
+/// An outside answer's number as far as rows 1 to 8 give it. They come before growth: a later number lets the book
+/// through as a sheet does, and so does the reference's `no answer`, which comes of an event.
 fn number(answer: &[u8]) -> u32 {
     let text = std::str::from_utf8(answer).unwrap();
     match text.strip_prefix("refused ").map(|n| n.trim().parse().unwrap()) {

@@ -1,5 +1,6 @@
 //! The event maker, driven from a stream and against both outside answers.
 use crate::stream::{self, digits};
+use outside::{Answers, Held};
 use std::fmt::Write as _;
 use std::io;
 
@@ -101,34 +102,41 @@ pub fn replay() -> io::Result<()> {
     stream::replay(|item| Lent::new(item).answer())
 }
 
+/// The outside answers to an item.
+fn answers(item: &[u8]) -> Answers {
+    Answers::new(reference::events(item), plain::events(item))
+}
+
 /// The first n event lists of a seed, against both outside answers. The number of differences.
 pub fn check(n: u64, seed: u64) -> u64 {
-    let (mut differences, mut accepted) = (0, 0);
+    let (mut held, mut accepted) = (Held::default(), 0);
     for k in 0..n {
         let item = generator::events(seed, k);
-        let mine = Lent::new(&item).answer().into_bytes();
-        accepted += mine.starts_with(b"events") as u64;
-        if mine != reference::events(&item) || mine != plain::events(&item) {
-            differences += 1;
-            if differences <= 10 {
-                println!("events {k} of seed {seed}: {}", String::from_utf8_lossy(&mine));
-            }
+        let mine = Lent::new(&item).answer();
+        accepted += mine.starts_with("events") as u64;
+        let answers = answers(&item);
+        let is_same = answers.are(mine.as_bytes());
+        held.count(&answers, is_same);
+        if !is_same && held.differences <= 10 {
+            println!("events {k} of seed {seed}: {mine}");
         }
     }
-    println!("event lists: {n} ({accepted} accepted), {differences} differences");
-    differences
+    println!("event lists: {n} ({accepted} accepted), {held}");
+    held.faults()
 }
 
 /// The named limits that are event lists.
 pub fn check_limits() -> u64 {
-    let mut differences = 0;
+    let mut held = Held::default();
     for limit in generator::limits().into_iter().filter(|l| l.kind == "events") {
-        let mine = Lent::new(&limit.item.bytes).answer().into_bytes();
-        if mine != reference::events(&limit.item.bytes) {
-            differences += 1;
-            println!("{}: {}", limit.name, String::from_utf8_lossy(&mine[..mine.len().min(80)]));
+        let mine = Lent::new(&limit.item.bytes).answer();
+        let answers = answers(&limit.item.bytes);
+        let is_same = answers.are(mine.as_bytes());
+        held.count(&answers, is_same);
+        if !is_same {
+            println!("{}: {}", limit.name, &mine[..mine.len().min(80)]);
         }
     }
-    println!("event lists at the limits: {differences} differences");
-    differences
+    println!("event lists at the limits: {held}");
+    held.faults()
 }

@@ -5,13 +5,14 @@ use crate::room::{Entry, Lengths, Room};
 use crate::stream;
 use crate::tables::listed;
 use generator::{book, limits, BookItem};
+use outside::{Answers, Held};
 use std::collections::BTreeMap;
 use std::io;
 
 /// An outside answer to a book, on so many places and so much work space.
 type Outside = fn(&[u8], usize, Option<u64>) -> Vec<u8>;
 
-/// An entry with the outside answers to it.
+/// An entry with the outside answers to it: the reference's and the second one.
 pub struct Job {
     name: &'static str,
     entry: Entry,
@@ -90,12 +91,12 @@ pub struct Tally<'a> {
     job: &'a Job,
     room: Room,
     heads: BTreeMap<String, u64>,
-    differences: u64,
+    held: Held,
 }
 
 impl Tally<'_> {
     pub fn new(job: &Job) -> Tally<'_> {
-        Tally { job, room: Room::default(), heads: BTreeMap::new(), differences: 0 }
+        Tally { job, room: Room::default(), heads: BTreeMap::new(), held: Held::default() }
     }
 
     /// A book on the places and the work space that it comes with.
@@ -109,10 +110,12 @@ impl Tally<'_> {
         self.room.lend(lengths);
         let mine = self.job.answer(&mut self.room, bytes);
         self.count(&mine.text);
-        let text = mine.text.as_bytes();
-        let is_same = self.job.outside.iter().all(|outside| outside(bytes, lengths.places(), work) == text);
-        if !is_same || !self.is_listed(&mine) {
-            self.differ(what, &mine.text);
+        let [reference, plain] = self.job.outside.map(|outside| outside(bytes, lengths.places(), work));
+        let answers = Answers::new(reference, plain);
+        let is_same = answers.are(mine.text.as_bytes()) && self.is_listed(&mine);
+        self.held.count(&answers, is_same);
+        if !is_same && self.held.differences <= 10 {
+            println!("{what}: {}", mine.text.lines().next().unwrap_or(""));
         }
     }
 
@@ -127,16 +130,9 @@ impl Tally<'_> {
         *self.heads.entry(head.into()).or_default() += 1;
     }
 
-    fn differ(&mut self, what: &str, text: &str) {
-        self.differences += 1;
-        if self.differences <= 10 {
-            println!("{what}: {}", text.lines().next().unwrap_or(""));
-        }
-    }
-
     pub fn print(&self, what: &str) -> u64 {
         let heads: Vec<String> = self.heads.iter().map(|(head, count)| format!("{head}: {count}")).collect();
-        println!("{}: {what} ({}), {} differences", self.job.name, heads.join(", "), self.differences);
-        self.differences
+        println!("{}: {what} ({}), {}", self.job.name, heads.join(", "), self.held);
+        self.held.faults()
     }
 }

@@ -7,7 +7,7 @@ const USAGE: &str = "\
 replay books|grown [--places P] [--work BYTES] | tables | events | roots      answers a stream from standard input
 replay check-books|check-grown|check-sheets|check-sizes|check-damage|check-tables|check-events|check-roots [N [SEED]]
 replay check-limits
-Exit status 1: a difference.";
+Exit status 1: a difference, or the reference has an answer to nothing.";
 
 fn verdict(differences: u64) -> ExitCode {
     if differences == 0 {

@@ -3,7 +3,7 @@
 use std::path::PathBuf;
 
 pub mod anyhow {
-    pub type Error = crate::watch::Refused;
+    pub type Error = crate::watch::Ending;
     pub type Result<T, E = Error> = core::result::Result<T, E>;
 }
 

@@ -7,7 +7,7 @@ use super::errors::anyhow;
 use super::floats::TrackedState;
 use super::track::{Link, LinkIdx, LinkPoint, Location};
 use crate::book::{Book, Sample};
-use crate::watch::{self, Refused};
+use crate::watch::{self, Ending};
 
 #[derive(Debug, Default, Clone, PartialEq)]
 pub struct Consist;
@@ -120,7 +120,7 @@ impl SpeedLimitTrainSim {
 
     /// Takes the leg that goes on over the link, or refuses the book with 10.
     pub fn extend_path_tpc(&mut self, _network: &[Link], links: &[LinkIdx]) -> anyhow::Result<()> {
-        self.leg = self.book.leg(self.leg, links[0]).ok_or(Refused(10))?;
+        self.leg = self.book.leg(self.leg, links[0]).ok_or(Ending::Refused(10))?;
         let leg = &self.book.legs[self.leg as usize];
         self.link = leg.link;
         self.sample = leg.first;
