@@ -1,17 +1,15 @@
 -- Laws of one event: the code's operations are the definition's, and a finite float is no distance from itself.
-use mathlib.Core.Path.{_≡_, refl, sym, ap, _∙_}
-use mathlib.Core.Bool.{Bool, true, false, not, _&&_, _||_, Bool·beq, cond, and-false}
-use Prim.Native.Nat.{ℕ, zero, suc, _+_, _-_, _*_, _/_, _%_, _^_, _<_, compare}
+use mathlib.Core.Path.{_≡_, refl, ap, _∙_}
+use mathlib.Core.Bool.{Bool, true, false, not, _&&_, _||_, cond, and-false}
+use Prim.Native.Nat.{ℕ, _-_, _*_, _<_}
 use native.Mathlib.Nat.{sub-self, le-refl, mul-pos}
 use native.Mathlib.Omega.{arith}
 use lib.Dec.{ltb}
-use lib.IntN.{ℤ, pos}
 use borrow.Author.Tests.{le-ltb}
-use lib.Ieee.{Float, nan, inf, fin, Format, binary64, up, down, neg, add, sub, sum, round, mul, div, eq, ofBits}
+use lib.Ieee.{Float, nan, inf, fin, binary64, up, down, neg, add, sub, sum, round, eq, ofBits}
 use lib.Ieee.Fits.{down-pos}
 use lib.Ieee.Scale.{finite, round-same}
 use Rattle.floats.specs.Floats.{tableFloat}
-use Rattle.root.specs.Root.{sqrt}
 use Rattle.book_format.specs.declared.Sample.{Sample}
 use Rattle.event_formula.specs.declared.Passing.{Passing}
 use Rattle.event_formula.specs.Event.{twiceAhead, speedAt, timeByQuotient, standsAt, timeAt, passingAt, badPassing}

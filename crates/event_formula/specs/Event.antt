@@ -1,5 +1,5 @@
--- One event of a run, document 01 under "Events" and document 02, Ask 1: where it is, which kind it has, and when and how
--- fast the train passes it. Every operation is rounded once, in the order of the source's `update_est_times_add`.
+-- One event of a run, document 01 under "Events" and document 02, Ask 1: where it is, which kind it has, and when and
+-- how fast the train passes it. Every operation is rounded once, in the order of the source's `update_est_times_add`.
 -- The floats are a path's points, the train's length and two samples, one after the other; nothing here says which
 -- points and samples are looked at.
 use mathlib.Core.Bool.{Bool, not, _&&_, _||_, cond}
@@ -34,10 +34,10 @@ speedAt s before d =
 unfoldable pub timeByQuotient : Sample → Float → Float → Float
 timeByQuotient s speed d = sub binary64 (s .time) (div binary64 d (add binary64 (s .speed) speed))
 
--- Document 02, Ask 1: "An event whose d and v + speed are both zero", as they are rounded. The train stands on the point
--- at the sample.
--- It is not a train that stands short of the sample's offset: there d is above zero. Nor is it one that passes at a speed
--- whose square is zero.
+-- Document 02, Ask 1: "An event whose d and v + speed are both zero", as they are rounded: at the sample the train
+-- stands on the point.
+-- It is not a train that stands beyond the point, where d is above zero, nor one that passes it at a speed whose square
+-- is zero.
 unfoldable pub standsAt : Sample → Float → Float → Bool
 standsAt s speed d = eq d (ofBits binary64 0) && eq (add binary64 (s .speed) speed) (ofBits binary64 0)
 

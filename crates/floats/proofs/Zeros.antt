@@ -1,6 +1,6 @@
 -- Zeros of either sign in quotients and differences: a zero over a zero has no value, a zero over any other number is a zero, and a value with the sign clear less a zero is itself. Assumes nothing.
 use mathlib.Core.Path.{_≡_, refl, sym, ap, _∙_}
-use mathlib.Core.Bool.{Bool, true, false, not, _&&_, _||_, Bool·beq, cond}
+use mathlib.Core.Bool.{Bool, true, false, _&&_, _||_, Bool·beq, cond}
 use mathlib.Core.Logic.{_≢_}
 use Prim.Native.Nat.{ℕ, zero, suc, _+_, _-_, _*_, _/_, _^_, _<_}
 use native.Mathlib.Nat.{mul-pos, zero-lt-suc, mul-right-comm}

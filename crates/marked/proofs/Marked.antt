@@ -1,4 +1,4 @@
--- Document 01's marked cases, "together as one proved list": each a statement over the crates' definitions, closed by computation.
+-- Document 01's marked cases, "together as one proved list", and document 02's: each a statement over the crates' definitions, closed by computation.
 use mathlib.Core.Path.{_≡_, refl}
 use mathlib.Core.Bool.{true, false}
 use mathlib.Core.List.{List, [], _∷_, _++_, map}
@@ -87,26 +87,30 @@ abbrev sample : ℕ → ℕ → ℕ → List ℕ
 sample time offset speed = float time ++ float offset ++ float speed
 
 -- "J 1, departure 0, length 10. Link 0: all zero. Link 1: length 12, next 2. Link 2: length 100, previous 1. Origin 1, destination 2.
--- Leg 1: link 1, parent 0, sample (0, 10, 0). Leg 2: link 2, parent 1, samples (0, 10, 0), (4, 18, 4), (8, 34, 4)": this is book 2 10. The destination, and the offset in
--- leg 1 and leg 2's first sample, are left open. Each section stands after its count.
-abbrev book : ℕ → ℕ → List ℕ
-book destination offset =
+-- Leg 1: link 1, parent 0, sample (0, 10, 0). Leg 2: link 2, parent 1". The destination, leg 1's sample, and leg 2's samples with their number are left open.
+-- Each section stands after its count.
+abbrev bookOf : ℕ → List ℕ → ℕ → List ℕ → List ℕ
+bookOf destination first count samples =
     float 1
     ++ float 0
     ++ float 10
     ++ (number 3 ++ link 0 0 0 ++ link 12 2 0 ++ link 100 0 1)
     ++ (number 1 ++ number 1 ++ float 0 ++ number 0)
     ++ (number 1 ++ number destination)
-    ++ (number 2 ++ leg 1 0 1 ++ leg 2 1 3)
-    ++ (number 4 ++ sample 0 offset 0 ++ sample 0 offset 0 ++ sample 4 18 4 ++ sample 8 34 4)
+    ++ (number 2 ++ leg 1 0 1 ++ leg 2 1 count)
+    ++ (number (suc count) ++ first ++ samples)
+
+-- "samples (0, 10, 0), (4, 18, 4), (8, 34, 4)": this is book 2 10. The destination, and the offset in leg 1 and leg 2's first sample, are left open.
+abbrev book : ℕ → ℕ → List ℕ
+book destination offset = bookOf destination (sample 0 offset 0) 3 (sample 0 offset 0 ++ sample 4 18 4 ++ sample 8 34 4)
 
 -- "192 nodes; 65,536 bytes of work space"
 abbrev jobOf : ℕ → ℕ → Answer Finished
 jobOf destination offset = job (book destination offset) programSizes
 
 -- what is printed: the listing of the lent table, or the refusal
-abbrev printed : ℕ → ℕ → Option (List ℕ)
-printed destination offset = bookText (book destination offset) programSizes
+abbrev printed : List ℕ → Option (List ℕ)
+printed b = bookText b programSizes
 
 -- nodes 8 added 4 splits 0 joined 0 finished 1
 abbrev reported : List ℕ
@@ -146,6 +150,49 @@ line7 = 55 ∷ 32 ∷ 70 ∷ 32 ∷ 48 ∷ 32 ∷ 48 ∷ 32 ∷ 48 ∷ 32 ∷ 54
 
 abbrev listing : List ℕ
 listing = reported ++ line0 ++ line1 ++ line2 ++ line3 ++ line4 ++ line5 ++ line6 ++ line7
+
+-- ---- document 02, Ask 1: this book with a stop of a minute on the point between its links
+
+-- with the front, from 2 s on, and with the train's end, from 6 s on: examples/front_on_point.book and back_on_point.book
+abbrev frontStands : List ℕ
+frontStands = bookOf 2 (sample 0 10 0) 5 (sample 0 10 0 ++ sample 2 12 0 ++ sample 62 12 0 ++ sample 66 20 4 ++ sample 70 36 4)
+
+abbrev backStands : List ℕ
+backStands = bookOf 2 (sample 0 10 0) 5 (sample 0 10 0 ++ sample 4 18 4 ++ sample 6 22 0 ++ sample 66 22 0 ++ sample 70 30 4)
+
+-- The front's sheet, by hand: Arrive of link 2 at 2 s and at no speed, its Clear 64.5 s and 10 m later, at 66.5 s and 4 m/s.
+-- 4 A 2 5 0 3 0 4 40502 4024 0
+abbrev front4 : List ℕ
+front4 = 52 ∷ 32 ∷ 65 ∷ 32 ∷ 50 ∷ 32 ∷ 53 ∷ 32 ∷ 48 ∷ 32 ∷ 51 ∷ 32 ∷ 48 ∷ 32 ∷ 52 ∷ 32 ∷ 52 ∷ 48 ∷ 53 ∷ 48 ∷ 50 ∷ 32 ∷ 52 ∷ 48 ∷ 50 ∷ 52 ∷ 32 ∷ 48 ∷ 10 ∷ []
+
+-- 5 C 2 6 0 4 0 4050a 0 0 401
+abbrev front5 : List ℕ
+front5 = 53 ∷ 32 ∷ 67 ∷ 32 ∷ 50 ∷ 32 ∷ 54 ∷ 32 ∷ 48 ∷ 32 ∷ 52 ∷ 32 ∷ 48 ∷ 32 ∷ 52 ∷ 48 ∷ 53 ∷ 48 ∷ 97 ∷ 32 ∷ 48 ∷ 32 ∷ 48 ∷ 32 ∷ 52 ∷ 48 ∷ 49 ∷ 10 ∷ []
+
+-- 6 F 0 7 0 5 0 4050a 0 0 0
+abbrev front6 : List ℕ
+front6 = 54 ∷ 32 ∷ 70 ∷ 32 ∷ 48 ∷ 32 ∷ 55 ∷ 32 ∷ 48 ∷ 32 ∷ 53 ∷ 32 ∷ 48 ∷ 32 ∷ 52 ∷ 48 ∷ 53 ∷ 48 ∷ 97 ∷ 32 ∷ 48 ∷ 32 ∷ 48 ∷ 32 ∷ 48 ∷ 10 ∷ []
+
+-- 7 F 0 0 0 6 0 4050a 0 0 0
+abbrev front7 : List ℕ
+front7 = 55 ∷ 32 ∷ 70 ∷ 32 ∷ 48 ∷ 32 ∷ 48 ∷ 32 ∷ 48 ∷ 32 ∷ 54 ∷ 32 ∷ 48 ∷ 32 ∷ 52 ∷ 48 ∷ 53 ∷ 48 ∷ 97 ∷ 32 ∷ 48 ∷ 32 ∷ 48 ∷ 32 ∷ 48 ∷ 10 ∷ []
+
+-- The end's: Arrive of link 2 at 2 s and 2 m/s, its Clear 4 s and 10 m later, at 6 s and at no speed.
+-- 4 A 2 5 0 3 0 4 401 4024 4
+abbrev back4 : List ℕ
+back4 = 52 ∷ 32 ∷ 65 ∷ 32 ∷ 50 ∷ 32 ∷ 53 ∷ 32 ∷ 48 ∷ 32 ∷ 51 ∷ 32 ∷ 48 ∷ 32 ∷ 52 ∷ 32 ∷ 52 ∷ 48 ∷ 49 ∷ 32 ∷ 52 ∷ 48 ∷ 50 ∷ 52 ∷ 32 ∷ 52 ∷ 10 ∷ []
+
+-- 5 C 2 6 0 4 0 4018 0 0 0
+abbrev back5 : List ℕ
+back5 = 53 ∷ 32 ∷ 67 ∷ 32 ∷ 50 ∷ 32 ∷ 54 ∷ 32 ∷ 48 ∷ 32 ∷ 52 ∷ 32 ∷ 48 ∷ 32 ∷ 52 ∷ 48 ∷ 49 ∷ 56 ∷ 32 ∷ 48 ∷ 32 ∷ 48 ∷ 32 ∷ 48 ∷ 10 ∷ []
+
+-- 6 F 0 7 0 5 0 4018 0 0 0
+abbrev back6 : List ℕ
+back6 = 54 ∷ 32 ∷ 70 ∷ 32 ∷ 48 ∷ 32 ∷ 55 ∷ 32 ∷ 48 ∷ 32 ∷ 53 ∷ 32 ∷ 48 ∷ 32 ∷ 52 ∷ 48 ∷ 49 ∷ 56 ∷ 32 ∷ 48 ∷ 32 ∷ 48 ∷ 32 ∷ 48 ∷ 10 ∷ []
+
+-- 7 F 0 0 0 6 0 4018 0 0 0
+abbrev back7 : List ℕ
+back7 = 55 ∷ 32 ∷ 70 ∷ 32 ∷ 48 ∷ 32 ∷ 48 ∷ 32 ∷ 48 ∷ 32 ∷ 54 ∷ 32 ∷ 48 ∷ 32 ∷ 52 ∷ 48 ∷ 49 ∷ 56 ∷ 32 ∷ 48 ∷ 32 ∷ 48 ∷ 32 ∷ 48 ∷ 10 ∷ []
 
 -- ---- "back + length = front", "back index becoming 1"
 
@@ -211,7 +258,7 @@ waits time node = record { time = whole time; sub = whole 0; node = node }
 
 record Marked : Type 0 where
   -- "this book": its listing, byte for byte
-  worked-book : printed 2 10 ≡ some listing
+  worked-book : printed (book 2 10) ≡ some listing
   -- "root of 0"
   root-of-zero : sqrt binary64 (ofBits binary64 0) ≡ ofBits binary64 0
   -- "of 4 (2)"
@@ -243,6 +290,9 @@ record Marked : Type 0 where
   before-last-point : answered (jobOf 2 11) ≡ Made (record { nodes = 8; added = 4; splits = 0; joined = 0; finished = 1 })
   -- "destination 0 (8)": this book with that destination
   destination-zero : jobOf 0 10 ≡ refused 8
+  -- a train that stands on a point with its front and one with its end: their listings, byte for byte
+  front-stands : printed frontStands ≡ some (reported ++ line0 ++ line1 ++ line2 ++ line3 ++ front4 ++ front5 ++ front6 ++ front7)
+  back-stands : printed backStands ≡ some (reported ++ line0 ++ line1 ++ line2 ++ line3 ++ back4 ++ back5 ++ back6 ++ back7)
 
 marked : Marked
 unfolding add sub mul div lt le eq isNan ofBits toBits ofInt BelowOf.someBelow BelowOf.sumBelow FieldsOf.u64At FloatsOf.tableFloat FloatsOf.bookFloat FloatsOf.gap FloatsOf.smaller LeftOf.placesOf LeftOf.nodesIn SpaceOf.zeros SpaceOf.zeroFloats RootOf.sqrt FormatOf.joinBits FormatOf.departureBits FormatOf.lengthBits FormatOf.links FormatOf.originsAt FormatOf.origins FormatOf.destinationsAt FormatOf.destinations FormatOf.legsAt FormatOf.legs FormatOf.samplesAt FormatOf.samples FormatOf.endOf FormatOf.linkLength FormatOf.linkNext FormatOf.linkNextAlt FormatOf.linkPrev FormatOf.linkPrevAlt FormatOf.originLink FormatOf.originOffset FormatOf.originFront FormatOf.destinationLink FormatOf.legLink FormatOf.legParent FormatOf.legSamples FormatOf.sampleTime FormatOf.sampleOffset FormatOf.sampleSpeed FormatOf.firstSample FormatOf.sampleAt RowsOf.row1 RowsOf.row2 RowsOf.row3 RowsOf.row4 RowsOf.row5 RowsOf.row6 RowsOf.row7 RefusalsOf.firstOf ChainsOf.legBelow OptionsOf.member OptionsOf.originBelow OptionsOf.stacked OptionsOf.pushed OptionsOf.inSet OptionsOf.keptOrigins OptionsOf.row8 ReaderOf.readNumber EventOf.passingAt EventOf.badPassing TableOf.sameEvent TableOf.blank TableOf.nodeAt TableOf.at TableOf.put TableOf.putFloats TableOf.putNumbers WalkOf.turned WalkOf.passedAs WalkOf.row11 InsertionOf.linkedTo InsertionOf.eventNode InsertionOf.addBehind InsertionOf.placeAt InsertionOf.inserted InsertionOf.insertedTable EntriesOf.entry EntriesOf.push StrandsOf.strandFrom StrandsOf.strands StrandsOf.extendedAll EventMapOf.seenIn JoinsOf.joinStep PathOf.legEvents RunOf.arcToEnd RunOf.runEvents GrowthOf.badFinish GrowthOf.finishedAt GrowthOf.grow QueueOf.before QueueOf.best QueueOf.others ChecksOf.nodeHolds ChecksOf.row14 ForwardOf.forward BackwardOf.backward PassesOf.passes NetworkOf.zeroTable NetworkOf.network SheetOf.job ListingOf.sheetText ListingOf.sheetIn
@@ -268,4 +318,6 @@ marked = record {
   at-last-point = refl;
   before-last-point = refl;
   destination-zero = refl;
+  front-stands = refl;
+  back-stands = refl;
 }

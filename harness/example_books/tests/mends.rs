@@ -2,16 +2,18 @@
 
 use example_books::{accepted, refused, refused_tables, PLACES};
 use generator::{table_item, Book, Node};
+use outside::Answers;
 
 /// Where a node's next and previous stand in its bytes.
 const NEXT: usize = 32;
 const PREV: usize = 40;
 
-/// The first word and number of both answers.
+/// The first word and number of both answers, where a train stands on a point of the second's.
 fn answer(book: &Book, places: usize) -> String {
-    let answer = reference::book(&book.bytes(), places, None);
-    assert_eq!(answer, plain::book(&book.bytes(), places, None));
-    head(answer)
+    let bytes = book.bytes();
+    let answers = Answers::new(reference::book(&bytes, places, None), plain::book(&bytes, places, None));
+    assert!(answers.agree());
+    head(answers.given().to_vec())
 }
 
 fn head(answer: Vec<u8>) -> String {
@@ -57,6 +59,38 @@ fn row_9_a_lone_link() {
 fn row_11_short_of_the_end() {
     let short = |book: &mut Book| book.legs.iter_mut().for_each(|leg| leg.samples[0][1] = 11.9);
     assert_eq!(mended(11, short), "nodes 8");
+}
+
+/// The worked book with other samples in leg 2, the first of them also leg 1's.
+fn driven(samples: &[[f64; 3]]) -> String {
+    changed("worked", |book| {
+        book.legs[0].samples = vec![samples[0]];
+        book.legs[1].samples = samples.to_vec();
+    })
+}
+
+#[test]
+fn row_11_a_train_that_stands_at_two_samples() {
+    assert_eq!(driven(&[[0.0, 10.0, 0.0], [2.0, 13.0, 0.0]]), "refused 11");
+    assert_eq!(driven(&[[0.0, 10.0, 0.0], [2.0, 13.0, 3.0]]), "nodes 7");
+    assert_eq!(driven(&[[0.0, 10.0, 0.0], [1.0, 11.0, 2.0], [2.0, 13.0, 0.0]]), "nodes 7");
+}
+
+#[test]
+fn row_11_a_stop_within_next_to_no_time() {
+    let stop_after = |time| driven(&[[0.0, 10.0, 10.0], [time, 12.0, 0.0]]);
+    for time in [f64::from_bits(1), f64::MIN_POSITIVE, 5e-308] {
+        assert_eq!(stop_after(time), "refused 11");
+    }
+    assert_eq!(stop_after(6e-308), "nodes 7");
+    assert_eq!(stop_after(0.4), "nodes 7");
+}
+
+#[test]
+fn row_11_speeds_that_do_not_fit() {
+    let with_last = |last| driven(&[[0.0, 10.0, 0.0], [4.0, 18.0, 4.0], last]);
+    assert_eq!(with_last([5.0, 34.0, 8.0]), "refused 11");
+    assert_eq!(with_last([5.0, 24.0, 8.0]), "nodes 8");
 }
 
 #[test]

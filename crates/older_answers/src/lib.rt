@@ -1,0 +1,1 @@
+// Which answers a request has changed: theorems alone. See specs/ and proofs/.
