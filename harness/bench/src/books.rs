@@ -100,8 +100,8 @@ pub fn samples(count: usize) -> Vec<u8> {
     made.bytes()
 }
 
-/// The first accepted ones of the random books that the comparisons use.
-pub fn small(count: usize) -> Vec<Vec<u8>> {
-    let accepted = |bytes: &Vec<u8>| reference::book(bytes, 65_535, None).starts_with(b"nodes");
+/// The first of the random books that the comparisons use which the reference accepts on so many places.
+pub fn small(count: usize, places: usize) -> Vec<Vec<u8>> {
+    let accepted = |bytes: &Vec<u8>| reference::book(bytes, places, None).starts_with(b"nodes");
     (0..).map(|k| generator::book(1, k).bytes).filter(accepted).take(count).collect()
 }

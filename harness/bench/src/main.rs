@@ -84,7 +84,7 @@ fn whole(bench: &Bench) {
         clearing.case(&format!("{places} places, and the clearing alone"), || timers::clearing(&sidings::book(10), places));
     }
     let mut small = bench.group("a thousand small books", how);
-    let items = books::small(1_000);
+    let items = books::small(1_000, 192);
     small.case("1,000 random books, 192 places", || timers::sheets(&items, 192));
     small.case("1,000 random books, 4,096 places", || timers::sheets(&items, 4_096));
     let mut chains = bench.group("chains of legs, places as nodes", how);
