@@ -1,4 +1,5 @@
--- Worked examples of the event maker, computed on bytes: document 01's leg 2 and its marked cases.
+-- Worked examples of the event maker, computed on bytes: document 01's leg 2 and its marked cases, and a train that stands
+-- on a point.
 use mathlib.Core.Path.{_≡_, refl}
 use mathlib.Core.Bool.{true}
 use mathlib.Core.List.{List, [], _∷_, _++_}
@@ -51,6 +52,10 @@ leg = at 0 10 0 ++ at 4 18 4 ++ at 8 34 4
 abbrev wild : List ℕ
 wild = at 0 10 0 ++ at 4 18 4 ++ at 5 34 8
 
+-- the front stands on the point at 12 m from 2 s to 62 s
+abbrev stop : List ℕ
+stop = at 0 10 0 ++ at 2 12 0 ++ at 62 12 0
+
 abbrev minus-zero : Float
 minus-zero = fin true 0 (pos 0)
 
@@ -64,6 +69,10 @@ record Examples : Type 0 where
   -- a bad event, behind the list's end too
   bad : answer (whole 10) wild points links 2 ≡ Refused 11
   bad-beyond : answer (whole 10) wild points links 0 ≡ Refused 11
+  -- a train that stands on a point: document 02, Ask 1. Its event is at 2 s, 12 m and no speed
+  stands : answer (whole 10) stop points links 1 ≡ Listed 1
+  stands-floats : floatsAs (Listed 1) (lentCourse (whole 10) stop points links) 3 ≡ whole 2 ∷ whole 12 ∷ whole 0 ∷ []
+  stands-short : answer (whole 10) stop points links 0 ≡ Refused 12
   -- no sample, no point; what is left of a sample or a point is none
   none : answer (whole 10) [] points links 2 ≡ Refused 3
   part : answer (whole 10) (0 ∷ []) points links 2 ≡ Refused 3
@@ -78,4 +87,4 @@ record Examples : Type 0 where
 
 examples : Examples
 unfolding answerOf firstOf lentCourse courseOf badCounts badFloats falling listPlaces eventFloats eventNumbers zeros zeroFloats bookValue bookFloat badSampleFrom sampleFrom u64At u32At row11 reachesLast someBad someBelow pointsPassed passedFrom walk turnsLeft start turn turned emits inRange clearsNext offsetNext passedNext passedAs firstBeyond eventOffset clears passingAt badPassing smaller tableFloat sqrt ofInt ofBits toBits add sub mul div lt le eq isNan
-examples = record { worked = refl; worked-floats = refl; worked-numbers = refl; short = refl; last = refl; bad = refl; bad-beyond = refl; none = refl; part = refl; pointless = refl; nan-length = refl; signed-length = refl; still = refl; back = refl; fallen = refl }
+examples = record { worked = refl; worked-floats = refl; worked-numbers = refl; short = refl; last = refl; bad = refl; bad-beyond = refl; stands = refl; stands-floats = refl; stands-short = refl; none = refl; part = refl; pointless = refl; nan-length = refl; signed-length = refl; still = refl; back = refl; fallen = refl }
