@@ -120,10 +120,14 @@ olderJob b z = andThen (olderNetwork b z) (timedFrom b)
 
 -- ---- old answers and new ones
 
--- an answer is as it was, or it was 11
-abbrev pub Kept : {A : Type 0} → Answer A → Answer A → Type 0
-Kept older newer = (older ≡ refused badLegNumber) ⊎ (older ≡ newer)
+-- an answer is as it was, or it was a certain one
+abbrev pub KeptBut : {A : Type 0} → A → A → A → Type 0
+KeptBut was older newer = (older ≡ was) ⊎ (older ≡ newer)
 
--- the same of the event maker's
+-- of a book: it was 11
+abbrev pub Kept : {A : Type 0} → Answer A → Answer A → Type 0
+Kept older newer = KeptBut (refused badLegNumber) older newer
+
+-- of an event list
 abbrev pub KeptMade : Made → Made → Type 0
-KeptMade older newer = (older ≡ Refused badLegNumber) ⊎ (older ≡ newer)
+KeptMade older newer = KeptBut (Refused badLegNumber) older newer
