@@ -6,3 +6,4 @@ pub mod Ends
 pub mod Kept
 pub mod Examples
 pub mod Apart
+pub mod Rooms

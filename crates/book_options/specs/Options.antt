@@ -95,11 +95,20 @@ abbrev pub optionsNumber : LinkOptions → ℕ
 optionsNumber NoPath = 8
 optionsNumber (Kept n) = 0
 
--- What the marks then say. Each link has one mark, which is odd for a link of the set; the kept origins' rows stand
--- behind the links' marks and the stack, which has room for destinations + links.
+-- ---- the search's part of the work space
+
+-- "a work space of 8 bytes for each link and 4 for each origin and destination" (document 02, Ask 2), in numbers of 4
+-- bytes: a mark for each link; the stack, which has room for every link and destination; the rows of the origins kept.
+-- The search is lent just so many numbers; it has no array of its own.
+abbrev pub searchRoom : List ℕ → ℕ
+searchRoom b = 2 * links b + destinations b + origins b
+
+-- where the kept origins' rows begin
 abbrev pub keptAt : List ℕ → ℕ
 keptAt b = 2 * links b + destinations b
 
+-- What the marks then say. Each link has one mark, which is odd for a link of the set; the kept origins' rows stand
+-- behind the links' marks and the stack.
 pub record OptionsIn (b marks : List ℕ) : Type 0 where
   pub set : (l : ℕ) → l < links b → eqb (getD marks l 0 % 2) 1 ≡ inSet b l
   pub kept : (k : ℕ) → k < length (keptOrigins b) → getD marks (keptAt b + k) 0 ≡ getD (keptOrigins b) k 0

@@ -6,9 +6,9 @@ ghost use mathlib.Core.Bool.{true, false};
 ghost use Prim.Native.Nat.{ℕ, _+_, _*_, _≤_, _<_};
 ghost use lib.ListN.{length, getD};
 ghost use Rattle.space.specs.Space.{zeros};
-ghost use Rattle.book_format.specs.Format.{Sized, links, origins, destinations};
+ghost use Rattle.book_format.specs.Format.{Sized, links, destinations};
 ghost use Rattle.book_format.specs.Rows.{badCount, row4, row5, row6};
-ghost use Rattle.book_options.specs.Options.{destinationZero, row8, linkOptions, OptionsIn};
+ghost use Rattle.book_options.specs.Options.{destinationZero, row8, linkOptions, searchRoom, OptionsIn};
 ghost use Rattle.book_options.specs.Turns.{AllStacked, AllNumbered, Walking, SearchTurned};
 
 // What the search found: how many origins are kept, or that a destination is link 0 or no origin is kept (row 8).
@@ -70,7 +70,7 @@ fn turn(book: &[u8], s: Sections, w: Walk, marks: &mut [u32]) -> Walk
     requires { ⌜ Sized (now book) s ⌝ }
     requires { ⌜ row4 (now book) ≡ false ⌝ }
     requires { ⌜ row5 (now book) ≡ false ⌝ }
-    requires { ⌜ 2 * links (now book) + destinations (now book) + origins (now book) ≤ length (now marks) ⌝ }
+    requires { ⌜ length (now marks) ≡ searchRoom (now book) ⌝ }
     requires { ⌜ Walking (now book) (now marks) w ⌝ }
     requires { ⌜ 0 < w .top ⌝ }
     ensures { λ r. ⌜ SearchTurned (now (book .entry)) (now (marks .entry)) w (now (marks .exit)) r ⌝ }
@@ -104,14 +104,25 @@ fn turn(book: &[u8], s: Sections, w: Walk, marks: &mut [u32]) -> Walk
     Walk { top: top + 2, kept }
 }
 
-// The marks hold one number for each link, then the stack (links and destinations), then the kept origins.
+// How many numbers the search asks for: two for each link, one for each destination and one for each origin.
+pub fn search_room(s: Sections) -> usize
+    requires { ⌜ s .links ≤ 65535 ⌝ }
+    requires { ⌜ s .destinations ≤ 1000 ⌝ }
+    requires { ⌜ s .origins ≤ 1000 ⌝ }
+    ensures { λ r. ⌜ r ≡ 2 * s .links + s .destinations + s .origins ⌝ }
+{
+    2 * s.links + s.destinations + s.origins
+}
+
+// The marks are the search's whole work space, of just the length that it asks for: one number for each link, then the
+// stack (links and destinations), then the kept origins.
 pub fn get_link_idx_options(book: &[u8], s: Sections, marks: &mut [u32]) -> LinkOptions
     requires { ⌜ Sized (now book) s ⌝ }
     requires { ⌜ badCount (now book) ≡ false ⌝ }
     requires { ⌜ row4 (now book) ≡ false ⌝ }
     requires { ⌜ row5 (now book) ≡ false ⌝ }
     requires { ⌜ row6 (now book) ≡ false ⌝ }
-    requires { ⌜ 2 * links (now book) + destinations (now book) + origins (now book) ≤ length (now marks) ⌝ }
+    requires { ⌜ length (now marks) ≡ searchRoom (now book) ⌝ }
     requires { ⌜ now marks ≡ zeros (length (now marks)) ⌝ }
     ensures answer { λ r. ⌜ r ≡ linkOptions (now (book .entry)) ⌝ }
     ensures marked { λ r. ⌜ (row8 (now (book .entry)) ≡ false → OptionsIn (now (book .entry)) (now (marks .exit))) ⌝ }

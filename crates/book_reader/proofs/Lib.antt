@@ -1,3 +1,4 @@
 pub mod Rooms
 pub mod Numbers
+mod Parts
 mod Refusals

@@ -5,12 +5,14 @@ use mathlib.Core.List.{List, _∷_}
 use Prim.Native.Nat.{ℕ, zero, suc, _+_, _*_, _/_, _≤_, _<_, min}
 use native.Mathlib.Omega.{arith}
 use lib.Dec.{eqb, ltb}
-use lib.ListN.{length}
+use lib.ListN.{length, take}
+use lib.Seq.{length-take-le}
 use borrow.Author.Tests.{ltb-false, ltb-true, lt-ltb, le-ltb, eqb-true, not-false}
 use Rattle.laws.specs.Below.{someBelow, sumBelow}
 use Rattle.laws.specs.Refusals.{row, firstOf}
 use Rattle.laws.proofs.Truth.{none-left, none-right}
 use Rattle.space.specs.Space.{unitsOf, bytesOf, zeros}
+use Rattle.space.proofs.Zeros.{zeros-front}
 use Rattle.book_format.specs.declared.Sections.{Sections}
 use Rattle.book_format.specs.Format.{Sized, links, origins, destinations, legs, samples, legSamples}
 use Rattle.book_format.specs.Rows.{badCount, workBytes, row1, row2, row3}
@@ -18,7 +20,8 @@ use Rattle.book_format.specs.Chains.{Counted}
 use Rattle.book_format.proofs.Given.{limits}
 use Rattle.book_format.proofs.Places.{sized-links}
 use Rattle.book_reader.specs.Reader.{rowsFrom4, readNumber}
-use Rattle.book_reader.specs.Stages.{Blank, allMarks}
+use Rattle.book_options.specs.Options.{searchRoom}
+use Rattle.book_reader.specs.Stages.{Blank}
 
 row3-is : (b : List ℕ) (p y : ℕ) → row3 b p y ≡ (badCount b || someBelow (legs b) (λ i. eqb (legSamples b i) 0) || not (eqb (sumBelow (legs b) (legSamples b)) (samples b)) || ltb y (workBytes b p))
 unfolding row3
@@ -42,15 +45,19 @@ enough b p y e =
     ltb-false y (workBytes b p)
     (none-right (badCount b || someBelow (legs b) (λ i. eqb (legSamples b i) 0) || not (eqb (sumBelow (legs b) (legSamples b)) (samples b))) (ltb y (workBytes b p)) (sym (row3-is b p y) ∙ e))
 
--- the lent slices, which are zero, have room for the chains and the marks
-pub blank-of : (b : List ℕ) (p u reals : ℕ) (cells marks : List ℕ) (y : ℕ) → y ≡ min (64 * u) 64000000 → row3 b p y ≡ false → u ≡ unitsOf reals (length cells) (length marks)
-    → cells ≡ zeros (length cells) → marks ≡ zeros (length marks) → Blank b cells marks (allMarks b)
-unfolding workBytes unitsOf
-blank-of b p u reals cells marks y f e d g h =
-    let w = enough b p y e in
-    let c : 8 * u ≤ length cells = omega arith in
-    let m : 2 * u ≤ length marks = omega arith in
-    record { cells-room = omega arith; marks-room = omega arith; cells-zero = g; marks-zero = h }
+-- the lent slices have room for the chains and for the search's part of the marks
+module _ (b : List ℕ) (p u reals y : ℕ) (cells marks : List ℕ) (f : y ≡ min (64 * u) 64000000) (e : row3 b p y ≡ false) (d : u ≡ unitsOf reals (length cells) (length marks)) where
+  chains-fit : (legs b + 1) * 8 ≤ length cells
+  unfolding workBytes unitsOf
+  chains-fit = let w = enough b p y e in let c : 8 * u ≤ length cells = omega arith in omega arith
+
+  pub part-fits : searchRoom b ≤ length marks
+  unfolding workBytes unitsOf
+  part-fits = let w = enough b p y e in let m : 2 * u ≤ length marks = omega arith in omega arith
+
+  -- that part, of slices that are zero
+  pub blank-of : cells ≡ zeros (length cells) → marks ≡ zeros (length marks) → (room : ℕ) → room ≡ searchRoom b → Blank b cells (take room marks) (searchRoom b)
+  blank-of g h room r = record { cells-room = chains-fit; marks-room = length-take-le room marks (omega (arith, part-fits)) ∙ r; cells-zero = g; marks-zero = zeros-front room h }
 
 -- there is a link
 pub some-link : (b : List ℕ) (s : Sections) (p y : ℕ) → Sized b s → row3 b p y ≡ false → 0 < s .links

@@ -3,7 +3,7 @@ use mathlib.Core.Path.{_≡_}
 use mathlib.Core.Bool.{Bool, false}
 use mathlib.Core.List.{List, [], _∷_}
 use Prim.Native.Nat.{ℕ, _+_, _*_, _≤_}
-use lib.ListN.{length, getD}
+use lib.ListN.{length, getD, drop}
 use Rattle.laws.specs.Refusals.{Row, row, firstOf}
 use Rattle.space.specs.Lent.{Work, bytesIn, Cleared}
 use Rattle.book_format.specs.declared.Sections.{Sections}
@@ -13,7 +13,7 @@ use Rattle.book_format.specs.Rows.{row1, row2, measuredNumber, row3, row4, row5
 use Rattle.book_format.specs.Chains.{Readable, Chained}
 use Rattle.book_legs.specs.Legs.{Started}
 use Rattle.book_options.specs.declared.LinkOptions.the-variants.{NoPath}
-use Rattle.book_options.specs.Options.{row8, optionsNumber, keptOrigins, OptionsIn}
+use Rattle.book_options.specs.Options.{row8, optionsNumber, keptOrigins, searchRoom, OptionsIn}
 use Rattle.book_reader.specs.declared.Reading.{Reading}
 use Rattle.book_reader.specs.declared.Reading.the-variants.{Accepted, Refused}
 
@@ -69,10 +69,12 @@ abbrev pub ReadInto : List ℕ → List ℕ → List ℕ → Reading → Type 0
 ReadInto b cells marks (Accepted s n) = Ready b s n cells marks
 ReadInto b cells marks (Refused n) = n ≡ 0 → ⊥
 
--- a book read into cells and marks, for a table of so many places and so many bytes of work space
-pub record BookRead (b : List ℕ) (places bytes : ℕ) (cells marks : List ℕ) (r : Reading) : Type 0 where
+-- A book read into cells and marks, for a table of so many places and so many bytes of work space. Of the marks the
+-- reader uses the part that the options search asks for, and no more: behind it they are as they were lent.
+pub record BookRead (b : List ℕ) (places bytes : ℕ) (cells lent marks : List ℕ) (r : Reading) : Type 0 where
   pub number : readingNumber r ≡ readNumber b places bytes
   pub into : ReadInto b cells marks r
+  pub rest : drop (searchRoom b) marks ≡ drop (searchRoom b) lent
 
 -- a book checked, for a table of so many places: its number, and "work space is zero either way"
 pub record Checked (b : List ℕ) (places : ℕ) (lent left : Work) (r : ℕ) : Type 0 where

@@ -7,7 +7,7 @@ use lib.ListN.{length, getD}
 use Rattle.laws.specs.Refusals.{firstOf}
 use Rattle.space.specs.Space.{zeros}
 use Rattle.book_format.specs.declared.Sections.{Sections}
-use Rattle.book_format.specs.Format.{Sized, links, origins, destinations, legs}
+use Rattle.book_format.specs.Format.{Sized, legs}
 use Rattle.book_format.specs.Rows.{row3, row4, row5, row6, row7, someBadPlace, someBadLeg}
 use Rattle.book_format.specs.Chains.{Counted, Chained}
 use Rattle.book_reader.specs.declared.Reading.{Reading}
@@ -25,16 +25,12 @@ pub record RowsPassed (b : List ℕ) (s : Sections) : Type 0 where
 
 -- ---- the work space
 
--- cells for the legs and so many marks, all zero
+-- cells for the legs, and just so many marks; all zero
 pub record Blank (b cells marks : List ℕ) (asked : ℕ) : Type 0 where
   pub cells-room : (legs b + 1) * 8 ≤ length cells
-  pub marks-room : asked ≤ length marks
+  pub marks-room : length marks ≡ asked
   pub cells-zero : cells ≡ zeros (length cells)
   pub marks-zero : marks ≡ zeros (length marks)
-
--- a mark and a place on the stack for each link, a place there for each destination, and one for each kept origin
-abbrev pub allMarks : List ℕ → ℕ
-allMarks b = 2 * links b + destinations b + origins b
 
 -- the legs are chained in the cells, and the cells behind them still zero
 pub record ChainedOnly (b cells : List ℕ) : Type 0 where

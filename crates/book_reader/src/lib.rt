@@ -11,7 +11,8 @@ ghost use Rattle.book_format.specs.Format.{Sized, links};
 ghost use Rattle.book_format.specs.Rows.{someBadLeg};
 ghost use Rattle.book_format.specs.Chains.{Readable};
 ghost use Rattle.book_reader.specs.Reader.{readingNumber, BookRead, Checked};
-ghost use Rattle.book_reader.specs.Stages.{RowsPassed, Blank, allMarks};
+ghost use Rattle.book_options.specs.Options.{searchRoom};
+ghost use Rattle.book_reader.specs.Stages.{RowsPassed, Blank};
 ghost use Rattle.book_reader.specs.Stages.{TestedAs, LegsTested, RepeatsTested, RestRead};
 
 // What reading found: where the sections stand and how many origins are kept, or the number of a refusal.
@@ -89,12 +90,12 @@ fn test_repeats(book: &[u8], s: Sections, late: bool, cells: &mut [u32], marks: 
     0
 }
 
-// Rows 6 to 8. The repeats are marked in the links' own marks; the starting legs are named behind them, where the
-// options' stack has been.
+// Rows 6 to 8, in as many marks as the options search asks for. The repeats are marked in the links' own marks; the
+// starting legs are named behind them, where the options' stack has been.
 fn read_rest(book: &[u8], s: Sections, late: bool, cells: &mut [u32], marks: &mut [u32]) -> Reading
     requires { ⌜ RowsPassed (now book) s ⌝ }
     requires { ⌜ late ≡ someBadLeg (now book) ⌝ }
-    requires { ⌜ Blank (now book) (now cells) (now marks) (allMarks (now book)) ⌝ }
+    requires { ⌜ Blank (now book) (now cells) (now marks) (searchRoom (now book)) ⌝ }
     ensures { λ r. ⌜ RestRead (now (book .entry)) (now (cells .exit)) (now (marks .exit)) r ⌝ }
 {
     let links = s.links;
@@ -124,7 +125,8 @@ fn lent_bytes(units: usize) -> usize
     }
 }
 
-// Reads a book into work space that is zero, for a table of so many places.
+// Reads a book into work space that is zero, for a table of so many places. What the marks hold behind the options
+// search's part is neither read nor written.
 pub fn read_book(
     book: &[u8],
     places: usize,
@@ -136,13 +138,17 @@ pub fn read_book(
     requires { ⌜ now marks ≡ zeros (length (now marks)) ⌝ }
     ensures { λ r. ⌜ BookRead (now (book .entry)) places
         (bytesOf reals (length (now (cells .entry))) (length (now (marks .entry))))
-        (now (cells .exit)) (now (marks .exit)) r ⌝ }
+        (now (cells .exit)) (now (marks .entry)) (now (marks .exit)) r ⌝ }
 {
     let bytes = lent_bytes(space::units(reals, cells.len(), marks.len()));
     let t = test_rows(book, places, bytes);
     match t {
         Tested::Stopped(n) => Reading::Refused(n),
-        Tested::Left(s, late) => read_rest(book, s, late, cells, marks),
+        Tested::Left(s, late) => {
+            let room = book_options::search_room(s);
+            let part = &mut marks[..room];
+            read_rest(book, s, late, cells, part)
+        }
     }
 }
 

@@ -17,7 +17,7 @@ use Rattle.book_format.specs.declared.Sections.{Sections}
 use Rattle.book_format.specs.Format.{links, origins, destinations, legs, samples, linkLength, joinBits, departureBits, lengthBits}
 use Rattle.book_format.specs.Rows.{row1, row2, row3, row4, row5, row6, row7, workBytes, badOriginValue, badSample, badLeg, legRepeats, legFalls, legBegins}
 use Rattle.book_format.proofs.Theorems.{length-by-counts}
-use Rattle.book_options.specs.Options.{row8}
+use Rattle.book_options.specs.Options.{row8, searchRoom}
 use Rattle.book_reader.specs.declared.Reading.{Reading}
 use Rattle.book_reader.specs.declared.Reading.the-variants.{Accepted, Refused}
 use Rattle.book_reader.specs.Reader.{readRows, readNumber, readingNumber, Ready, ReadInto, BookRead}
@@ -80,7 +80,7 @@ departure-float {b} p =
 pub record Enough (b : List ℕ) (places r c m : ℕ) : Type 0 where
   pub reals : legs b * 3 + 4 ≤ r
   pub cells : (legs b + 1 + places + links b) * 8 ≤ c
-  pub marks : 2 * links b + destinations b + origins b ≤ m
+  pub marks : searchRoom b ≤ m
   -- for the passes
   pub queue : places * 2 ≤ r
   pub flags : places * 8 ≤ c
@@ -109,7 +109,7 @@ enough-of b f n r c m p = enough-units b (placesOf f n) (unitsOf r c m) r c m (p
 
 -- ---- the reader's answer, once its case is known
 
-module _ (b : List ℕ) (places bytes : ℕ) (cells marks : List ℕ) (r : Reading) (read : BookRead b places bytes cells marks r) where
+module _ (b : List ℕ) (places bytes : ℕ) (cells marks : List ℕ) (r : Reading) {lent : List ℕ} (read : BookRead b places bytes cells lent marks r) where
   pub accepted-ready : {s : Sections} {k : ℕ} → r ≡ Accepted s k → Ready b s k cells marks
   accepted-ready e = subst (ReadInto b cells marks) e (read .into)
 
@@ -123,5 +123,5 @@ module _ (b : List ℕ) (places bytes : ℕ) (cells marks : List ℕ) (r : Readi
   refused-some e = subst (ReadInto b cells marks) e (read .into)
 
 -- the reader was told how many places there are
-pub read-as : {b : List ℕ} {places more bytes : ℕ} {cells marks : List ℕ} {r : Reading} → places ≡ more → BookRead b places bytes cells marks r → BookRead b more bytes cells marks r
-read-as {b} {places} {more} {bytes} {cells} {marks} {r} e = subst (λ (k : ℕ). BookRead b k bytes cells marks r) e
+pub read-as : {b : List ℕ} {places more bytes : ℕ} {cells lent marks : List ℕ} {r : Reading} → places ≡ more → BookRead b places bytes cells lent marks r → BookRead b more bytes cells lent marks r
+read-as {b} {places} {more} {bytes} {cells} {lent} {marks} {r} e = subst (λ (k : ℕ). BookRead b k bytes cells lent marks r) e

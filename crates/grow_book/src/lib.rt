@@ -16,9 +16,9 @@ ghost use lib.Dec.{eqb};
 ghost use lib.ListN.{length};
 ghost use Rattle.net_node.specs.Left.{placesOf};
 ghost use Rattle.net_node.specs.Table.{nodeAt};
-ghost use Rattle.book_format.specs.Format.{links, origins, destinations, legs};
+ghost use Rattle.book_format.specs.Format.{links, legs};
 ghost use Rattle.book_legs.specs.Legs.{Started};
-ghost use Rattle.book_options.specs.Options.{OptionsIn, keptOrigins};
+ghost use Rattle.book_options.specs.Options.{OptionsIn, keptOrigins, searchRoom};
 ghost use Rattle.book_reader.specs.Reader.{Ready};
 ghost use Rattle.grow_rules.specs.Growth.{grow};
 ghost use Rattle.grow_state.specs.Held.{PlanIn, Driving, SomeDrive, SameDrive, listsAtEntry, listsAtExit, lists};
@@ -209,7 +209,7 @@ fn run_all(
 ) -> GrownBook
     requires { ⌜ PlanIn (now book) p (length (now reals)) ⌝ }
     requires { ⌜ OptionsIn (now book) (now marks) ⌝ }
-    requires { ⌜ 2 * links (now book) + destinations (now book) + origins (now book) ≤ length (now marks) ⌝ }
+    requires { ⌜ searchRoom (now book) ≤ length (now marks) ⌝ }
     requires { ⌜ kept ≡ length (keptOrigins (now book)) ⌝ }
     requires { ⌜ SomeOrigins (now book) p (lists (now floats) (now numbers) (now reals) (now cells) (now joins))
         (keptOrigins (now book)) startState ⌝ }
@@ -277,7 +277,7 @@ pub fn grow_book(
     requires { ⌜ legs (now book) * 3 + 4 ≤ length (now reals) ⌝ }
     requires { ⌜ (legs (now book) + 1 + placesOf (length (now floats)) (length (now numbers)) + links (now book)) * 8 ≤
         length (now cells) ⌝ }
-    requires { ⌜ 2 * links (now book) + destinations (now book) + origins (now book) ≤ length (now marks) ⌝ }
+    requires { ⌜ searchRoom (now book) ≤ length (now marks) ⌝ }
     ensures { λ r. ⌜ GrownAs
         (grow (now (book .entry)) (placesOf (length (now (floats .entry))) (length (now (numbers .entry))))
         (tableAtEntry floats numbers)) (now (floats .exit)) (now (numbers .exit)) r ⌝ }

@@ -13,7 +13,7 @@ use Rattle.laws.specs.Answer.{Answer, refused, given, andThen}
 use Rattle.book_format.specs.Format.{links, origins, destinations, legLink, originLink}
 use Rattle.book_format.proofs.Given.{limits}
 use Rattle.book_format.proofs.Places.{sized-links, sized-destinations}
-use Rattle.book_options.specs.Options.{OptionsIn, keptOrigins}
+use Rattle.book_options.specs.Options.{OptionsIn, keptOrigins, searchRoom}
 use Rattle.book_options.proofs.Kept.{kept-named, kept-most}
 use Rattle.book_options.proofs.Apart.{Other, kept-apart, Apart as AllOther}
 use Rattle.grow_rules.specs.Run.{Net, Run}
@@ -162,7 +162,7 @@ module _ (b : List ℕ) (p : Plan) (n : ℕ) (plan : PlanIn b p n) where
   pub idxs-fit : length (keptOrigins b) ≤ 1000
   idxs-fit = omega (arith, kept-most b, limits b (plan .readable .counted .counts) .origins-most)
 
-  pub idxs-inside : (k : ℕ) (marks : List ℕ) → OptionsIn b marks → 2 * links b + destinations b + origins b ≤ length marks → k < length (keptOrigins b) → 2 * p .s .links + p .s .destinations + k < length marks
+  pub idxs-inside : (k : ℕ) (marks : List ℕ) → OptionsIn b marks → searchRoom b ≤ length marks → k < length (keptOrigins b) → 2 * p .s .links + p .s .destinations + k < length marks
   idxs-inside k marks m h g = omega (arith, sized-links (plan .readable .sized), sized-destinations (plan .readable .sized), kept-most b)
 
   pub idx-at : (k : ℕ) (marks : List ℕ) → OptionsIn b marks → k < length (keptOrigins b) → getD marks (2 * p .s .links + p .s .destinations + k) 0 ≡ getD (keptOrigins b) k 0

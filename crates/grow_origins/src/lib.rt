@@ -21,11 +21,11 @@ ghost use mathlib.Core.Logic.{_≢_};
 ghost use Prim.Native.Nat.{ℕ, _+_, _*_, _≤_, _<_};
 ghost use lib.ListN.{length};
 ghost use Rattle.net_node.specs.Table.{nodeAt};
-ghost use Rattle.book_format.specs.Format.{links, origins, destinations, legs, originLink};
+ghost use Rattle.book_format.specs.Format.{links, origins, legs, originLink};
 ghost use Rattle.book_format.specs.Rows.{row7};
 ghost use Rattle.book_format.specs.Chains.{Readable};
 ghost use Rattle.book_legs.specs.Legs.{Started};
-ghost use Rattle.book_options.specs.Options.{OptionsIn, keptOrigins};
+ghost use Rattle.book_options.specs.Options.{OptionsIn, keptOrigins, searchRoom};
 ghost use Rattle.grow_events.specs.Held.{Growing, NotFewer};
 ghost use Rattle.grow_state.specs.Held.{PlanIn, listsAtEntry, lists};
 ghost use Rattle.net_node.specs.Lent.{tableAtEntry, tableAtExit};
@@ -279,7 +279,7 @@ pub fn origins(
 ) -> GrowthAnswer
     requires { ⌜ PlanIn (now book) p (length (now reals)) ⌝ }
     requires { ⌜ OptionsIn (now book) (now marks) ⌝ }
-    requires { ⌜ 2 * links (now book) + destinations (now book) + origins (now book) ≤ length (now marks) ⌝ }
+    requires { ⌜ searchRoom (now book) ≤ length (now marks) ⌝ }
     requires { ⌜ kept ≡ length (keptOrigins (now book)) ⌝ }
     requires { ⌜ SomeOrigins (now book) p (lists (now floats) (now numbers) (now reals) (now cells) (now joins))
         (keptOrigins (now book)) g ⌝ }

@@ -41,7 +41,7 @@ module _ (a : tie.Start) where
   l-is = ap (λ (x : ℕ). getD m x 0) at-is
 
   fits : 2 * links b + destinations b + origins b ≤ length m
-  fits = a .pre .1 .1 .1 .0
+  fits = omega (arith, a .pre .1 .1 .1 .0)
 
   at-inside : at < length m
   at-inside = omega (arith, at-is, fits, walking .room, some)
