@@ -7,7 +7,7 @@ use native.Mathlib.Omega.{arith}
 use lib.ListN.{length}
 use Rattle.laws.specs.Answer.{Answer, refused, given}
 use Rattle.space.specs.Space.{bytesOf, zeros, zeroFloats}
-use Rattle.space.specs.Lent.{Work, Cleared}
+use Rattle.space.specs.Lent.{Cleared}
 use Rattle.net_node.specs.Table.{Table}
 use Rattle.net_node.specs.Left.{floatsKept, numbersKept, floatsLeft, numbersLeft}
 use Rattle.net_node.specs.Lent.{Slices, Sizes, sizesOf}
@@ -43,10 +43,6 @@ kept-floats (given f) t sheet size h = ap (λ (s : Sheet). floatsKept (sheetNode
 kept-numbers : (j : Answer Finished) (t : Table) (sheet : Sheet) (size : ℕ) → BuiltAs j t sheet → numbersKept (sheetNodes sheet) (t .numbers) size ≡ numbersLeft (sheetOf j) size
 kept-numbers (refused k) t sheet size h = ap (λ (s : Sheet). numbersKept (sheetNodes s) (t .numbers) size) (h .0) ∙ ap zeros (sub-zero size)
 kept-numbers (given f) t sheet size h = ap (λ (s : Sheet). numbersKept (sheetNodes s) (t .numbers) size) (h .0) ∙ ap (λ (x : Table). numbersKept (f .grown .nodes) (x .numbers) size) (h .1)
-
--- work space that is cleared, by the lengths that it was lent with
-pub cleared-as : {lent other left : Work} → length (other .reals) ≡ length (lent .reals) → length (other .cells) ≡ length (lent .cells) → length (other .marks) ≡ length (lent .marks) → Cleared other left → Cleared lent left
-cleared-as p q r c = record { reals = c .reals ∙ ap zeroFloats p; cells = c .cells ∙ ap zeros q; marks = c .marks ∙ ap zeros r }
 
 -- ---- the promise
 

@@ -1,2 +1,3 @@
 pub mod Fill
 pub mod Zeros
+pub mod Works

@@ -2,7 +2,8 @@
 use mathlib.Core.Path.{_≡_, refl, sym, ap, _∙_}
 use native.Mathlib.Omega.{arith}
 use borrow.Author.Needs.{needs}
-use Rattle.est_times.proofs.Answers.{nodes-most, sheet-made, cleared-as}
+use Rattle.space.proofs.Works.{cleared-as}
+use Rattle.est_times.proofs.Answers.{nodes-most, sheet-made}
 use Rattle.est_times.proofs.make_est_times.Statement.{statement}
 use Rattle.est_times.proofs.make_est_times.Tie as tie
 

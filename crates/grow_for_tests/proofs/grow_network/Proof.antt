@@ -2,7 +2,7 @@
 use mathlib.Core.Path.{_≡_, refl, sym, ap, _∙_}
 use native.Mathlib.Omega.{arith}
 use borrow.Author.Needs.{needs}
-use Rattle.est_times.proofs.Answers.{cleared-as}
+use Rattle.space.proofs.Works.{cleared-as}
 use Rattle.grow_for_tests.proofs.Networks.{nodes-most, network-grown}
 use Rattle.grow_for_tests.proofs.grow_network.Statement.{statement}
 use Rattle.grow_for_tests.proofs.grow_network.Tie as tie
