@@ -57,7 +57,7 @@ module _ (b : List ℕ) (p u reals y : ℕ) (cells marks : List ℕ) (f : y ≡ 
 
   -- that part, of slices that are zero
   pub blank-of : cells ≡ zeros (length cells) → marks ≡ zeros (length marks) → (room : ℕ) → room ≡ searchRoom b → Blank b cells (take room marks) (searchRoom b)
-  blank-of g h room r = record { cells-room = chains-fit; marks-room = length-take-le room marks (omega (arith, part-fits)) ∙ r; cells-zero = g; marks-zero = zeros-front room h }
+  blank-of g h room r = record { cells-room = chains-fit; marks-room = omega (arith, length-take-le room marks (omega (arith, part-fits)), r); cells-zero = g; marks-zero = zeros-front room h }
 
 -- there is a link
 pub some-link : (b : List ℕ) (s : Sections) (p y : ℕ) → Sized b s → row3 b p y ≡ false → 0 < s .links

@@ -1,7 +1,7 @@
 -- `book_reader::test_legs` meets its contract.
 use mathlib.Core.Path.{_≡_, refl, sym, _∙_}
 use mathlib.Core.Bool.{true, false}
-use native.Mathlib.Nat.{le-of-eq}
+use native.Mathlib.Omega.{arith}
 use borrow.Author.Needs.{needs}
 use Rattle.laws.proofs.Truth.{not-both}
 use Rattle.book_reader.proofs.Numbers.{row7-early, row7-only, cells-chained}
@@ -18,7 +18,7 @@ legs-repeat-requires : tie.Need-legs-repeat-requires
 legs-repeat-requires c κs =
     let p = c .before .before .before .before .before .before .before .before .before .before .pre in
     let d = cells-chained _ _ (p .0) (p .1 .cells-room) (p .1 .cells-zero) (c .before .before .before .before .before .link-legs .ensures .1 (c .before .before .if1 .left)) in
-    (p .0, (d .chained, (le-of-eq (sym (p .1 .marks-room)), p .1 .marks-zero)))
+    (p .0, (d .chained, (omega (arith, p .1 .marks-room), p .1 .marks-zero)))
 
 returns-2 : tie.Need-returns-2
 returns-2 c =

@@ -1,6 +1,5 @@
 -- `book_reader::test_repeats` meets its contract.
 use mathlib.Core.Path.{_≡_, sym, _∙_}
-use native.Mathlib.Nat.{le-of-eq}
 use native.Mathlib.Omega.{arith}
 use borrow.Author.Needs.{needs}
 use Rattle.space.proofs.Zeros.{zeros-again}
@@ -9,7 +8,7 @@ use Rattle.book_reader.proofs.test_repeats.Statement.{statement}
 use Rattle.book_reader.proofs.test_repeats.Tie as tie
 
 origins-repeat-requires : tie.Need-origins-repeat-requires
-origins-repeat-requires c κs = let p = c .before .before .before .before .pre in (p .0 .sized, (p .0 .row4, (p .0 .row5, (le-of-eq (sym (p .1 .1 .marks-room)), p .1 .1 .marks-zero))))
+origins-repeat-requires c κs = let p = c .before .before .before .before .pre in (p .0 .sized, (p .0 .row4, (p .0 .row5, (omega (arith, p .1 .1 .marks-room), p .1 .1 .marks-zero))))
 
 returns : tie.Need-returns
 returns c = repeats-6 _ _ _ (row6-repeats _ _ (c .before .before .before .before .before .before .before .before .pre .0 .places) (c .before .before .before .origins-repeat .ensures) ∙ c .if1 .taken)

@@ -3,6 +3,8 @@ use mathlib.Core.Path.{_≡_, refl, sym, _∙_}
 use Prim.Native.Nat.{ℕ}
 use native.Mathlib.Omega.{arith}
 use borrow.Author.Needs.{needs}
+use lib.ListN.{length}
+use Rattle.book_options.specs.Options.{searchRoom}
 use Rattle.laws.proofs.Truth.{not-both}
 use Rattle.book_options.proofs.Rooms.{small, room-told}
 use Rattle.book_reader.proofs.Numbers.{no-path, some-path}
@@ -16,15 +18,17 @@ search-room-requires c κs = let p = c .before .before .pre .0 in small (p .size
 returns : tie.Need-returns
 returns c =
     let room = c .before in
-    let told = room-told _ (room .before .before .before .pre .0 .sized) (room .search-room .ensures) in
-    record { number = sym (part-wrong _ _ (λ e. c .if1 .taken (e ∙ sym told))); into = (λ (e : _≡_ {A = ℕ} 3 0). absurd (omega arith), refl) }
+    let lent = room .before .before .before in
+    let told = room-told _ (lent .pre .0 .sized) (room .search-room .ensures) in
+    let wrong = part-wrong (lent .args .book .now) (length (lent .args .part .now)) (λ (e : length (lent .args .part .now) ≡ searchRoom (lent .args .book .now)). omega (arith, c .if1 .taken, told, e)) in
+    record { number = sym wrong; into = (λ (e : _≡_ {A = ℕ} 3 0). absurd (omega arith), refl) }
 
 get-link-idx-options-requires : tie.Need-get-link-idx-options-requires
 get-link-idx-options-requires c κs =
     let room = c .before .before in
     let p = room .before .before .before .pre in
     let told = room-told _ (p .0 .sized) (room .search-room .ensures) in
-    (p .0 .sized, (p .0 .counted .counts, (p .0 .floats, (p .0 .indices, (p .1 .0, (c .before .if1 .left ∙ told, p .1 .1 .1))))))
+    (p .0 .sized, (p .0 .counted .counts, (p .0 .floats, (p .0 .indices, (p .1 .0, (omega (arith, c .before .if1 .left, told), p .1 .1 .1))))))
 
 returns-2 : tie.Need-returns-2
 returns-2 c =
@@ -36,10 +40,11 @@ returns-3 : tie.Need-returns-3
 returns-3 c =
     let found = c .before .before .before .before .before in
     let room = found .before .before .before in
-    let p = room .before .before .before .pre in
+    let lent = room .before .before .before in
+    let told = room-told _ (lent .pre .0 .sized) (room .search-room .ensures) in
     let k = some-path _ _ (sym (found .get-link-idx-options .ensures .0) ∙ c .before .options .given .1) in
     record {
-      number = sym (part-right _ _ (found .before .before .if1 .left ∙ room-told _ (p .0 .sized) (room .search-room .ensures)));
+      number = sym (part-right (lent .args .book .now) (length (lent .args .part .now)) (omega (arith, found .before .before .if1 .left, told)));
       into = (k .1, found .get-link-idx-options .ensures .1 (k .0));
     }
 
