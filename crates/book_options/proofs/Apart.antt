@@ -11,6 +11,7 @@ use Rattle.laws.proofs.Below.{or-right}
 use Rattle.laws.proofs.Members.{All, all-so}
 use Rattle.book_format.specs.Format.{links, origins, destinations, originLink}
 use Rattle.book_options.specs.Options.{member, originBelow, stacked, enter, search, optionsOf, keptOrigins}
+use Rattle.book_options.proofs.Walks.{origin-is}
 
 -- none of these rows of origins has this one's link
 abbrev pub Other : List ℕ → ℕ → List ℕ → Type 0
@@ -21,15 +22,6 @@ Other b idx (x ∷ idxs) = (originLink b idx ≡ originLink b x → ⊥) × Othe
 abbrev pub Apart : List ℕ → List ℕ → Type 0
 Apart b [] = Unit
 Apart b (idx ∷ idxs) = Other b idx idxs × Apart b idxs
-
-origin-found : (b : List ℕ) (n l o : ℕ) → originBelow b n l ≡ suc o → originLink b o ≡ l
-unfolding originBelow
-origin-found b zero l o e = absurd (omega arith)
-origin-found b (suc n) l o e = go (eqb (originLink b n) l) refl e (origin-found b n l o)
-  where
-    go : (t : Bool) → eqb (originLink b n) l ≡ t → cond t (suc n) (originBelow b n l) ≡ suc o → (originBelow b n l ≡ suc o → originLink b o ≡ l) → originLink b o ≡ l
-    go true q p ih = let d : o ≡ n = omega arith in ap (originLink b) d ∙ eqb-true (originLink b n) l q
-    go false q p ih = ih p
 
 other-more : (b : List ℕ) (idx : ℕ) (idxs : List ℕ) (x : ℕ) → Other b idx idxs → (originLink b idx ≡ originLink b x → ⊥) → Other b idx (idxs ++ (x ∷ []))
 other-more b idx [] x o d = (d, tt)
@@ -46,11 +38,11 @@ entered-append : (b set idxs : List ℕ) (x : ℕ) → Entered b set idxs → me
 entered-append b set [] x e m = (m, tt)
 entered-append b set (idx ∷ idxs) x e m = (e .0, entered-append b set idxs x (e .1) m)
 
-member-more : (l x : ℕ) (set : List ℕ) → member l set ≡ true → member l (x ∷ set) ≡ true
+pub member-more : (l x : ℕ) (set : List ℕ) → member l set ≡ true → member l (x ∷ set) ≡ true
 unfolding member
 member-more l x set e = or-right (eqb l x) (member l set) e
 
-member-here : (l k : ℕ) (set : List ℕ) → k ≡ l → member k (l ∷ set) ≡ true
+pub member-here : (l k : ℕ) (set : List ℕ) → k ≡ l → member k (l ∷ set) ≡ true
 unfolding member
 member-here l k set e = ap (λ (t : Bool). t || member k set) (eq-eqb k l e)
 
@@ -74,7 +66,7 @@ sorted-enter b l false (suc o) stack set kept m q s =
     record { apart = apart-more b kept o (s .apart) new; entered = entered-append b (l ∷ set) kept o more (member-here l (originLink b o) set f) }
   where
     f : originLink b o ≡ l
-    f = origin-found b (origins b) l o q
+    f = origin-is b (origins b) l o q .1
 
     new : All (λ (idx : ℕ). originLink b idx ≡ originLink b o → ⊥) kept
     new =
