@@ -1,0 +1,3 @@
+pub mod Swaps
+pub mod LinkZero
+pub mod Theorem
