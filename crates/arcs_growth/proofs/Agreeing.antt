@@ -16,9 +16,10 @@ use Rattle.net_node.specs.declared.TimedEvent.{TimedEvent}
 use Rattle.net_node.specs.Table.{sameEvent, Indexed}
 use Rattle.net_insertion.specs.Insertion.{matches, found, seek}
 use Rattle.net_event_map.specs.EventMap.{seenIn, nodesFrom, eventNodes}
-use Rattle.net_strands.specs.declared.EstJoinPath.{EstJoinPath}
-use Rattle.net_strands.specs.Entries.{entry, andThen}
-use Rattle.net_strands.specs.Space.{isArrive, pushedIf, onward, alternatives, Strand, strandFrom, Turn, Whole, Over, More, alternativeStacked, turnAs, turn, strandsOn, strands, followed, extendedAs, extended, extendedAll}
+use Rattle.net_join_paths.specs.declared.EstJoinPath.{EstJoinPath}
+use Rattle.net_join_paths.specs.Entries.{entry, andThen, pushedIf}
+use Rattle.net_stack.specs.Stack.{isArrive, alternativeStacked}
+use Rattle.net_strands.specs.Space.{onward, alternatives, Strand, strandFrom, Turn, Whole, Over, More, turnAs, turn, strandsOn, strands, followed, extendedAs, extended, extendedAll}
 use Rattle.net_joins.specs.declared.SpeedJoin.{SpeedJoin}
 use Rattle.net_joins.specs.Joins.{closer, closerAs, closestOf, chainEndAs, chainEnd, appendedAll, appended, rebuilt}
 use Rattle.arcs_growth.proofs.Invariant.{Listed}

@@ -13,7 +13,7 @@ use Rattle.laws.specs.Answer.{Answer, refused, given}
 use Rattle.net_node.specs.declared.EstTime.{EstTime}
 use Rattle.net_node.specs.declared.TimedEvent.{TimedEvent}
 use Rattle.net_node.specs.Table.{Indexed, Table, at}
-use Rattle.net_strands.specs.declared.EstJoinPath.{EstJoinPath}
+use Rattle.net_join_paths.specs.declared.EstJoinPath.{EstJoinPath}
 use Rattle.net_joins.specs.declared.SpeedJoin.{SpeedJoin}
 use Rattle.net_joins.specs.Joins as Joins
 use Rattle.net_joins.specs.Joins.{chainEndAs, chainEnd, joinAt, joinedTable, closest, closestOf, appended, rebuilt, chosenAs, chosen, joinStep}

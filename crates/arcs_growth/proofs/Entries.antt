@@ -19,9 +19,10 @@ use Rattle.net_node.specs.declared.EstTime.{EstTime}
 use Rattle.net_node.specs.declared.TimedEvent.{TimedEvent}
 use Rattle.net_node.specs.Table.{sameEvent, Indexed}
 use Rattle.net_event_map.specs.EventMap.{seenIn, nodesFrom, eventNodes}
-use Rattle.net_strands.specs.declared.EstJoinPath.{EstJoinPath}
-use Rattle.net_strands.specs.Entries.{entry, push, pushedAs, andThen}
-use Rattle.net_strands.specs.Space.{isArrive, pushedIf, onward, alternatives, Strand, strandFrom, Turn, Whole, Over, More, popped, poppedAfter, alternativeStacked, turnAs, turn, strandsOn, strands, followed, extendedAs, extended, extendedAll}
+use Rattle.net_join_paths.specs.declared.EstJoinPath.{EstJoinPath}
+use Rattle.net_join_paths.specs.Entries.{entry, push, pushedAs, andThen, pushedIf}
+use Rattle.net_stack.specs.Stack.{isArrive, alternativeStacked}
+use Rattle.net_strands.specs.Space.{onward, alternatives, Strand, strandFrom, Turn, Whole, Over, More, popped, poppedAfter, turnAs, turn, strandsOn, strands, followed, extendedAs, extended, extendedAll}
 use Rattle.net_joins.specs.declared.SpeedJoin.{SpeedJoin}
 use Rattle.net_joins.specs.Joins.{closerAs, closer, closestOf, closest, names, appendedIf, appendedAll, appended, rebuilt, JoinStep, JoinsTo, GoesOn, Beyond, stepWith, chosenAs, chosen, joinStep}
 use Rattle.laws.proofs.Members.{All, all-so}

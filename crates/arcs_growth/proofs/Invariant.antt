@@ -8,7 +8,7 @@ use Prim.Native.Nat.{ℕ, suc, _+_, _<_, _≤_}
 use native.Mathlib.Omega.{arith}
 use lib.ListN.{length}
 use Rattle.net_node.specs.Table.{at}
-use Rattle.net_strands.specs.declared.EstJoinPath.{EstJoinPath}
+use Rattle.net_join_paths.specs.declared.EstJoinPath.{EstJoinPath}
 use Rattle.grow_rules.specs.Run.{Net, Run, memberOf}
 use Rattle.laws.proofs.Members.{All, Some, all-so}
 use Rattle.arcs_growth.proofs.Labels.{baseRole, itself, Labels, Extends}

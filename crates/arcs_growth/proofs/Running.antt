@@ -13,7 +13,7 @@ use Rattle.laws.specs.Answer.{Answer, refused, given}
 use Rattle.net_node.specs.declared.LinkEvent.{LinkEvent}
 use Rattle.net_node.specs.declared.TimedEvent.{TimedEvent}
 use Rattle.net_insertion.specs.Insertion.{matches}
-use Rattle.net_strands.specs.declared.EstJoinPath.{EstJoinPath}
+use Rattle.net_join_paths.specs.declared.EstJoinPath.{EstJoinPath}
 use Rattle.net_joins.specs.Joins.{JoinStep, JoinsTo, GoesOn, Beyond, joinStep}
 use Rattle.grow_rules.specs.Run.{EndedRun, Net, Run, After, nodesTo, arcTo, insertEvent, joinedTo, Outcome, Ended, On, goesOn, withJoins, joinedAs, eventAs, runEvent, nextEvent, runEvents}
 use Rattle.grow_rules.specs.Growth.{joinGap}

@@ -24,7 +24,7 @@ ghost use Rattle.grow_rules.specs.Growth.{grow};
 ghost use Rattle.grow_state.specs.Held.{PlanIn, Driving, SomeDrive, SameDrive, listsAtEntry, listsAtExit, lists};
 ghost use Rattle.grow_origins.specs.Origins.{startState, SomeOrigins, OnlyStart};
 ghost use Rattle.net_node.specs.Lent.{tableAtEntry, tableAtExit};
-ghost use Rattle.net_strands.specs.Steps.{stackLength};
+ghost use Rattle.net_stack.specs.Openings.{stackLength};
 ghost use Rattle.grow_book.specs.Answers.{SomeClosing, GrownAs, TakesNext, Drives, Closes, GrowsFirst, afterAll};
 
 // The counts of a network that has grown, or the number of a refusal.

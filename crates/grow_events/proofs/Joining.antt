@@ -12,8 +12,8 @@ use Rattle.net_node.specs.declared.TimedEvent.{TimedEvent}
 use Rattle.net_node.specs.Table.{nodeAt, Indexed, Table, at}
 use Rattle.net_event_map.specs.declared.Layout.{Layout}
 use Rattle.net_event_map.specs.EventMap.{Mapped}
-use Rattle.net_strands.specs.declared.EstJoinPath.{EstJoinPath}
-use Rattle.net_strands.specs.Entries.{entriesIn}
+use Rattle.net_join_paths.specs.declared.EstJoinPath.{EstJoinPath}
+use Rattle.net_join_paths.specs.Entries.{entriesIn}
 use Rattle.net_joins.specs.declared.Step.{Step}
 use Rattle.net_joins.specs.declared.Step.the-variants.{Joined, Waits, Refused}
 use Rattle.net_joins.specs.Joins.{JoinStep, joinStep, joinedTable, StepAs, SteppedInto}

@@ -8,8 +8,8 @@ use lib.Ieee.{Float}
 use lib.ListN.{length, getD}
 use Rattle.laws.specs.Answer.{Answer, refused, given}
 use Rattle.net_event_map.specs.declared.Layout.{Layout}
-use Rattle.net_strands.specs.declared.EstJoinPath.{EstJoinPath}
-use Rattle.net_strands.specs.Entries.{Valid}
+use Rattle.net_join_paths.specs.declared.EstJoinPath.{EstJoinPath}
+use Rattle.net_join_paths.specs.Entries.{Valid}
 use Rattle.grow_path.specs.Kept.{PathIn}
 use Rattle.grow_rules.specs.Run.{Net, Run, After, EndedRun, goesOn, Arc, memberOf}
 use Rattle.grow_rules.specs.Run.{Outcome as Became, Ended as Left, On as Goes}

@@ -11,7 +11,7 @@ use lib.Ieee.{Float}
 use Rattle.laws.specs.Answer.{Answer, refused, given}
 use Rattle.net_node.specs.Table.{nodeAt, Room, Indexed, Table}
 use Rattle.net_insertion.specs.Insertion.{flagged}
-use Rattle.net_strands.specs.Entries.{entriesIn, Valid}
+use Rattle.net_join_paths.specs.Entries.{entriesIn, Valid}
 use Rattle.net_event_map.specs.declared.Layout.{Layout}
 use Rattle.net_event_map.specs.EventMap.{CellsApart, Mapped}
 use Rattle.grow_path.specs.Path.{pointLink, eventsAt}

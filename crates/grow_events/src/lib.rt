@@ -15,7 +15,7 @@ ghost use Rattle.event_walk.specs.Course.{courseOf, Held, Walkable};
 ghost use Rattle.event_walk.specs.Walk.{passedFrom, someBad, Within};
 ghost use Rattle.net_event_map.specs.EventMap.{Real};
 ghost use Rattle.net_node.specs.Lent.{tableAtEntry, tableAtExit};
-ghost use Rattle.net_strands.specs.Steps.{stackLength};
+ghost use Rattle.net_stack.specs.Openings.{stackLength};
 ghost use Rattle.grow_events.specs.Held.{Growing, Moving, SomePath, NotFewer, stoppedAs, netAtEntry, netAtExit};
 ghost use Rattle.grow_events.specs.Held.{InsertsEvent, RunsEvent, RunsLeg, countsAdded, countsJoined};
 

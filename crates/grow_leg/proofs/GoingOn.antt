@@ -15,8 +15,8 @@ use Rattle.book_legs.specs.declared.TakenLeg.{TakenLeg}
 use Rattle.book_legs.specs.declared.Taken.{Taken}
 use Rattle.book_legs.specs.declared.Taken.the-variants.{Leg, Refused}
 use Rattle.book_legs.specs.Legs.{searchOf, legSearch, takenBy, takenLeg}
-use Rattle.net_strands.specs.Entries.{entriesIn}
-use Rattle.net_strands.proofs.Entries.{entries-count}
+use Rattle.net_join_paths.specs.Entries.{entriesIn}
+use Rattle.net_join_paths.proofs.Entries.{entries-count}
 use Rattle.grow_waiting.specs.Held.{Waiting, SavedIn, SavedElsewhere, waitingOf}
 use Rattle.grow_waiting.specs.Held.{Untaken}
 use Rattle.grow_waiting.proofs.Kept.{save-chained, save-path, save-mapped, node-left, saved-room}

@@ -11,9 +11,9 @@ use Rattle.laws.specs.Answer.{Answer, refused, andThen}
 use Rattle.book_format.specs.Format.{legs}
 use Rattle.book_format.specs.Chains.{Chained}
 use Rattle.event_walk.specs.Walk.{row11}
-use Rattle.net_strands.specs.declared.EstJoinPath.{EstJoinPath}
-use Rattle.net_strands.specs.Entries.{Valid}
-use Rattle.net_strands.proofs.Entries.{entries-count}
+use Rattle.net_join_paths.specs.declared.EstJoinPath.{EstJoinPath}
+use Rattle.net_join_paths.specs.Entries.{Valid}
+use Rattle.net_join_paths.proofs.Entries.{entries-count}
 use Rattle.net_insertion.specs.declared.Place.{Place}
 use Rattle.grow_path.specs.Path.{pathOf, linkOf, legCourse}
 use Rattle.grow_path.specs.Kept.{PathIn}

@@ -22,7 +22,7 @@ ghost use Rattle.grow_rules.specs.Growth.{isDestination};
 ghost use Rattle.grow_events.specs.Held.{NotFewer};
 ghost use Rattle.grow_state.specs.Held.{PlanIn, Driving, listsAtEntry, listsAtExit, lists};
 ghost use Rattle.net_node.specs.Lent.{tableAtEntry};
-ghost use Rattle.net_strands.specs.Steps.{stackLength};
+ghost use Rattle.net_stack.specs.Openings.{stackLength};
 ghost use Rattle.grow_waiting.specs.Steps.{stacksAtEntry, stacksAtExit};
 ghost use Rattle.grow_leg.specs.OneLeg.{SomeFinish, SomeLeg, SomeEnding, SomeWay, SomeGoing, waysBehind};
 ghost use Rattle.grow_leg.specs.OneLeg.{listsSaved};

@@ -17,8 +17,8 @@ use Rattle.net_insertion.specs.declared.Inserted.{Inserted}
 use Rattle.net_insertion.specs.declared.Inserted.the-variants.{Added, Moved}
 use Rattle.net_insertion.specs.declared.Inserted.the-variants.{Refused as NotIn}
 use Rattle.net_insertion.specs.Insertion.{inserted, insertedTable, tableOf}
-use Rattle.net_strands.specs.declared.EstJoinPath.{EstJoinPath}
-use Rattle.net_strands.specs.Entries.{entriesIn}
+use Rattle.net_join_paths.specs.declared.EstJoinPath.{EstJoinPath}
+use Rattle.net_join_paths.specs.Entries.{entriesIn}
 use Rattle.net_event_map.specs.declared.Layout.{Layout}
 use Rattle.net_event_map.specs.EventMap.{RealKind, Real}
 use Rattle.grow_rules.specs.Run.{Arc, Net, Run, After, arcTo, addedTo, movedTo, insertedRun, insertEvent, goesOn, memberOf}

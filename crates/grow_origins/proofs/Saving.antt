@@ -18,8 +18,8 @@ use Rattle.book_legs.specs.declared.Taken.the-variants.{Leg}
 use Rattle.book_legs.specs.declared.Taken.the-variants.{Refused as NoLeg}
 use Rattle.book_legs.specs.Legs.{searchOf, legSearch, takenBy, takenLeg}
 use Rattle.net_insertion.specs.declared.Place.{Place}
-use Rattle.net_strands.specs.declared.EstJoinPath.{EstJoinPath}
-use Rattle.net_strands.specs.Entries.{entriesIn, Valid}
+use Rattle.net_join_paths.specs.declared.EstJoinPath.{EstJoinPath}
+use Rattle.net_join_paths.specs.Entries.{entriesIn, Valid}
 use Rattle.net_event_map.specs.declared.Layout.{Layout}
 use Rattle.grow_path.specs.Path.{legsTo, pathOf}
 use Rattle.grow_path.proofs.Legs.{less-one}

@@ -23,7 +23,7 @@ use Rattle.net_node.specs.Table.{sameKind, sameEvent, nodeAt, putFloats, putNum
 use Rattle.event_walk.specs.Course.{courseOf}
 use Rattle.event_walk.specs.Walk.{firstBeyond, startBack, startFront, start, offsetNext, inRange, clearsNext, emits, turned, turn, passedAs, passedNext, walk, turnsLeft, passedFrom, pointsPassed, reachesLast, badPoint, someBad, row11}
 use Rattle.net_insertion.specs.Insertion.{matches, seek, linkedTo, eventNode, splitFake, addBehind, splitAt, placeAt, soughtIn, inserted, insertedTable, flagged}
-use Rattle.net_strands.specs.Entries.{entry, entryAt, entriesIn, push}
+use Rattle.net_join_paths.specs.Entries.{entry, entryAt, entriesIn, push}
 use Rattle.net_strands.specs.Space.{alternatives, strandFrom, strands, extended, extendedAll}
 use Rattle.net_event_map.specs.EventMap.{seenIn, nodesFrom, eventNodes, lastOf, arriveAt, clearAt}
 use Rattle.net_joins.specs.Joins.{closer, closestOf, closest, chainEnd, joinFake, joinAt, joinedTable, names, appendedAll, appended, rebuilt, joinStep}

@@ -23,7 +23,7 @@ use Rattle.net_node.specs.declared.EstTime.{EstTime}
 use Rattle.net_node.specs.declared.TimedEvent.{TimedEvent}
 use Rattle.net_node.specs.Table.{blank, Table, put, at, withArc, withNext, withPrev, withPrevAlt}
 use Rattle.net_insertion.specs.declared.Place.{Place}
-use Rattle.net_strands.specs.declared.EstJoinPath.{EstJoinPath}
+use Rattle.net_join_paths.specs.declared.EstJoinPath.{EstJoinPath}
 use Rattle.grow_path.specs.Path.{linkOf, legCourse, legEvents}
 use Rattle.net_node.specs.Left.{Network}
 use Rattle.grow_rules.specs.Run.{Arc, EndedRun, Net, Run, After, Outcome, Ended, On, arcToEnd, memberOf}

@@ -13,7 +13,7 @@ use Rattle.net_insertion.specs.declared.Place.{Place}
 use Rattle.net_insertion.specs.declared.Inserted.{Inserted}
 use Rattle.net_insertion.specs.declared.Inserted.the-variants.{Added, Moved, Refused}
 use Rattle.net_insertion.specs.Insertion.{inserted, insertedTable, insertedNumber}
-use Rattle.net_strands.specs.declared.EstJoinPath.{EstJoinPath}
+use Rattle.net_join_paths.specs.declared.EstJoinPath.{EstJoinPath}
 use Rattle.net_joins.specs.Joins.{JoinStep, JoinsTo, GoesOn, Beyond, stepNumber, joinStep, joinedTable}
 
 -- An arc: from the start or an event's node to an event's node, 0 being the end, with its time and distance.

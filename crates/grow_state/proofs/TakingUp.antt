@@ -6,8 +6,8 @@ use Prim.Native.Nat.{ℕ, _-_, _≤_, _<_}
 use native.Mathlib.Omega.{arith}
 use lib.ListN.{length}
 use lib.Ieee.{Float}
-use Rattle.net_strands.specs.declared.EstJoinPath.{EstJoinPath}
-use Rattle.net_strands.specs.Entries.{entriesIn, Valid}
+use Rattle.net_join_paths.specs.declared.EstJoinPath.{EstJoinPath}
+use Rattle.net_join_paths.specs.Entries.{entriesIn, Valid}
 use Rattle.net_insertion.specs.declared.Place.{Place}
 use Rattle.grow_waiting.specs.declared.Rooms.{Rooms}
 use Rattle.grow_waiting.specs.declared.Popped.{Popped}

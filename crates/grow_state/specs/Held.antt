@@ -13,7 +13,7 @@ use Rattle.book_format.specs.Rows.{row7}
 use Rattle.book_format.specs.Chains.{Readable, Chained}
 use Rattle.grow_path.specs.Path.{pathOf}
 use Rattle.grow_path.specs.Kept.{PathIn}
-use Rattle.net_strands.specs.Entries.{Valid}
+use Rattle.net_join_paths.specs.Entries.{Valid}
 use Rattle.grow_waiting.specs.Held.{Waiting, SavedIn}
 use Rattle.grow_waiting.specs.declared.Rooms.{Rooms}
 use Rattle.grow_rules.specs.Run.{Net, Run, memberOf}

@@ -9,9 +9,9 @@ use lib.ListN.{length, getD, set, length-set}
 use lib.Seq.{getD-set-same, getD-set-other}
 use lib.Ieee.{Float, nan}
 use Rattle.net_insertion.specs.declared.Place.{Place}
-use Rattle.net_strands.specs.declared.EstJoinPath.{EstJoinPath}
-use Rattle.net_strands.specs.Entries.{entry, entryAt, entriesIn}
-use Rattle.net_strands.proofs.Entries.{entries-count, entries-more, entries-behind}
+use Rattle.net_join_paths.specs.declared.EstJoinPath.{EstJoinPath}
+use Rattle.net_join_paths.specs.Entries.{entry, entryAt, entriesIn}
+use Rattle.net_join_paths.proofs.Entries.{entries-count, entries-more, entries-behind}
 use Rattle.grow_waiting.specs.declared.Rooms.{Rooms}
 use Rattle.grow_waiting.specs.Held.{Waiting, EntriesFrom, RunKept, Untaken, topOf, SavedIn, waitingOf, SavedElsewhere, SomeWaits, PoppedAs}
 use Rattle.grow_waiting.specs.Steps.{EntriesPushed}

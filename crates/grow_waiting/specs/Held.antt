@@ -10,8 +10,8 @@ use Prim.Native.Nat.{ℕ, suc, _+_, _-_, _*_, _≤_, _<_}
 use lib.ListN.{length, getD}
 use lib.Ieee.{Float, nan}
 use Rattle.net_insertion.specs.declared.Place.{Place}
-use Rattle.net_strands.specs.declared.EstJoinPath.{EstJoinPath}
-use Rattle.net_strands.specs.Entries.{entriesIn}
+use Rattle.net_join_paths.specs.declared.EstJoinPath.{EstJoinPath}
+use Rattle.net_join_paths.specs.Entries.{entriesIn}
 use Rattle.grow_waiting.specs.declared.Rooms.{Rooms}
 use Rattle.grow_waiting.specs.declared.Popped.{Popped}
 

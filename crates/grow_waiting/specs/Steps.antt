@@ -4,11 +4,11 @@ use mathlib.Core.Logic.{_≢_}
 use mathlib.Core.List.{List, _∷_}
 use Prim.Native.Nat.{ℕ, _+_, _*_, _≤_, _<_}
 use lib.ListN.{length, getD}
-use Rattle.net_strands.specs.declared.EstJoinPath.{EstJoinPath}
+use Rattle.net_join_paths.specs.declared.EstJoinPath.{EstJoinPath}
 use lib.Ieee.{Float}
 use denote.Ref.{now}
 use Rattle.space.specs.Lent.{Lent}
-use Rattle.net_strands.specs.Entries.{entriesIn}
+use Rattle.net_join_paths.specs.Entries.{entriesIn}
 use Rattle.grow_waiting.specs.declared.Popped.{Popped}
 use Rattle.grow_waiting.specs.declared.Rooms.{Rooms}
 use Rattle.grow_waiting.specs.Held.{EntriesFrom, Waiting, Untaken, SavedIn, PoppedAs}

@@ -1,11 +1,11 @@
 // The runs that wait, in the work space. Contracts: specs/Held.antt.
 use net_insertion::Place;
-use net_strands::EstJoinPath;
+use net_join_paths::EstJoinPath;
 ghost use mathlib.Core.Path.{_≡_};
 ghost use mathlib.Core.List.{List, _∷_};
 ghost use Prim.Native.Nat.{_+_, _*_, _≤_, _<_};
 ghost use lib.ListN.{length};
-ghost use Rattle.net_strands.specs.Entries.{entriesIn};
+ghost use Rattle.net_join_paths.specs.Entries.{entriesIn};
 ghost use Rattle.grow_waiting.specs.Held.{waitingOf, SavedElsewhere, SomeWaits};
 ghost use Rattle.grow_waiting.specs.Steps.{EntriesPushed, EntriesCopied, stacksAtEntry, stacksAtExit, SavesOnTop};
 ghost use Rattle.grow_waiting.specs.Steps.{TakesUp};
@@ -39,7 +39,7 @@ fn push_entries(cells: &mut [u32], w: Rooms, used: usize, joins: &[u32], count: 
 {
     let mut k = 0;
     while k < count {
-        let x = net_strands::entry_at(joins, k);
+        let x = net_join_paths::entry_at(joins, k);
         let at = w.nodes_at + (used + k) * 8;
         cells[at + 3] = x.link_idx_match;
         cells[at + 4] = x.est_idx_next;

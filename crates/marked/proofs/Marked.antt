@@ -18,8 +18,8 @@ use Rattle.root.specs.Root.{sqrt}
 use Rattle.book_format.specs.declared.Sample.{Sample}
 use Rattle.event_walk.specs.Course.{Course}
 use Rattle.event_walk.specs.Walk.{start, turn, pointsPassed}
-use Rattle.net_strands.specs.declared.EstJoinPath.{EstJoinPath}
-use Rattle.net_strands.specs.Entries.{entry}
+use Rattle.net_join_paths.specs.declared.EstJoinPath.{EstJoinPath}
+use Rattle.net_join_paths.specs.Entries.{entry}
 use Rattle.net_joins.specs.Joins.{JoinStep, JoinsTo, GoesOn, joinStep}
 use Rattle.pass_queue.specs.declared.Entry.{Entry}
 use Rattle.pass_queue.specs.Queue.{best}
@@ -42,7 +42,7 @@ use Rattle.net_node.specs.Table as TableOf
 use Rattle.net_node.specs.Left as LeftOf
 use Rattle.event_walk.specs.Walk as WalkOf
 use Rattle.net_insertion.specs.Insertion as InsertionOf
-use Rattle.net_strands.specs.Entries as EntriesOf
+use Rattle.net_join_paths.specs.Entries as EntriesOf
 use Rattle.net_strands.specs.Space as StrandsOf
 use Rattle.net_event_map.specs.EventMap as EventMapOf
 use Rattle.net_joins.specs.Joins as JoinsOf

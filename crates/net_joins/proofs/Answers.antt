@@ -20,12 +20,13 @@ use Rattle.net_event_map.specs.EventMap.{seenIn, eventNodes, arriveAt, CellsApa
 use Rattle.net_event_map.proofs.Chains.{arrive-is}
 use Rattle.net_event_map.proofs.Kept.{apart-same}
 use Rattle.net_notes.specs.Log.{Ungiven}
-use Rattle.net_strands.specs.declared.EstJoinPath.{EstJoinPath}
-use Rattle.net_strands.specs.declared.Count.{Count}
-use Rattle.net_strands.specs.declared.Count.the-variants.{Entries, Over}
-use Rattle.net_strands.specs.Entries.{entriesIn, EntriesAs, Valid}
-use Rattle.net_strands.specs.Space.{isArrive, extendedAll}
-use Rattle.net_strands.proofs.Entries.{listed-some, listed-none}
+use Rattle.net_join_paths.specs.declared.EstJoinPath.{EstJoinPath}
+use Rattle.net_join_paths.specs.declared.Count.{Count}
+use Rattle.net_join_paths.specs.declared.Count.the-variants.{Entries, Over}
+use Rattle.net_join_paths.specs.Entries.{entriesIn, EntriesAs, Valid}
+use Rattle.net_join_paths.proofs.Entries.{listed-some, listed-none}
+use Rattle.net_stack.specs.Stack.{isArrive}
+use Rattle.net_strands.specs.Space.{extendedAll}
 use Rattle.net_strands.proofs.Kept.{space-listed}
 use Rattle.net_joins.specs.declared.SpeedJoin.{SpeedJoin}
 use Rattle.net_joins.specs.declared.Step.{Step}

@@ -13,11 +13,11 @@ use Rattle.net_node.specs.declared.EstTime.{EstTime}
 use Rattle.net_event_map.specs.declared.Layout.{Layout}
 use Rattle.net_event_map.specs.EventMap.{nodesFrom, eventNodes, headOf, arriveAt, bit, Mapped}
 use Rattle.net_event_map.proofs.Kept.{all-are, walked, walked-end}
-use Rattle.net_strands.specs.declared.EstJoinPath.{EstJoinPath}
-use Rattle.net_strands.specs.declared.Count.{Count}
-use Rattle.net_strands.specs.declared.Count.the-variants.{Entries, Over}
-use Rattle.net_strands.specs.Entries.{entriesIn, andThen, EntriesAs}
-use Rattle.net_strands.proofs.Entries.{listed-some, listed-none}
+use Rattle.net_join_paths.specs.declared.EstJoinPath.{EstJoinPath}
+use Rattle.net_join_paths.specs.declared.Count.{Count}
+use Rattle.net_join_paths.specs.declared.Count.the-variants.{Entries, Over}
+use Rattle.net_join_paths.specs.Entries.{entriesIn, andThen, EntriesAs}
+use Rattle.net_join_paths.proofs.Entries.{listed-some, listed-none}
 use Rattle.net_joins.specs.Joins.{names, appendedIf, appendedAll}
 use Rattle.net_joins.specs.Marks.{NamesMarked, ChainLink, Chain, Ending}
 use Rattle.net_joins.proofs.Lists.{appended-longer}

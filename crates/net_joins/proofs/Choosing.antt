@@ -10,9 +10,9 @@ use lib.ListN.{length}
 use Rattle.floats.specs.Floats.{gap}
 use Rattle.floats.proofs.Order.{lt-asym}
 use Rattle.net_node.specs.declared.EstTime.{EstTime}
-use Rattle.net_strands.specs.declared.EstJoinPath.{EstJoinPath}
-use Rattle.net_strands.specs.Entries.{entryAt, entriesIn, nodeOf, Valid}
-use Rattle.net_strands.proofs.Entries.{entries-more}
+use Rattle.net_join_paths.specs.declared.EstJoinPath.{EstJoinPath}
+use Rattle.net_join_paths.specs.Entries.{entryAt, entriesIn, nodeOf, Valid}
+use Rattle.net_join_paths.proofs.Entries.{entries-more}
 use Rattle.net_joins.specs.declared.SpeedJoin.{SpeedJoin}
 use Rattle.net_joins.specs.Joins.{closerAs, closer, closestOf, closest}
 

@@ -14,8 +14,8 @@ use Rattle.net_node.specs.declared.TimedEvent.{TimedEvent}
 use Rattle.net_node.specs.Table.{sameEvent, nodeAt, putFloats, putNumbers, noLinkEvent, blank, Table, tableOf, at, withArc, withSpeed, withNext, withPrev, withPrevAlt, withEvent}
 use Rattle.net_insertion.specs.Insertion.{linkedTo}
 use Rattle.net_event_map.specs.EventMap.{seenIn, eventNodes}
-use Rattle.net_strands.specs.declared.EstJoinPath.{EstJoinPath}
-use Rattle.net_strands.specs.Entries.{entry, push}
+use Rattle.net_join_paths.specs.declared.EstJoinPath.{EstJoinPath}
+use Rattle.net_join_paths.specs.Entries.{entry, push}
 use Rattle.net_strands.specs.Space.{alternatives, strandFrom, strands, extendedAll}
 use Rattle.net_joins.specs.Joins.{closest, joinFake, joinedTable, appended, JoinsTo, GoesOn, Beyond, JoinStep, joinStep}
 

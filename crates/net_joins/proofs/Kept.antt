@@ -22,10 +22,11 @@ use Rattle.net_insertion.specs.Insertion.{linkedTo}
 use Rattle.net_event_map.specs.declared.Layout.{Layout}
 use Rattle.net_event_map.specs.EventMap.{seenIn, eventNodes, Mapped}
 use Rattle.net_event_map.proofs.Kept.{mapped-fake, mapped-same, event-nodes}
-use Rattle.net_strands.specs.declared.EstJoinPath.{EstJoinPath}
-use Rattle.net_strands.specs.Entries.{entry, entriesIn, Valid}
-use Rattle.net_strands.specs.Space.{isArrive}
-use Rattle.net_strands.proofs.Kept.{Sound, Kept, kept-then, kept-push, space-kept}
+use Rattle.net_join_paths.specs.declared.EstJoinPath.{EstJoinPath}
+use Rattle.net_join_paths.specs.Entries.{entry, entriesIn, Valid}
+use Rattle.net_join_paths.proofs.Kept.{Sound, Kept, kept-then, kept-push}
+use Rattle.net_stack.specs.Stack.{isArrive}
+use Rattle.net_strands.proofs.Kept.{space-kept}
 use Rattle.net_joins.specs.declared.Step.the-variants.{Joined, Waits}
 use Rattle.net_joins.specs.Joins.{closest, chainEnd, joinFake, joinAt, joinedTable, names, appendedIf, appendedAll, appended, rebuilt, JoinStep, JoinsTo, GoesOn, Beyond, stepWith, joinsIf, chosenAs, chosen, joinStep, StepAs, SteppedInto}
 use Rattle.net_joins.proofs.Choosing.{closest-within}

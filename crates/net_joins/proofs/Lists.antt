@@ -11,11 +11,11 @@ use lib.Dec.{ltb}
 use lib.ListN.{length, getD, set, take, length-append, length-set}
 use lib.Seq.{getD-set-same, getD-set-other, take-all, take-append-le}
 use Rattle.laws.proofs.Truth.{equal-or-not}
-use Rattle.net_strands.specs.declared.EstJoinPath.{EstJoinPath}
-use Rattle.net_strands.specs.declared.Count.{Count}
-use Rattle.net_strands.specs.declared.Count.the-variants.{Entries, Over}
-use Rattle.net_strands.specs.Entries.{entry, entryAt, entriesIn, pushedAs, push, EntriesAs}
-use Rattle.net_strands.proofs.Entries.{entries-count}
+use Rattle.net_join_paths.specs.declared.EstJoinPath.{EstJoinPath}
+use Rattle.net_join_paths.specs.declared.Count.{Count}
+use Rattle.net_join_paths.specs.declared.Count.the-variants.{Entries, Over}
+use Rattle.net_join_paths.specs.Entries.{entry, entryAt, entriesIn, pushedAs, push, EntriesAs}
+use Rattle.net_join_paths.proofs.Entries.{entries-count}
 use Rattle.net_joins.specs.Joins.{appendedIf}
 
 -- ---- copying

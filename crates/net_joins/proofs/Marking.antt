@@ -12,9 +12,9 @@ use lib.Seq.{getD-set-same, getD-set-other, ext-getD}
 use Rattle.laws.proofs.Truth.{or-is, none-left, none-right, not-both, true-or-false}
 use Rattle.net_event_map.specs.declared.Layout.{Layout}
 use Rattle.net_event_map.specs.EventMap.{bit, CellsApart}
-use Rattle.net_strands.specs.declared.EstJoinPath.{EstJoinPath}
-use Rattle.net_strands.specs.Entries.{entryAt, entriesIn, nodeOf, Valid}
-use Rattle.net_strands.proofs.Entries.{entries-more}
+use Rattle.net_join_paths.specs.declared.EstJoinPath.{EstJoinPath}
+use Rattle.net_join_paths.specs.Entries.{entryAt, entriesIn, nodeOf, Valid}
+use Rattle.net_join_paths.proofs.Entries.{entries-more}
 use Rattle.net_joins.specs.Joins.{names}
 use Rattle.net_joins.specs.Marks.{marks, NamesMarked}
 

@@ -14,9 +14,10 @@ use Rattle.net_node.specs.declared.TimedEvent.{TimedEvent}
 use Rattle.net_node.specs.Table.{blank, Table, put, at, withNext, withPrev, withPrevAlt}
 use Rattle.net_insertion.specs.Insertion.{linkedTo}
 use Rattle.net_event_map.specs.EventMap.{seenIn, eventNodes}
-use Rattle.net_strands.specs.declared.EstJoinPath.{EstJoinPath}
-use Rattle.net_strands.specs.Entries.{entry, push, andThen, entriesIn}
-use Rattle.net_strands.specs.Space.{isArrive, extendedAll}
+use Rattle.net_join_paths.specs.declared.EstJoinPath.{EstJoinPath}
+use Rattle.net_join_paths.specs.Entries.{entry, push, andThen, entriesIn}
+use Rattle.net_stack.specs.Stack.{isArrive}
+use Rattle.net_strands.specs.Space.{extendedAll}
 use Rattle.net_joins.specs.declared.SpeedJoin.{SpeedJoin}
 use Rattle.net_joins.specs.declared.Step.{Step}
 use Rattle.net_joins.specs.declared.Step.the-variants.{Joined, Waits, Refused}

@@ -6,11 +6,11 @@ use lib.ListN.{getD, set}
 use Rattle.net_node.specs.declared.EstTime.{EstTime}
 use Rattle.net_event_map.specs.declared.Layout.{Layout}
 use Rattle.net_event_map.specs.EventMap.{bit, Mapped, firstAt}
-use Rattle.net_strands.specs.declared.EstJoinPath.{EstJoinPath}
+use Rattle.net_join_paths.specs.declared.EstJoinPath.{EstJoinPath}
 use Rattle.space.specs.Lent.{Lent}
 use Rattle.net_node.specs.declared.LinkEvent.{LinkEvent}
-use Rattle.net_strands.specs.declared.Count.{Count}
-use Rattle.net_strands.specs.Entries.{ListBecomes}
+use Rattle.net_join_paths.specs.declared.Count.{Count}
+use Rattle.net_join_paths.specs.Entries.{ListBecomes}
 use Rattle.net_joins.specs.declared.Step.{Step}
 use Rattle.net_joins.specs.Joins.{names, appendedAll, appended, stepWith, StepAs}
 

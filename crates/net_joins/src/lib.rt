@@ -1,11 +1,11 @@
 // A run's joins: the choice among its entries, the join, the entries appended, and the three together for one event.
 // Contracts: specs/Joins.antt.
 use net_event_map::Layout;
+use net_join_paths::Count;
+use net_join_paths::EstJoinPath;
 use net_node::EstTime;
 use net_node::LinkEvent;
 use net_node::TimedEvent;
-use net_strands::Count;
-use net_strands::EstJoinPath;
 ghost use mathlib.Core.Path.{_≡_};
 ghost use mathlib.Core.List.{List};
 ghost use Prim.Native.Nat.{ℕ, _+_, _*_, _≤_, _<_};
@@ -14,9 +14,10 @@ ghost use lib.ListN.{length, getD};
 ghost use Rattle.net_node.specs.declared.EstTime.{EstTime};
 ghost use Rattle.net_node.specs.Table.{nodeAt, Room, Indexed, floatWidth, numberWidth};
 ghost use Rattle.net_event_map.specs.EventMap.{CellsApart, Mapped, Real, firstAt};
-ghost use Rattle.net_strands.specs.Entries.{entriesIn, Valid, ListBecomes};
+ghost use Rattle.net_join_paths.specs.Entries.{entriesIn, Valid, ListBecomes};
 ghost use Rattle.net_node.specs.Lent.{tableAtEntry};
-ghost use Rattle.net_strands.specs.Steps.{stackLength, nodesAtEntry};
+ghost use Rattle.net_stack.specs.Openings.{stackLength};
+ghost use Rattle.net_strands.specs.Steps.{nodesAtEntry};
 ghost use Rattle.net_joins.specs.Joins.{closer, closest, chainEnd, joinFake, joinAt, joinedTable, appendedIf};
 ghost use Rattle.net_joins.specs.Joins.{joinsIf, joinStep, StepAs, SteppedInto};
 ghost use Rattle.net_joins.specs.Marks.{marks, NamesMarked, Ending, MapWalkable, AppendsChain, AppendsNodes};
@@ -71,7 +72,7 @@ fn closest_entry(
     };
     let mut k = 0;
     while k < count {
-        let x = net_strands::entry_at(list, k);
+        let x = net_join_paths::entry_at(list, k);
         let node = net_node::load(floats, numbers, x.est_idx_next as usize);
         best = closer_of(best, x, node, speed);
         k += 1;
@@ -158,7 +159,7 @@ fn set_marks(cells: &mut [u32], w: Layout, list: &[u32], count: usize, mark: u32
 {
     let mut k = 0;
     while k < count {
-        let x = net_strands::entry_at(list, k);
+        let x = net_join_paths::entry_at(list, k);
         cells[w.nodes_at + x.est_idx_next as usize * 8 + 1] = mark;
         k += 1;
     }
@@ -182,7 +183,7 @@ fn append_unless(named: bool, list: &mut [u32], n: usize, link_idx: u32, i: u32)
         link_idx_match: link_idx,
         est_idx_next: i,
     };
-    net_strands::push_entry(list, n, x)
+    net_join_paths::push_entry(list, n, x)
 }
 
 // Appends the nodes of a link's Arrive that are not marked. The entries that were there stay.
@@ -227,7 +228,7 @@ fn add_new_join_paths(
     ensures cells { λ _. ⌜ MapKept (now (cells .entry)) (now (cells .exit)) w ⌝ }
 {
     let kind = event.est_type;
-    let arrive = net_strands::is_arrive(kind);
+    let arrive = net_stack::is_arrive(kind);
     if !arrive {
         return Count::Entries(count);
     }

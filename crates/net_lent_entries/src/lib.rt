@@ -1,11 +1,11 @@
 // The choice among join entries that are lent as a list of entries. Contracts: net_joins' specs/Joins.antt.
+use net_join_paths::EstJoinPath;
 use net_joins::SpeedJoin;
-use net_strands::EstJoinPath;
 ghost use mathlib.Core.Path.{_≡_};
 ghost use Prim.Native.Nat.{_+_, _*_, _≤_};
 ghost use lib.ListN.{length};
 ghost use Rattle.net_node.specs.Table.{Room, floatWidth, numberWidth};
-ghost use Rattle.net_strands.specs.Entries.{Valid};
+ghost use Rattle.net_join_paths.specs.Entries.{Valid};
 ghost use Rattle.net_joins.specs.Joins.{closer, closest};
 ghost use Rattle.net_strands.specs.Steps.{nodesAtEntry};
 

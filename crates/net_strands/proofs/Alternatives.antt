@@ -10,12 +10,12 @@ use lib.Dec.{eqb}
 use Rattle.net_node.specs.declared.LinkEvent.{LinkEvent}
 use Rattle.net_node.specs.declared.EstTime.{EstTime}
 use Rattle.net_node.specs.Table.{sameEvent, Indexed}
-use Rattle.net_strands.specs.declared.EstJoinPath.{EstJoinPath}
-use Rattle.net_strands.specs.declared.Count.{Count}
-use Rattle.net_strands.specs.declared.Count.the-variants.{Entries, Over}
-use Rattle.net_strands.specs.Entries.{entry, entriesIn, andThen, EntriesAs}
-use Rattle.net_strands.specs.Space.{pushedIf, onward, alternatives}
-use Rattle.net_strands.proofs.Entries.{listed-some, listed-none}
+use Rattle.net_join_paths.specs.declared.EstJoinPath.{EstJoinPath}
+use Rattle.net_join_paths.specs.declared.Count.{Count}
+use Rattle.net_join_paths.specs.declared.Count.the-variants.{Entries, Over}
+use Rattle.net_join_paths.specs.Entries.{entry, entriesIn, andThen, EntriesAs, pushedIf}
+use Rattle.net_join_paths.proofs.Entries.{listed-some, listed-none}
+use Rattle.net_strands.specs.Space.{onward, alternatives}
 
 pub alternatives-turn : (k : ℕ) (node : ℕ → EstTime) (e : LinkEvent) (m i : ℕ) (es : List EstJoinPath) (b c : Bool)
     → sameEvent (node (node i .«idx_next») .«link_event») e ≡ b → eqb (node i .«idx_next_alt») 0 ≡ c

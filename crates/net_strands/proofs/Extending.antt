@@ -10,13 +10,14 @@ use borrow.Author.Tests.{eq-eqb, ne-eqb, not-true, not-false}
 use lib.Dec.{eqb}
 use Rattle.net_node.specs.declared.LinkEvent.{LinkEvent}
 use Rattle.net_node.specs.declared.EstTime.{EstTime}
-use Rattle.net_strands.specs.declared.EstJoinPath.{EstJoinPath}
-use Rattle.net_strands.specs.declared.Count.{Count}
-use Rattle.net_strands.specs.declared.Count.the-variants.{Entries, Over}
-use Rattle.net_strands.specs.Entries.{entryAt, entriesIn, push, andThen, EntriesAs}
-use Rattle.net_strands.specs.Space.{isArrive, followed, extendedAs, extended, extendedAll}
+use Rattle.net_join_paths.specs.declared.EstJoinPath.{EstJoinPath}
+use Rattle.net_join_paths.specs.declared.Count.{Count}
+use Rattle.net_join_paths.specs.declared.Count.the-variants.{Entries, Over}
+use Rattle.net_join_paths.specs.Entries.{entryAt, entriesIn, push, andThen, EntriesAs}
+use Rattle.net_join_paths.proofs.Entries.{entries-more, listed-some, listed-none, andThen-some}
+use Rattle.net_stack.specs.Stack.{isArrive}
+use Rattle.net_strands.specs.Space.{followed, extendedAs, extended, extendedAll}
 use Rattle.net_strands.specs.Steps.{newMatch}
-use Rattle.net_strands.proofs.Entries.{entries-more, listed-some, listed-none}
 
 -- whether an entry's link is cleared at an event
 abbrev pub cleared : LinkEvent → EstJoinPath → Bool
@@ -62,10 +63,6 @@ module _ (node : ℕ → EstTime) (n : ℕ) (e : LinkEvent) (seen : Bool) (x : E
             go false false p r z = absurd (true≢false (sym z))
 
 -- ---- the loop over the old list
-
-pub andThen-some : (a : Option (List EstJoinPath)) → andThen a some ≡ a
-andThen-some none = refl
-andThen-some (some es) = refl
 
 module _ (node : ℕ → EstTime) (n : ℕ) (e : LinkEvent) (seen : Bool) where
   -- the last entry is followed behind what the others give

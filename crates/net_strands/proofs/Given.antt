@@ -13,16 +13,17 @@ use Rattle.net_node.specs.declared.EstTime.{EstTime}
 use Rattle.net_event_map.specs.declared.Layout.{Layout}
 use Rattle.net_notes.specs.Log.{matchedColumn, strandsColumn, nextsColumn, noteIn, spanNumber, spanBegin, spanEnd, Says, Touched, logFull, NotedAs, Notes, Ungiven}
 use Rattle.net_notes.proofs.Log.{touched-none, says-span}
-use Rattle.net_strands.specs.declared.EstJoinPath.{EstJoinPath}
-use Rattle.net_strands.specs.declared.Count.{Count}
-use Rattle.net_strands.specs.declared.Count.the-variants.{Entries, Over}
-use Rattle.net_strands.specs.Entries.{entriesIn, push, EntriesAs}
+use Rattle.net_join_paths.specs.declared.EstJoinPath.{EstJoinPath}
+use Rattle.net_join_paths.specs.declared.Count.{Count}
+use Rattle.net_join_paths.specs.declared.Count.the-variants.{Entries, Over}
+use Rattle.net_join_paths.specs.Entries.{entriesIn, push, EntriesAs}
+use Rattle.net_join_paths.specs.Spans.{pushedAll, nodesIn}
+use Rattle.net_join_paths.proofs.Entries.{listed-some, listed-none}
+use Rattle.net_join_paths.proofs.Spans.{SameNodes, Appended, all-appended, one-appended, nodes-stay, nodes-behind, nodes-kept}
 use Rattle.net_strands.specs.Space.{alternatives}
 use Rattle.net_strands.specs.Walks.{poppedTo, walked, spend}
-use Rattle.net_strands.specs.Given.{pushedAll, nodesIn, SpanGives, WalkGives, Given, GivenThen, Extends}
-use Rattle.net_strands.proofs.Entries.{listed-some, listed-none}
+use Rattle.net_strands.specs.Given.{SpanGives, WalkGives, Given, GivenThen, Extends}
 use Rattle.net_strands.proofs.Targets.{nextsOf, pushed-nexts}
-use Rattle.net_strands.proofs.Spans.{SameNodes, Appended, all-appended, one-appended, nodes-stay, nodes-behind, nodes-kept}
 
 -- ---- what was given stays said
 

@@ -1,10 +1,7 @@
-pub mod Entries
 pub mod Kept
-mod Stacks
 mod Alternatives
 mod Targets
 mod Spending
-mod Spans
 mod Given
 mod Opened
 mod Walking

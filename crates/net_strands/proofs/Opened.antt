@@ -3,20 +3,20 @@ use mathlib.Core.Path.{_≡_, refl, sym, ap, _∙_}
 use mathlib.Core.Bool.{Bool, true, false}
 use mathlib.Core.List.{List, [], _∷_, _++_}
 use mathlib.Core.Option.{Option, none, some}
-use Prim.Native.Nat.{ℕ, zero, suc, _+_, _-_, _*_, _≤_, _<_}
+use Prim.Native.Nat.{ℕ, zero, suc, _+_, _-_, _≤_, _<_}
 use native.Mathlib.Omega.{arith}
-use lib.ListN.{getD}
 use Rattle.net_node.specs.declared.LinkEvent.{LinkEvent}
 use Rattle.net_node.specs.declared.EstTime.{EstTime}
-use Rattle.net_strands.specs.declared.EstJoinPath.{EstJoinPath}
-use Rattle.net_strands.specs.Entries.{entry, entriesIn, push, andThen}
-use Rattle.net_strands.specs.Space.{alternativeStacked, strandFrom, strands}
-use Rattle.net_strands.specs.Steps.{openingOf, openedIf}
+use Rattle.net_join_paths.specs.declared.EstJoinPath.{EstJoinPath}
+use Rattle.net_join_paths.specs.Entries.{entriesIn, andThen}
+use Rattle.net_join_paths.specs.Spans.{pushedAll, nodesIn}
+use Rattle.net_join_paths.proofs.Spans.{SameNodes, nodes-kept, nodes-split, pushed-append, Pushed}
+use Rattle.net_stack.specs.Stack.{alternativeStacked}
+use Rattle.net_stack.specs.Openings.{openingOf, openedIf}
+use Rattle.net_strands.specs.Space.{strandFrom, strands}
 use Rattle.net_strands.specs.Walks.{withNodes, walked, spend}
-use Rattle.net_strands.specs.Given.{pushedAll, nodesIn}
 use Rattle.net_strands.proofs.Targets.{pushedEach, pushed-walk}
 use Rattle.net_strands.proofs.Spending.{nodes-empty, spend-same, spend-then, spend-enough}
-use Rattle.net_strands.proofs.Spans.{SameNodes, same-nodes, all-appended, nodes-stay, nodes-behind, nodes-kept}
 
 -- ---- the stack
 
@@ -57,20 +57,6 @@ stacked-numbers (suc alt) xs = refl
 -- how a walk goes on: by the nexts that it may read, and what is stacked
 abbrev pub Rest : Type 0
 Rest = ℕ → List ℕ → Option (List ℕ)
-
--- two spans, one behind the other
-pub nodes-split : (list : List ℕ) (from j k : ℕ) → nodesIn list from (j + k) ≡ nodesIn list from j ++ nodesIn list (from + j) k
-unfolding nodesIn
-nodes-split list from zero k =
-    let a : 0 + k ≡ k = omega arith in
-    let b : from ≡ from + 0 = omega arith in
-    ap (nodesIn list from) a ∙ ap (λ (i : ℕ). nodesIn list i k) b
-nodes-split list from (suc j) k =
-    let a : suc j + k ≡ suc (j + k) = omega arith in
-    let b : suc from + j ≡ from + suc j = omega arith in
-    ap (nodesIn list from) a
-    ∙ ap (λ (is : List ℕ). getD list (from * 2 + 1) 0 ∷ is) (nodes-split list (suc from) j k)
-    ∙ ap (λ (i : ℕ). (getD list (from * 2 + 1) 0 ∷ nodesIn list (suc from) j) ++ nodesIn list i k) b
 
 -- q nexts are read, which give the nodes js, and these are put behind the list
 pub record Reads (list : List ℕ) (at left : ℕ) (list′ : List ℕ) (at′ left′ q : ℕ) (js : List ℕ) : Type 0 where
@@ -163,15 +149,6 @@ module _ (node : ℕ → EstTime) (nodes : ℕ) (e : LinkEvent) where
 
 -- ---- what the walk's entries are
 
-pub pushed-append : (m : ℕ) (is js : List ℕ) (es : List EstJoinPath) → pushedAll m (is ++ js) es ≡ andThen (pushedAll m is es) (pushedAll m js)
-unfolding pushedAll
-pushed-append m [] js es = refl
-pushed-append m (i ∷ is) js es = go (push es (entry m i)) (pushed-append m is js)
-  where
-    go : (a : Option (List EstJoinPath)) → ((fs : List EstJoinPath) → pushedAll m (is ++ js) fs ≡ andThen (pushedAll m is fs) (pushedAll m js)) → andThen a (pushedAll m (is ++ js)) ≡ andThen (andThen a (pushedAll m is)) (pushedAll m js)
-    go none ih = refl
-    go (some fs) ih = ih fs
-
 -- nodes that don't fit, however the walk goes on
 pub each-over : (m : ℕ) (es : List EstJoinPath) (js : List ℕ) → pushedAll m js es ≡ none → (q : ℕ) (x : ℕ → Option (List ℕ)) (k : ℕ) → pushedEach m (spend q js x k) es ≡ none
 unfolding spend
@@ -187,40 +164,6 @@ each-over m es js h (suc q) x (suc k) = each-over m es js h q x k
 each-after : (m : ℕ) (es fs : List EstJoinPath) (is : List ℕ) → pushedAll m is es ≡ some fs → (t : Option (List ℕ)) → pushedEach m (withNodes is t) es ≡ pushedEach m t fs
 each-after m es fs is h none = refl
 each-after m es fs is h (some js) = pushed-append m is js es ∙ ap (λ (a : Option (List EstJoinPath)). andThen a (pushedAll m js)) h
-
--- The nodes of the entries from n on, behind the first n of a list as it was, are the entries as they are.
-pub record Pushed (m : ℕ) (list₀ : List ℕ) (n : ℕ) (list : List ℕ) (at : ℕ) : Type 0 where
-  pub answer : pushedAll m (nodesIn list n (at - n)) (entriesIn list₀ n) ≡ some (entriesIn list at)
-  pub same : SameNodes list₀ list n at
-  pub few : at ≤ 1024
-
-pub pushed-start : (m : ℕ) (list : List ℕ) (n : ℕ) → n ≤ 1024 → Pushed m list n list n
-unfolding pushedAll nodesIn
-pushed-start m list n h = let z : n - n ≡ 0 = omega arith in record { answer = ap (λ (d : ℕ). pushedAll m (nodesIn list n d) (entriesIn list n)) z; same = same-nodes list n; few = h }
-
--- nodes that were pushed
-pub pushed-more : (m : ℕ) (is list list′ : List ℕ) (n more : ℕ) → pushedAll m is (entriesIn list n) ≡ some (entriesIn list′ more) → more ≤ 1024 → (nodesIn list′ n (more - n) ≡ is) × Pushed m list n list′ more
-pushed-more m is list list′ n more h f =
-    let a = all-appended m is (entriesIn list n) (entriesIn list′ more) h in
-    let b = nodes-behind list list′ n more a in
-    (b, record { answer = ap (λ (js : List ℕ). pushedAll m js (entriesIn list n)) b ∙ h; same = nodes-stay list list′ n more a; few = f })
-
--- and more behind them
-pub pushed-then : {m : ℕ} {list₀ list₁ list : List ℕ} {n at₁ at : ℕ} → Pushed m list₀ n list₁ at₁ → Pushed m list₁ at₁ list at → Pushed m list₀ n list at
-pushed-then {m} {list₀} {list₁} {list} {n} {at₁} {at} v w = record {
-  answer =
-      let a : at₁ - n + (at - at₁) ≡ at - n = omega (arith, v .same .grows, w .same .grows) in
-      let b : n + (at₁ - n) ≡ at₁ = omega (arith, v .same .grows) in
-      ap (λ (d : ℕ). pushedAll m (nodesIn list n d) (entriesIn list₀ n)) (sym a)
-      ∙ ap (λ (is : List ℕ). pushedAll m is (entriesIn list₀ n)) (nodes-split list n (at₁ - n) (at - at₁))
-      ∙ pushed-append m (nodesIn list n (at₁ - n)) (nodesIn list (n + (at₁ - n)) (at - at₁)) (entriesIn list₀ n)
-      ∙ ap (λ (is : List ℕ). andThen (pushedAll m is (entriesIn list₀ n)) (pushedAll m (nodesIn list (n + (at₁ - n)) (at - at₁)))) (sym (nodes-kept (w .same) (at₁ - n) n (omega (arith, v .same .grows))))
-      ∙ ap (λ (o : Option (List EstJoinPath)). andThen o (pushedAll m (nodesIn list (n + (at₁ - n)) (at - at₁)))) (v .answer)
-      ∙ ap (λ (i : ℕ). pushedAll m (nodesIn list i (at - at₁)) (entriesIn list₁ at₁)) b
-      ∙ w .answer;
-  same = record { node = λ k h. w .same .node k (omega (arith, v .same .grows)) ∙ v .same .node k h; grows = omega (arith, v .same .grows, w .same .grows) };
-  few = w .few;
-}
 
 -- The answer of the whole walk is that of the rest, behind what is pushed.
 pub answer-is : (node : ℕ → EstTime) (nodes : ℕ) (e : LinkEvent) (m start n : ℕ) (list₀ list : List ℕ) (at left : ℕ) (xs : List Item) (rest : Rest) → Opened node nodes e start n list at left xs rest → Pushed m list₀ n list at

@@ -9,9 +9,10 @@ use Rattle.net_node.specs.declared.LinkEvent.{LinkEvent}
 use Rattle.net_node.specs.declared.EstTime.{EstTime}
 use Rattle.net_event_map.specs.declared.Layout.{Layout}
 use Rattle.net_event_map.proofs.Kept.{apart-same}
-use Rattle.net_strands.specs.declared.Count.{Count}
+use Rattle.net_join_paths.specs.declared.Count.{Count}
+use Rattle.net_stack.specs.Openings.{stackLength}
 use Rattle.net_strands.specs.Space.{alternatives, strandFrom, strands, followed}
-use Rattle.net_strands.specs.Steps.{stackLength, WalkRoom}
+use Rattle.net_strands.specs.Steps.{WalkRoom}
 use Rattle.net_strands.specs.Given.{Extends}
 use Rattle.net_strands.proofs.Extending.{Gathering}
 use Rattle.net_strands.proofs.Given.{Noting}

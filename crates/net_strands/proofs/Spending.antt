@@ -9,8 +9,8 @@ use native.Mathlib.Omega.{arith}
 use Rattle.net_node.specs.declared.LinkEvent.{LinkEvent}
 use Rattle.net_node.specs.declared.EstTime.{EstTime}
 use Rattle.net_node.specs.Table.{sameEvent}
-use Rattle.net_strands.specs.Space.{alternativeStacked}
-use Rattle.net_strands.specs.Steps.{endsStrand}
+use Rattle.net_stack.specs.Stack.{alternativeStacked}
+use Rattle.net_stack.specs.Openings.{endsStrand}
 use Rattle.net_strands.specs.Walks.{withNodes, poppedTo, walkedAs, walked, spend}
 
 nodes-nodes : (is js : List ℕ) (x : Option (List ℕ)) → withNodes is (withNodes js x) ≡ withNodes (is ++ js) x

@@ -8,20 +8,18 @@ use lib.Dec.{eqb}
 use Rattle.net_node.specs.declared.LinkEvent.{LinkEvent}
 use Rattle.net_node.specs.declared.EstTime.{EstTime}
 use Rattle.net_node.specs.Table.{sameEvent}
-use Rattle.net_strands.specs.declared.EstJoinPath.{EstJoinPath}
-use Rattle.net_strands.specs.Entries.{entry, push, andThen}
-use Rattle.net_strands.specs.Space.{isArrive, pushedIf, onward, alternatives, Strand, popped, poppedAfter, alternativeStacked, turnAs, turn, strandsOn, strands}
+use Rattle.net_join_paths.specs.declared.EstJoinPath.{EstJoinPath}
+use Rattle.net_join_paths.specs.Entries.{entry, push, pushedIf, andThen}
+use Rattle.net_join_paths.specs.Spans.{pushedAll}
+use Rattle.net_join_paths.proofs.Entries.{then-same, then-none}
+use Rattle.net_stack.specs.Stack.{isArrive, alternativeStacked}
+use Rattle.net_strands.specs.Space.{onward, alternatives, Strand, popped, poppedAfter, turnAs, turn, strandsOn, strands}
 use Rattle.net_strands.specs.Walks.{withNodes, poppedTo, walkedAs, walked}
-use Rattle.net_strands.specs.Given.{pushedAll}
 
 -- an entry for each node, where there are any
 abbrev pub pushedEach : ℕ → Option (List ℕ) → List EstJoinPath → Option (List EstJoinPath)
 pushedEach m none es = none
 pushedEach m (some is) es = pushedAll m is es
-
-then-same : (a : Option (List EstJoinPath)) (f g : List EstJoinPath → Option (List EstJoinPath)) → ((es : List EstJoinPath) → f es ≡ g es) → andThen a f ≡ andThen a g
-then-same none f g h = refl
-then-same (some es) f g h = h es
 
 -- ---- alternatives
 
@@ -58,10 +56,6 @@ module _ (node : ℕ → EstTime) (e : LinkEvent) (m : ℕ) where
 -- ---- strands
 
 module _ (node : ℕ → EstTime) (e : LinkEvent) (m : ℕ) where
-  then-none : (a : Option (List EstJoinPath)) → none ≡ andThen a (λ es. none)
-  then-none none = refl
-  then-none (some es) = refl
-
   with-node : (i : ℕ) (q : Option (List ℕ)) (es : List EstJoinPath) → pushedEach m (withNodes (i ∷ []) q) es ≡ andThen (push es (entry m i)) (pushedEach m q)
   unfolding pushedAll
   with-node i none es = then-none (push es (entry m i))

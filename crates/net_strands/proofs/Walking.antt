@@ -16,21 +16,23 @@ use Rattle.net_event_map.specs.declared.Layout.{Layout}
 use Rattle.net_event_map.specs.EventMap.{headOf}
 use Rattle.net_notes.specs.Log.{strandsColumn, nextsColumn, noteIn, spanNumber, spanBegin, spanEnd}
 use Rattle.net_notes.proofs.Log.{known-is, says-span}
-use Rattle.net_strands.specs.declared.EstJoinPath.{EstJoinPath}
-use Rattle.net_strands.specs.declared.Count.{Count}
-use Rattle.net_strands.specs.declared.Count.the-variants.{Entries, Over}
-use Rattle.net_strands.specs.Entries.{entry, entriesIn, push, EntriesAs}
-use Rattle.net_strands.specs.Space.{pushedIf, alternativeStacked, strandFrom, strands}
-use Rattle.net_strands.specs.Steps.{stackLength, stackIn, endsStrand, openingOf, openingAt, openingLeft, openedIf}
+use Rattle.net_join_paths.specs.declared.EstJoinPath.{EstJoinPath}
+use Rattle.net_join_paths.specs.declared.Count.{Count}
+use Rattle.net_join_paths.specs.declared.Count.the-variants.{Entries, Over}
+use Rattle.net_join_paths.specs.Entries.{entry, entriesIn, push, pushedIf, EntriesAs}
+use Rattle.net_join_paths.specs.Spans.{pushedAll, nodesIn, pushedKnown}
+use Rattle.net_join_paths.proofs.Entries.{listed-some, listed-none, andThen-some}
+use Rattle.net_join_paths.proofs.Spans.{Pushed, pushed-more}
+use Rattle.net_stack.specs.Stack.{alternativeStacked}
+use Rattle.net_stack.specs.Openings.{stackLength, stackIn, endsStrand, openingOf, openingAt, openingLeft, openedIf}
+use Rattle.net_stack.proofs.Stacks.{stack-push, stack-none, stack-pop}
+use Rattle.net_strands.specs.Space.{strandFrom, strands}
 use Rattle.net_strands.specs.Walks.{poppedTo, walked, spend}
-use Rattle.net_strands.specs.Given.{pushedAll, nodesIn, WalkGives, Given, pushedKnown}
-use Rattle.net_strands.proofs.Entries.{listed-some, listed-none}
-use Rattle.net_strands.proofs.Stacks.{stack-push, stack-none, stack-pop}
-use Rattle.net_strands.proofs.Extending.{andThen-some}
+use Rattle.net_strands.specs.Given.{WalkGives, Given}
 use Rattle.net_strands.proofs.Targets.{consIf, pushedEach}
 use Rattle.net_strands.proofs.Spending.{spend-short, walk-none, walk-met, walk-ends, walk-on}
 use Rattle.net_strands.proofs.Given.{Walks, walks-by}
-use Rattle.net_strands.proofs.Opened.{Item, Alternative, Open, numbersOf, stackOf, openedOn, stackedOn, opened-numbers, stacked-numbers, Rest, Reads, Closes, closes-begun, Opened, opened-on, opened-more, opened-stacked, each-over, Pushed, pushed-more, answer-is}
+use Rattle.net_strands.proofs.Opened.{Item, Alternative, Open, numbersOf, stackOf, openedOn, stackedOn, opened-numbers, stacked-numbers, Rest, Reads, Closes, closes-begun, Opened, opened-on, opened-more, opened-stacked, each-over, answer-is}
 
 -- ---- what the slices, and the nexts that may still be read, were when a loop began
 

@@ -3,32 +3,21 @@
 -- list before it; so they are worked out once, and copied for every other such entry of that node. What strands give is
 -- noted of each node where they can meet, and copied for every strand that comes there.
 use mathlib.Core.Path.{_≡_}
-use mathlib.Core.Bool.{Bool, true, false}
-use mathlib.Core.List.{List, [], _∷_}
-use mathlib.Core.Option.{Option, none, some}
+use mathlib.Core.List.{List}
+use mathlib.Core.Option.{Option}
 use Prim.{Unit}
-use Prim.Native.Nat.{ℕ, zero, suc, _+_, _-_, _*_, _≤_, _<_}
-use lib.ListN.{getD}
+use Prim.Native.Nat.{ℕ, _-_, _≤_, _<_}
 use Rattle.net_node.specs.declared.LinkEvent.{LinkEvent}
 use Rattle.net_node.specs.declared.EstTime.{EstTime}
 use Rattle.net_event_map.specs.declared.Layout.{Layout}
 use Rattle.net_notes.specs.Log.{matchedColumn, strandsColumn, nextsColumn, noteIn, Says, Touched}
-use Rattle.net_strands.specs.declared.EstJoinPath.{EstJoinPath}
-use Rattle.net_strands.specs.declared.Count.{Count}
-use Rattle.net_strands.specs.declared.Count.the-variants.{Entries, Over}
-use Rattle.net_strands.specs.Entries.{entry, entriesIn, push, andThen, EntriesAs}
+use Rattle.net_join_paths.specs.declared.EstJoinPath.{EstJoinPath}
+use Rattle.net_join_paths.specs.declared.Count.{Count}
+use Rattle.net_join_paths.specs.declared.Count.the-variants.{Entries, Over}
+use Rattle.net_join_paths.specs.Entries.{entriesIn, EntriesAs}
+use Rattle.net_join_paths.specs.Spans.{pushedAll, nodesIn}
 use Rattle.net_strands.specs.Space.{alternatives}
 use Rattle.net_strands.specs.Walks.{poppedTo, walked, spend}
-
--- an entry with match link m for each of these nodes, behind a list
-unfoldable pub pushedAll : ℕ → List ℕ → List EstJoinPath → Option (List EstJoinPath)
-pushedAll m [] es = some es
-pushedAll m (i ∷ is) es = andThen (push es (entry m i)) (pushedAll m is)
-
--- the nodes of k entries of a slice, from one of them on
-unfoldable pub nodesIn : List ℕ → ℕ → ℕ → List ℕ
-nodesIn s from zero = []
-nodesIn s from (suc k) = getD s (from * 2 + 1) 0 ∷ nodesIn s (suc from) k
 
 -- a rule gives an entry for each node of a span, whatever the match link and whatever the list before it
 pub record SpanGives (rule : ℕ → List EstJoinPath → Option (List EstJoinPath)) (list : List ℕ) (at begin end : ℕ)
@@ -66,8 +55,3 @@ pub record Extends (rule : List EstJoinPath → Option (List EstJoinPath)) (w : 
   pub answer : EntriesAs (rule (entriesIn list at)) list′ r
   pub given : GivenThen cells′ w node n e list′ r
   pub touched : (cells₀ : List ℕ) → Touched w cells₀ cells → Touched w cells₀ cells′
-
--- an entry for each of these nodes behind a list, or none if the walk has too few nexts left
-abbrev pub pushedKnown : Bool → ℕ → List ℕ → List EstJoinPath → Option (List EstJoinPath)
-pushedKnown true m is es = none
-pushedKnown false m is es = pushedAll m is es

@@ -1,4 +1,3 @@
-pub mod Entries
 pub mod Space
 pub mod Steps
 pub mod Walks

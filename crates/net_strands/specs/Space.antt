@@ -6,34 +6,22 @@ use mathlib.Core.List.{List, [], _∷_}
 use mathlib.Core.Option.{Option, none, some}
 use Prim.Native.Nat.{ℕ, zero, suc}
 use lib.Dec.{eqb}
-use Rattle.net_node.specs.declared.EstType.{EstType}
-use Rattle.net_node.specs.declared.EstType.the-variants.{Arrive, Clear, Fake}
 use Rattle.net_node.specs.declared.LinkEvent.{LinkEvent}
 use Rattle.net_node.specs.declared.EstTime.{EstTime}
 use Rattle.net_node.specs.Table.{sameEvent}
-use Rattle.net_strands.specs.declared.EstJoinPath.{EstJoinPath}
-use Rattle.net_strands.specs.Entries.{entry, push, andThen}
-
--- whether a kind is Arrive
-abbrev pub isArrive : EstType → Bool
-isArrive Arrive = true
-isArrive Clear = false
-isArrive Fake = false
+use Rattle.net_join_paths.specs.declared.EstJoinPath.{EstJoinPath}
+use Rattle.net_join_paths.specs.Entries.{entry, push, pushedIf, andThen}
+use Rattle.net_stack.specs.Stack.{isArrive, alternativeStacked}
 
 -- ---- "With old m = 0, e and each of its alternatives gives its next if that has the event."
-
--- an entry behind a list, if it is to be put there
-abbrev pub pushedIf : Bool → List EstJoinPath → EstJoinPath → Option (List EstJoinPath)
-pushedIf true es x = push es x
-pushedIf false es x = some es
 
 -- what comes after a node: nothing if it has no alternative
 abbrev pub onward : Bool → (List EstJoinPath → Option (List EstJoinPath)) → List EstJoinPath → Option (List EstJoinPath)
 onward true f es = some es
 onward false f es = f es
 
--- from node i along the alternatives, at most k of them, with m as the new match link: n are enough among n nodes, since
--- alternatives rise (`Indexed`)
+-- from node i along the alternatives, at most k of them, with m as the new match link: n are enough among n nodes,
+-- since alternatives rise (`Indexed`)
 unfoldable pub alternatives : ℕ → (ℕ → EstTime) → LinkEvent → ℕ → ℕ → List EstJoinPath → Option (List EstJoinPath)
 alternatives zero node e m i es = some es
 alternatives (suc k) node e m i es =
@@ -67,11 +55,6 @@ popped (i ∷ stack) es = More (record { here = i; stack = stack; entries = es }
 abbrev pub poppedAfter : List ℕ → Option (List EstJoinPath) → Turn
 poppedAfter stack none = Over
 poppedAfter stack (some es) = popped stack es
-
--- "stack the node's alternative"
-abbrev pub alternativeStacked : ℕ → List ℕ → List ℕ
-alternativeStacked zero stack = stack
-alternativeStacked (suc i) stack = suc i ∷ stack
 
 -- by whether the next has the event, and whether it "is an Arrive or has no next"
 abbrev pub turnAs : Bool → Bool → ℕ → ℕ → List ℕ → List EstJoinPath → Turn

@@ -8,7 +8,7 @@ use lib.Dec.{eqb}
 use Rattle.net_node.specs.declared.LinkEvent.{LinkEvent}
 use Rattle.net_node.specs.declared.EstTime.{EstTime}
 use Rattle.net_node.specs.Table.{sameEvent}
-use Rattle.net_strands.specs.Space.{isArrive, alternativeStacked}
+use Rattle.net_stack.specs.Stack.{isArrive, alternativeStacked}
 
 -- nodes before those of a walk; none is a walk that reads too many nexts
 abbrev pub withNodes : List ℕ → Option (List ℕ) → Option (List ℕ)

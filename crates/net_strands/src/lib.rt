@@ -1,93 +1,26 @@
 // A run's join entries, followed along the network to the nodes that have an event: `update_join_paths_space`.
 // Contracts: specs/Space.antt; of the inner functions specs/Steps.antt, specs/Walks.antt, specs/Given.antt.
 use net_event_map::Layout;
-use net_node::EstTime;
-use net_node::EstType;
+use net_join_paths::Count;
+use net_join_paths::EstJoinPath;
+use net_join_paths::entry_at;
+use net_join_paths::push_entry;
+use net_join_paths::push_if;
+use net_join_paths::push_known;
+use net_join_paths::push_span;
 use net_node::LinkEvent;
 ghost use mathlib.Core.Path.{_≡_};
-ghost use mathlib.Core.Bool.{true, false};
-ghost use mathlib.Core.List.{List, []};
-ghost use Prim.Native.Nat.{_+_, _-_, _*_, _/_, _%_, _≤_, _<_};
+ghost use mathlib.Core.List.{[]};
+ghost use Prim.Native.Nat.{_≤_, _<_};
 ghost use lib.ListN.{length};
 ghost use Rattle.net_node.specs.Table.{nodeAt, Room, Indexed};
 ghost use Rattle.net_event_map.specs.EventMap.{CellsApart};
-ghost use Rattle.net_notes.specs.Log.{matchedColumn, noteIn, spanNumber, spanBegin, spanEnd, Touched, Notes, Ungiven};
-ghost use Rattle.net_strands.specs.Entries.{entry, entryAt, entriesIn, push, EntriesAs, Valid, ListBecomes};
-ghost use Rattle.net_strands.specs.Space.{isArrive, pushedIf, alternatives, alternativeStacked, strands};
-ghost use Rattle.net_strands.specs.Space.{strandFrom, followed, extended, extendedAll};
-ghost use Rattle.net_strands.specs.Steps.{stackIn, endsStrand, newMatch, nodesAtEntry, WalkRoom};
-ghost use Rattle.net_strands.specs.Steps.{stackLength, openingOf, openingAt, openingLeft, opens, openedIf};
-ghost use Rattle.net_strands.specs.Given.{pushedAll, nodesIn, pushedKnown, Given, Extends};
-
-// A join entry: the link to be matched (0: matched already) and a node of the network.
-pub struct EstJoinPath {
-    pub link_idx_match: u32,
-    pub est_idx_next: u32,
-}
-
-// How many entries a list has then, or that one did not fit (refusal 12).
-pub enum Count {
-    Entries(usize),
-    Over,
-}
-
-// The entry at k of a list.
-pub fn entry_at(list: &[u32], k: usize) -> EstJoinPath
-    requires { ⌜ k * 2 + 2 ≤ length (now list) ⌝ }
-    ensures { λ r. ⌜ r ≡ entryAt (now (list .entry)) k ⌝ }
-{
-    EstJoinPath {
-        link_idx_match: list[k * 2],
-        est_idx_next: list[k * 2 + 1],
-    }
-}
-
-// Puts an entry behind the n of a list, if it has less than 1,024.
-pub fn push_entry(list: &mut [u32], n: usize, x: EstJoinPath) -> Count
-    requires { ⌜ 2048 ≤ length (now list) ⌝ }
-    requires { ⌜ n ≤ 1024 ⌝ }
-    ensures { λ r. ⌜ ListBecomes (λ es. push es x) list n r ⌝ }
-{
-    if n == 1024 {
-        return Count::Over;
-    }
-    list[n * 2] = x.link_idx_match;
-    list[n * 2 + 1] = x.est_idx_next;
-    Count::Entries(n + 1)
-}
-
-// Puts an entry behind the n of a list, if it is to be put.
-fn push_if(
-    wanted: bool,
-    list: &mut [u32],
-    n: usize,
-    link_idx_match: u32,
-    est_idx_next: u32,
-) -> Count
-    requires { ⌜ 2048 ≤ length (now list) ⌝ }
-    requires { ⌜ n ≤ 1024 ⌝ }
-    ensures { λ r. ⌜ ListBecomes (λ es. pushedIf wanted es (entry «link_idx_match» «est_idx_next»)) list n r ⌝ }
-{
-    if wanted {
-        let x = EstJoinPath {
-            link_idx_match,
-            est_idx_next,
-        };
-        return push_entry(list, n, x);
-    }
-    Count::Entries(n)
-}
-
-// Whether a kind is Arrive.
-pub fn is_arrive(k: EstType) -> bool
-    ensures { λ r. ⌜ r ≡ isArrive k ⌝ }
-{
-    match k {
-        EstType::Arrive => true,
-        EstType::Clear => false,
-        EstType::Fake => false,
-    }
-}
+ghost use Rattle.net_notes.specs.Log.{Touched, Ungiven};
+ghost use Rattle.net_join_paths.specs.Entries.{entriesIn, EntriesAs, Valid, ListBecomes};
+ghost use Rattle.net_strands.specs.Space.{alternatives, strandFrom, strands, followed, extended};
+ghost use Rattle.net_strands.specs.Space.{extendedAll};
+ghost use Rattle.net_strands.specs.Steps.{newMatch, nodesAtEntry, WalkRoom};
+ghost use Rattle.net_strands.specs.Given.{Given, Extends};
 
 // An entry that matches already: node `start` and each of its alternatives gives its next if that has the event.
 fn follow_alternatives(
@@ -124,45 +57,6 @@ fn follow_alternatives(
         }
         i = node.idx_next_alt;
     }
-}
-
-// An entry for each node of the entries from `begin` to `end`, put behind the n of their list.
-fn push_nodes(list: &mut [u32], n: usize, link_idx_match: u32, begin: usize, end: usize) -> Count
-    requires { ⌜ 2048 ≤ length (now list) ⌝ }
-    requires { ⌜ n ≤ 1024 ⌝ }
-    requires { ⌜ begin ≤ end ⌝ }
-    requires { ⌜ end ≤ n ⌝ }
-    ensures { λ r. ⌜ ListBecomes (pushedAll «link_idx_match» (nodesIn (now (list .entry)) begin (end - begin))) list n
-        r ⌝ }
-{
-    let mut at = n;
-    let mut k = begin;
-    while k < end {
-        let x = EstJoinPath {
-            link_idx_match,
-            est_idx_next: list[k * 2 + 1],
-        };
-        let Count::Entries(more) = push_entry(list, at, x) else {
-            return Count::Over;
-        };
-        at = more;
-        k += 1;
-    }
-    Count::Entries(at)
-}
-
-// An entry for each node of a span of the list, put behind its n.
-fn push_span(list: &mut [u32], n: usize, link_idx_match: u32, span: u32) -> Count
-    requires { ⌜ 2048 ≤ length (now list) ⌝ }
-    requires { ⌜ n ≤ 1024 ⌝ }
-    requires { ⌜ 0 < span ⌝ }
-    requires { ⌜ spanBegin span ≤ spanEnd span ⌝ }
-    requires { ⌜ spanEnd span ≤ n ⌝ }
-    ensures { λ r. ⌜ ListBecomes (pushedAll «link_idx_match» (nodesIn (now (list .entry)) (spanBegin span)
-        (spanEnd span - spanBegin span))) list n r ⌝ }
-{
-    let c = span as usize - 1;
-    push_nodes(list, n, link_idx_match, c / 2048, c % 2048)
 }
 
 // What an entry gives that matches already: worked out and, with several entries in the list, noted, or copied where it
@@ -219,109 +113,6 @@ fn follow_matched(
     Count::Entries(more)
 }
 
-// Puts a node's alternative on the stack, if it has one.
-fn stack_alternative(stack: &mut [u32], top: usize, alt: u32) -> usize
-    requires { ⌜ top < length (now stack) ⌝ }
-    ensures holds { λ r. ⌜ stackIn (now (stack .exit)) r ≡ alternativeStacked alt (stackIn (now (stack .entry)) top) ⌝ }
-    ensures top { λ r. ⌜ r ≤ top + 1 ⌝ }
-{
-    if alt == 0 {
-        return top;
-    }
-    stack[top] = alt;
-    top + 1
-}
-
-// Whether a strand is left at a node: at an Arrive, and where there is no next.
-fn ends_strand(node: EstTime) -> bool
-    ensures { λ r. ⌜ r ≡ endsStrand node ⌝ }
-{
-    let event = node.link_event;
-    let kind = event.est_type;
-    let arrive = is_arrive(kind);
-    arrive | (node.idx_next == 0)
-}
-
-// Puts a node and its opening on the stack, if it is to be opened.
-fn open_node(wanted: bool, stack: &mut [u32], top: usize, here: u32, at: usize, left: u32) -> usize
-    requires { ⌜ stackLength ≤ length (now stack) ⌝ }
-    requires { ⌜ top + left ≤ stackLength ⌝ }
-    requires { ⌜ 0 < left ⌝ }
-    requires { ⌜ left ≤ 4096 ⌝ }
-    requires { ⌜ at ≤ 1024 ⌝ }
-    ensures holds { λ r. ⌜ stackIn (now (stack .exit)) r ≡ openedIf (opens wanted left top) (openingOf at left) here
-        (stackIn (now (stack .entry)) top) ⌝ }
-    ensures room { λ r. ⌜ r + left ≤ stackLength ⌝ }
-    ensures top { λ r. ⌜ r ≤ top + 2 ⌝ }
-{
-    if wanted & (top + left as usize + 1 < 4608) {
-        stack[top] = here;
-        stack[top + 1] = 65535 + at as u32 * 4096 + left;
-        return top + 2;
-    }
-    top
-}
-
-// Puts a node on the stack, if it is to be opened, and its alternative, if it has one.
-fn stack_node(
-    wanted: bool,
-    stack: &mut [u32],
-    top: usize,
-    here: u32,
-    at: usize,
-    left: u32,
-    alt: u32,
-) -> usize
-    requires { ⌜ stackLength ≤ length (now stack) ⌝ }
-    requires { ⌜ top + left ≤ stackLength ⌝ }
-    requires { ⌜ 0 < left ⌝ }
-    requires { ⌜ left ≤ 4096 ⌝ }
-    requires { ⌜ at ≤ 1024 ⌝ }
-    ensures holds { λ r. ⌜ stackIn (now (stack .exit)) r ≡ alternativeStacked alt
-        (openedIf (opens wanted left top) (openingOf at left) here (stackIn (now (stack .entry)) top)) ⌝ }
-    ensures room { λ r. ⌜ r + left ≤ stackLength + 1 ⌝ }
-    ensures top { λ r. ⌜ r ≤ top + 3 ⌝ }
-{
-    let opened = open_node(wanted, stack, top, here, at, left);
-    stack_alternative(stack, opened, alt)
-}
-
-// Notes what a node gives whose opening was popped: the entries, and the nexts read, since then.
-fn close_node(cells: &mut [u32], w: Layout, i: u32, opening: u32, at: usize, left: u32)
-    requires { ⌜ CellsApart (now cells) w ⌝ }
-    requires { ⌜ i < w .places ⌝ }
-    requires { ⌜ 65536 ≤ opening ⌝ }
-    requires { ⌜ openingAt opening ≤ at ⌝ }
-    requires { ⌜ at ≤ 1024 ⌝ }
-    requires { ⌜ left ≤ openingLeft opening ⌝ }
-    ensures { λ _. ⌜ Notes w i (noteIn (now (cells .entry)) w i matchedColumn) (spanNumber (openingAt opening) at)
-        (openingLeft opening - left) (now (cells .entry)) (now (cells .exit)) ⌝ }
-{
-    let c = opening - 65536;
-    let begin = (c / 4096) as usize;
-    let span = net_notes::span_number(begin, at);
-    let nexts = c % 4096 + 1 - left;
-    let matched = net_notes::noted(cells, w, i, net_notes::MATCHED);
-    net_notes::note(cells, w, i, matched, span, nexts);
-}
-
-// An entry for each node of a span, put behind the n of their list; Over if the walk has fewer nexts left than the span
-// was read for.
-fn push_known(over: bool, list: &mut [u32], n: usize, link_idx_match: u32, span: u32) -> Count
-    requires { ⌜ 2048 ≤ length (now list) ⌝ }
-    requires { ⌜ n ≤ 1024 ⌝ }
-    requires { ⌜ 0 < span ⌝ }
-    requires { ⌜ spanBegin span ≤ spanEnd span ⌝ }
-    requires { ⌜ spanEnd span ≤ n ⌝ }
-    ensures { λ r. ⌜ ListBecomes (pushedKnown over «link_idx_match» (nodesIn (now (list .entry)) (spanBegin span)
-        (spanEnd span - spanBegin span))) list n r ⌝ }
-{
-    if over {
-        return Count::Over;
-    }
-    push_span(list, n, link_idx_match, span)
-}
-
 // An entry that does not match yet: strands along nexts, with alternatives stacked, each up to the event, an Arrive, an
 // end, or a node of which it is noted what strands from it give. With several entries in the list that is noted of the
 // start, and of nodes where strands can meet: those with a previous alternative.
@@ -359,7 +150,7 @@ fn follow_strands(
         if here >= 65536 {
             top -= 1;
             let i = stack[top];
-            close_node(cells, w, i, here, at, left);
+            net_stack::close_node(cells, w, i, here, at, left);
             continue 'strands;
         }
         while left > 0 {
@@ -376,7 +167,7 @@ fn follow_strands(
                 left -= nexts;
                 continue 'strands;
             }
-            top = stack_node(may_meet, stack, top, here, at, left, node.idx_next_alt);
+            top = net_stack::stack_node(may_meet, stack, top, here, at, left, node.idx_next_alt);
             left -= 1;
             let next = node.idx_next;
             let there = net_node::load(floats, numbers, next as usize);
@@ -385,7 +176,7 @@ fn follow_strands(
                 return Count::Over;
             };
             at = more;
-            let ends = ends_strand(there);
+            let ends = net_stack::ends_strand(there);
             if has_event | ends {
                 continue 'strands;
             }
@@ -487,7 +278,7 @@ fn extend(
         return Count::Entries(n);
     }
     let kind = event.est_type;
-    let arrive = is_arrive(kind);
+    let arrive = net_stack::is_arrive(kind);
     let cleared = (m == 0) | (m == event.link_idx);
     if !(arrive | cleared) {
         return push_entry(list, n, x);

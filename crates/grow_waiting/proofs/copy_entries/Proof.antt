@@ -4,7 +4,7 @@ use mathlib.Core.Path.{_≡_, refl}
 use Prim.Native.Nat.{_-_, _≤_}
 use native.Mathlib.Omega.{arith}
 use lib.ListN.{length, length-set}
-use Rattle.net_strands.specs.Entries.{entriesIn}
+use Rattle.net_join_paths.specs.Entries.{entriesIn}
 use Rattle.grow_waiting.proofs.Runs.{stacked, copied-none, copied-on, copied-all}
 use Rattle.grow_waiting.proofs.copy_entries.Statement.{statement}
 use Rattle.grow_waiting.proofs.copy_entries.Tie as tie

@@ -3,9 +3,9 @@ use borrow.Author.Needs.{needs}
 use mathlib.Core.Path.{refl, sym, subst}
 use mathlib.Core.List.{List}
 use native.Mathlib.Omega.{arith}
-use Rattle.net_strands.specs.declared.EstJoinPath.{EstJoinPath}
+use Rattle.net_join_paths.specs.declared.EstJoinPath.{EstJoinPath}
 use Rattle.net_event_map.specs.EventMap.{eventNodes, arriveAt}
-use Rattle.net_strands.specs.Entries.{entriesIn, Valid}
+use Rattle.net_join_paths.specs.Entries.{entriesIn, Valid}
 use Rattle.net_joins.proofs.Answers.{while-apart, while-chain, while-marked, while-ending, marks-gone, append-none, append-listed}
 use Rattle.net_joins.proofs.add_new_join_paths.Statement.{statement}
 use Rattle.net_joins.proofs.add_new_join_paths.Tie as tie

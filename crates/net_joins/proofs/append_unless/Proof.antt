@@ -2,8 +2,8 @@
 use borrow.Author.Needs.{needs}
 use mathlib.Core.Path.{refl, sym, ap, _∙_, subst}
 use mathlib.Core.Bool.{Bool}
-use Rattle.net_strands.specs.Entries.{entry, entriesIn, EntriesAs}
-use Rattle.net_strands.proofs.Entries.{push-full}
+use Rattle.net_join_paths.specs.Entries.{entry, entriesIn, EntriesAs}
+use Rattle.net_join_paths.proofs.Entries.{push-full}
 use Rattle.net_joins.specs.Joins.{appendedIf}
 use Rattle.net_joins.proofs.Lists.{push-stays}
 use Rattle.net_joins.proofs.append_unless.Statement.{statement}

@@ -3,7 +3,7 @@ use borrow.Author.Needs.{needs}
 use Prim.Native.Nat.{_-_}
 use native.Mathlib.Omega.{arith}
 use Rattle.net_node.specs.Table.{nodeAt}
-use Rattle.net_strands.proofs.Entries.{entry-valid}
+use Rattle.net_join_paths.proofs.Entries.{entry-valid}
 use Rattle.net_joins.proofs.Choosing.{Choosing, choosing-start, choosing-on, choosing-whole}
 use Rattle.net_joins.proofs.closest_entry.Statement.{statement}
 use Rattle.net_joins.proofs.closest_entry.Tie as tie

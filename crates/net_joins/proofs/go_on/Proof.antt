@@ -1,7 +1,7 @@
 -- `net_joins::go_on` meets its contract.
 use borrow.Author.Needs.{needs}
 use native.Mathlib.Omega.{arith}
-use Rattle.net_strands.proofs.Entries.{listed-some}
+use Rattle.net_join_paths.proofs.Entries.{listed-some}
 use Rattle.net_joins.proofs.Answers.{goes-over, goes-with}
 use Rattle.net_joins.proofs.go_on.Statement.{statement}
 use Rattle.net_joins.proofs.go_on.Tie as tie

@@ -3,8 +3,8 @@ use borrow.Author.Needs.{needs}
 use mathlib.Core.Path.{refl, _∙_}
 use native.Mathlib.Omega.{arith}
 use Rattle.net_node.specs.Table.{nodeAt}
-use Rattle.net_strands.specs.Entries.{entriesIn}
-use Rattle.net_strands.proofs.Entries.{valid-wider}
+use Rattle.net_join_paths.specs.Entries.{entriesIn}
+use Rattle.net_join_paths.proofs.Entries.{valid-wider}
 use Rattle.net_joins.specs.Joins.{appended}
 use Rattle.net_joins.proofs.Choosing.{chosen-within}
 use Rattle.net_joins.proofs.Answers.{room-less, cells-ungiven, cells-apart, cells-mapped, list-built, step-over, step-joins, step-goes, table-left}

@@ -2,7 +2,7 @@
 use borrow.Author.Needs.{needs}
 use Prim.Native.Nat.{_-_, _<_}
 use native.Mathlib.Omega.{arith}
-use Rattle.net_strands.proofs.Entries.{entry-valid}
+use Rattle.net_join_paths.proofs.Entries.{entry-valid}
 use Rattle.net_joins.proofs.Marking.{Marking, marking-start, marking-on, marking-whole}
 use Rattle.net_joins.proofs.set_marks.Statement.{statement}
 use Rattle.net_joins.proofs.set_marks.Tie as tie

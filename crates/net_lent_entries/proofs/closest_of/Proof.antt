@@ -55,10 +55,10 @@ use denote.Exit.{yes}
 use borrow.Author.Tests.{ltb-true, ltb-false}
 use Rattle.net_node.specs.declared.EstTime.{EstTime}
 use Rattle.net_node.specs.Table.{nodeAt, Room, floatWidth, numberWidth}
-use Rattle.net_strands.specs.declared.EstJoinPath.{EstJoinPath}
-use Rattle.net_strands.specs.Entries.{nodeOf, Valid}
-use Rattle.net_strands.proofs.EstJoinPath as X
-use Rattle.net_strands.proofs.EstJoinPath.Laws as X′
+use Rattle.net_join_paths.specs.declared.EstJoinPath.{EstJoinPath}
+use Rattle.net_join_paths.specs.Entries.{nodeOf, Valid}
+use Rattle.net_join_paths.proofs.EstJoinPath as X
+use Rattle.net_join_paths.proofs.EstJoinPath.Laws as X′
 use Rattle.net_joins.specs.declared.SpeedJoin.{SpeedJoin}
 use Rattle.net_joins.specs.Joins.{closer, closestOf, closest}
 use Rattle.net_joins.proofs.SpeedJoin

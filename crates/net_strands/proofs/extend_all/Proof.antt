@@ -4,8 +4,8 @@ use mathlib.Core.Path.{refl, _∙_}
 use Prim.Native.Nat.{_-_}
 use native.Mathlib.Omega.{arith}
 use Rattle.net_node.specs.Table.{nodeAt}
+use Rattle.net_join_paths.proofs.Entries.{entry-valid}
 use Rattle.net_strands.specs.Space.{extended}
-use Rattle.net_strands.proofs.Entries.{entry-valid}
 use Rattle.net_strands.proofs.Extending.{gathering-start, gathering-whole, gathering-over, gathering-on}
 use Rattle.net_strands.proofs.Given.{noting-start, noting-on}
 use Rattle.net_strands.proofs.Rooms.{Building, room-same}

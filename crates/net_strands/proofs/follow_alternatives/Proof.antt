@@ -5,7 +5,7 @@ use Prim.Native.Nat.{_-_}
 use native.Mathlib.Omega.{arith}
 use lib.ListN.{length}
 use Rattle.net_node.specs.Table.{nodeAt}
-use Rattle.net_strands.specs.Entries.{entry, entriesIn}
+use Rattle.net_join_paths.specs.Entries.{entry, entriesIn}
 use Rattle.net_strands.specs.Space.{alternatives}
 use Rattle.net_strands.proofs.Alternatives.{Following, following-start, next-within, alternative-later, following-over, following-last, following-on}
 use Rattle.net_strands.proofs.follow_alternatives.Statement.{statement}

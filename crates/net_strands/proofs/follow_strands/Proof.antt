@@ -13,10 +13,10 @@ use Rattle.net_node.specs.Table.{nodeAt}
 use Rattle.net_event_map.specs.EventMap.{CellsApart}
 use Rattle.net_event_map.proofs.Kept.{apart-same}
 use Rattle.net_notes.specs.Log.{spanBegin, spanEnd, Touched}
-use Rattle.net_strands.specs.Steps.{opens}
+use Rattle.net_join_paths.proofs.Spans.{Pushed, pushed-start, pushed-then}
+use Rattle.net_stack.specs.Openings.{opens}
 use Rattle.net_strands.specs.Given.{WalkGives, Given}
 use Rattle.net_strands.proofs.Given.{given-kept, given-noted}
-use Rattle.net_strands.proofs.Opened.{Pushed, pushed-start, pushed-then}
 use Rattle.net_strands.proofs.Walking.{Since, since-begun, since-joined, since-next, since-popped, Popping, Standing, Closing, Turned, popping-start, popping-last, popping-on, popping-closes, closes-says, known-gives, standing-over, known-over, known-pushed, next-within, standing-turned}
 use Rattle.net_strands.proofs.follow_strands.Statement.{statement}
 use Rattle.net_strands.proofs.follow_strands.Tie as tie
