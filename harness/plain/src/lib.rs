@@ -32,6 +32,7 @@ mod table;
 
 use book::Book;
 use growth::Grown;
+use options::Options;
 
 /// "at most 65,535": no table has more places than that.
 const MOST_PLACES: usize = 65_535;
@@ -71,6 +72,12 @@ fn network(bytes: &[u8], places: usize, work: Option<u64>) -> Answer<(Grown, f64
     Ok((growth::grow(&book, &options, places)?, book.departure))
 }
 
+/// Rows 1 to 8 of a book: its options.
+fn searched(bytes: &[u8], places: usize, work: Option<u64>) -> Answer<Options> {
+    let book = Book::read(bytes, places.min(MOST_PLACES), work)?;
+    options::options(&book)
+}
+
 /// The whole way of a book.
 fn sheet(bytes: &[u8], places: usize, work: Option<u64>) -> Answer<Grown> {
     let (mut grown, departure) = network(bytes, places, work)?;
@@ -91,6 +98,14 @@ pub fn book(bytes: &[u8], places: usize, work: Option<u64>) -> Vec<u8> {
 pub fn grown(bytes: &[u8], places: usize, work: Option<u64>) -> Vec<u8> {
     match network(bytes, places, work) {
         Ok((grown, _)) => listing::grown(&grown),
+        Err(no) => listing::refused(no.number()),
+    }
+}
+
+/// The options of a book, the set and the kept origins by their links, or its refusal.
+pub fn options(bytes: &[u8], places: usize, work: Option<u64>) -> Vec<u8> {
+    match searched(bytes, places, work) {
+        Ok(options) => listing::options(&options),
         Err(no) => listing::refused(no.number()),
     }
 }

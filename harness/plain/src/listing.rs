@@ -4,6 +4,7 @@
 
 use crate::growth::Grown;
 use crate::node::{Kind, Node, Timed};
+use crate::options::Options;
 
 /// "Refused: `refused N`."
 pub fn refused(number: u32) -> Vec<u8> {
@@ -31,6 +32,25 @@ fn whole(grown: &Grown, is_timed: bool) -> Vec<u8> {
     word(&mut out, b"finished ", grown.finished, b'\n');
     lines(&mut out, &grown.nodes, is_timed);
     out
+}
+
+/// A line of the set's links, rising, and one of the kept origins' links in their order.
+pub fn options(options: &Options) -> Vec<u8> {
+    let set = (0..).zip(&options.set).filter(|(_, is_in)| **is_in).map(|(link, _)| link);
+    let mut out = Vec::with_capacity(64 + 6 * options.set.len());
+    row(&mut out, b"set", set);
+    row(&mut out, b"kept", options.kept.iter().map(|&link| link as usize));
+    out
+}
+
+/// A name and numbers on a line.
+fn row(out: &mut Vec<u8>, name: &[u8], numbers: impl Iterator<Item = usize>) {
+    out.extend(name);
+    for number in numbers {
+        out.push(b' ');
+        digits(out, number);
+    }
+    out.push(b'\n');
 }
 
 /// "Its report: nodes alone."
@@ -87,7 +107,12 @@ fn word(out: &mut Vec<u8>, name: &[u8], number: usize, close: u8) {
     decimal(out, number, close);
 }
 
-fn decimal(out: &mut Vec<u8>, mut number: usize, close: u8) {
+fn decimal(out: &mut Vec<u8>, number: usize, close: u8) {
+    digits(out, number);
+    out.push(close);
+}
+
+fn digits(out: &mut Vec<u8>, mut number: usize) {
     let start = out.len();
     loop {
         out.push(b'0' + (number % 10) as u8);
@@ -97,7 +122,6 @@ fn decimal(out: &mut Vec<u8>, mut number: usize, close: u8) {
         }
     }
     out[start..].reverse();
-    out.push(close);
 }
 
 fn float(out: &mut Vec<u8>, x: f64, close: u8) {

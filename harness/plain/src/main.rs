@@ -5,7 +5,7 @@ use std::io::{self, BufReader, BufWriter, ErrorKind, Read, Write};
 use std::process::ExitCode;
 
 const USAGE: &str = "\
-usage: plain books [--places P] [--work BYTES]
+usage: plain books|options [--places P] [--work BYTES]
        plain tables
        plain events
        plain roots";
@@ -14,8 +14,11 @@ fn main() -> ExitCode {
     let arguments: Vec<String> = std::env::args().skip(1).collect();
     let words: Vec<&str> = arguments.iter().map(String::as_str).collect();
     let done = match words.as_slice() {
-        ["books", options @ ..] => match book_options(options) {
-            Some((places, work)) => items(|item| plain::book(item, places, work)),
+        [what @ ("books" | "options"), settings @ ..] => match book_settings(settings) {
+            Some((places, work)) => {
+                let answer = if *what == "books" { plain::book } else { plain::options };
+                items(|item| answer(item, places, work))
+            }
             None => return usage(),
         },
         ["tables"] => items(plain::table),
@@ -38,17 +41,17 @@ fn usage() -> ExitCode {
 }
 
 /// Places and work space; defaults: 65,535, and as much as the book asks for.
-fn book_options(mut options: &[&str]) -> Option<(usize, Option<u64>)> {
+fn book_settings(mut settings: &[&str]) -> Option<(usize, Option<u64>)> {
     let (mut places, mut work) = (65_535, None);
-    while let [name, value, rest @ ..] = options {
+    while let [name, value, rest @ ..] = settings {
         match *name {
             "--places" => places = value.parse().ok()?,
             "--work" => work = Some(value.parse().ok()?),
             _ => return None,
         }
-        options = rest;
+        settings = rest;
     }
-    options.is_empty().then_some((places, work))
+    settings.is_empty().then_some((places, work))
 }
 
 /// Answer each item in turn.

@@ -23,7 +23,7 @@ mod track {
 use book::{Book, Sample, MOST_PLACES};
 use bytes::{in_book, in_size, refuse_if, Fields};
 use meet_pass::disp_structs::{EstType, LinkEvent};
-use meet_pass::est_times::{make_est_times, EstTime, EstTimeNet};
+use meet_pass::est_times::{get_link_idx_options, make_est_times, EstTime, EstTimeNet};
 use shims::track::{LinkIdx, LinkPoint};
 use shims::train::{Path, SpeedLimitTrainSim};
 use watch::{Ending, Orders, Outcome, Stop};
@@ -63,6 +63,20 @@ pub fn grown(bytes: &[u8], places: usize, work: Option<u64>) -> Vec<u8> {
         let nodes = caught(outcome)?;
         report(out, &nodes, finished);
         listing::nodes(out, &nodes);
+        Ok(())
+    })
+}
+
+/// The published options search by itself: the links of its set, rising, and the links of the kept origins in their
+/// order, or `refused N` with N from 1 to 8.
+pub fn options(bytes: &[u8], places: usize, work: Option<u64>) -> Vec<u8> {
+    answer(|out| {
+        let book = Book::read(bytes, places, work)?;
+        let search = || get_link_idx_options(&book.origins, &book.destinations, &book.links);
+        let orders = Orders { places: places.min(MOST_PLACES), gap: book.gap, ..Orders::default() };
+        let (set, kept) = watch::run(orders, search).result?;
+        listing::row(out, "set", set.iter());
+        listing::row(out, "kept", kept.iter().map(|origin| &origin.link_idx));
         Ok(())
     })
 }

@@ -2,6 +2,7 @@
 
 use crate::meet_pass::disp_structs::EstType;
 use crate::meet_pass::est_times::EstTime;
+use crate::shims::track::LinkIdx;
 
 /// One line for each node: number, event, indices, floats.
 pub fn nodes(out: &mut Vec<u8>, nodes: &[EstTime]) {
@@ -31,6 +32,16 @@ pub fn events(out: &mut Vec<u8>, events: &[EstTime]) {
 pub fn line(out: &mut Vec<u8>, words: &[(&str, usize)]) {
     let words: Vec<String> = words.iter().map(|(word, count)| format!("{word} {count}")).collect();
     out.extend_from_slice(words.join(" ").as_bytes());
+    out.push(b'\n');
+}
+
+/// One line: a word and the links' numbers.
+pub fn row<'a>(out: &mut Vec<u8>, word: &str, links: impl Iterator<Item = &'a LinkIdx>) {
+    out.extend_from_slice(word.as_bytes());
+    for link in links {
+        field(out);
+        decimal(out, link.0);
+    }
     out.push(b'\n');
 }
 

@@ -1,4 +1,4 @@
-//! `reference books|grown|tables|events|roots`: answers a stream of items.
+//! `reference books|grown|options|tables|events|roots`: answers a stream of items.
 
 use std::io::{self, BufWriter, ErrorKind, Read, Write};
 
@@ -23,6 +23,7 @@ fn main() -> io::Result<()> {
     match what.as_str() {
         "books" => items(|item| reference::book(item, settings.places, settings.work)),
         "grown" => items(|item| reference::grown(item, settings.places, settings.work)),
+        "options" => items(|item| reference::options(item, settings.places, settings.work)),
         "tables" => items(reference::table),
         "events" => items(reference::events),
         "roots" => roots(),
@@ -32,11 +33,11 @@ fn main() -> io::Result<()> {
 
 /// Whether the items are books.
 fn is_book(what: &str) -> bool {
-    what == "books" || what == "grown"
+    matches!(what, "books" | "grown" | "options")
 }
 
 fn usage() -> ! {
-    eprintln!("reference books|grown [--places P] [--work BYTES] | tables | events | roots");
+    eprintln!("reference books|grown|options [--places P] [--work BYTES] | tables | events | roots");
     std::process::exit(2)
 }
 

@@ -37,6 +37,19 @@ fn books() {
 }
 
 #[test]
+fn options() {
+    let mut book = worked();
+    let good = book.bytes();
+    book.destinations.push(0);
+    let items = stream(&[&good, &[], &book.bytes()]);
+    let expected = "== 0\nset 1 2\nkept 1\n== 1\nrefused 1\n== 2\nrefused 8\n";
+    assert_eq!(program(&["options"], &items), expected);
+    assert_eq!(program(&["options", "--places", "7", "--work", "65536"], &items), expected);
+    let small = "== 0\nrefused 3\n== 1\nrefused 1\n== 2\nrefused 3\n";
+    assert_eq!(program(&["options", "--work", "36864"], &items), small);
+}
+
+#[test]
 fn tables_and_events() {
     // A departure and 3 nodes of zeros; a length and no sample, no point, no place.
     assert_eq!(program(&["tables"], &stream(&[&[0; 8 + 3 * 56]])), "== 0\nrefused 14\n");
