@@ -1,4 +1,5 @@
-//! Single books on each limit of rows 3 and 12, from both sides; trains that stand on points.
+//! Single books on each limit of rows 3 and 12, from both sides; trains that stand on points; the options search at the
+//! largest counts.
 
 use crate::book::{work_asked, Book, Leg, Link};
 use crate::books::BookItem;
@@ -185,6 +186,73 @@ fn many_destinations(count: usize) -> Book {
     Book { destinations: vec![2; count], ..example() }
 }
 
+/// How many ways the books of `rings` have.
+const WAYS: usize = 1_000;
+
+/// What a way's destination leads back to, behind the links of its ring.
+#[derive(Clone, Copy, PartialEq)]
+enum Back {
+    /// The origin, as the alternative of the ring's last link.
+    Kept,
+    /// The same, but that link has no previous: the origin is not reached.
+    Cut,
+    /// The ring alone. The origin is the previous of an origin, that of the way two before: it is not reached either.
+    Behind,
+}
+
+/// Ways of `size` links each: an origin, the destination that follows it, and a ring through which the destination's
+/// previous pointers lead back to the destination. A kept origin has the legs of a run. `order`: the way of each
+/// origin's row; the destinations stand in the order of the ways, so the search takes the last way first.
+fn rings(size: impl Fn(usize) -> usize, back: impl Fn(usize) -> Back, order: impl Fn(usize) -> usize) -> Book {
+    let mut book = Writer(Book { links: vec![], destinations: vec![], legs: vec![], ..example() });
+    let mut starts = vec![];
+    book.0.links.push(Link::default());
+    for way in 0..WAYS {
+        let (origin, size) = (book.0.links.len(), size(way));
+        starts.push(origin);
+        book.0.links.extend(ring(origin, size, back(way)));
+        book.0.destinations.push(origin as u32 + 1);
+        if back(way) == Back::Behind {
+            book.0.links[starts[way - 2]].prev = origin as u32;
+        }
+        if back(way) == Back::Kept || way == 0 {
+            let first = book.leg(origin, 0, &[[0.0, 10.0, 0.0]]);
+            book.leg(origin + 1, first, &[[4.0, 18.0, 4.0], [8.0, 34.0, 4.0]]);
+        }
+    }
+    book.0.origins = origins((0..WAYS).map(|row| starts[order(row)]));
+    book.0
+}
+
+/// The links of one way, from its origin on. What is cut off has its circle by the alternative of the link before.
+fn ring(origin: usize, size: usize, back: Back) -> Vec<Link> {
+    let (goal, last) = (origin + 1, origin + size - 1);
+    let mut links = vec![link(12.0, goal, 0, 0), link(100.0, 0, 0, goal + 1)];
+    links.extend((goal + 1..=last).map(|own| link(1.0, 0, 0, own + 1)));
+    let end = &mut links[size - 1];
+    end.prev = if back == Back::Cut { 0 } else { goal as u32 };
+    end.prev_alt = if back == Back::Behind { 0 } else { origin as u32 };
+    if back == Back::Cut && size > 2 {
+        links[size - 2].prev_alt = goal as u32;
+    }
+    links
+}
+
+/// `count` links, of which each but the last leads back to link 1 and, as the alternative, to the next; link 1 is all
+/// of 1,000 destinations, the last the only origin. The search puts two links on its stack for each that it takes: when
+/// it has taken the last but one there are `count - 2` more than at first.
+fn deep_stack(count: usize) -> Book {
+    let last = count - 1;
+    let mut book = Writer(Book { links: vec![Link::default()], legs: vec![], ..many_destinations(1_000) });
+    book.0.links.extend((1..last).map(|own| Link { prev_alt: own as u32 + 1, ..link(100.0, 0, 0, 1) }));
+    book.0.links.push(link(12.0, 1, 0, 0));
+    book.0.origins = origins(last..count);
+    book.0.destinations.fill(1);
+    let first = book.leg(last, 0, &[[0.0, 10.0, 0.0]]);
+    book.leg(1, first, &[[4.0, 18.0, 4.0], [8.0, 34.0, 4.0]]);
+    book.0
+}
+
 /// The example with a last leg that stands for long: `count` samples in all.
 fn many_samples(count: usize) -> Book {
     let mut book = example();
@@ -248,6 +316,7 @@ pub fn limits() -> Vec<Limit> {
     tables_and_events(&mut list);
     times(&mut list);
     standing(&mut list);
+    options(&mut list);
     list.0
 }
 
@@ -445,6 +514,25 @@ fn standing(list: &mut List) {
             list.stands();
         }
     }
+}
+
+/// The options search with 1,000 origins and 1,000 destinations, with circles of previous pointers, and with the
+/// deepest stack. What is expected follows from how the books are made: each kept origin has a run of its own over two
+/// links, as in `many_origins`, so `kept` of them give `6 · kept + 2` nodes. That this is the reference's and `plain`'s
+/// answer is looked at by `compare limits`; which origins they keep, in which order, by generator/tests/options.rs.
+/// Where all are kept, the last number of the search's part is that of the last row: it isn't 0, as it would be if it
+/// were not written.
+fn options(list: &mut List) {
+    let all = rings(|way| 2 + way % 9, |_| Back::Kept, |row| WAYS - 1 - row);
+    list.book("1,000 origins, all kept, circles of 1 to 9 links", &all, "nodes 6002 ");
+    let most = rings(|way| 65 + (way < 534) as usize, |_| Back::Kept, |row| (row + 1) % WAYS);
+    list.book("1,000 origins, all kept, 65,535 links in circles", &most, "nodes 6002 ");
+    let none = rings(|way| 2 + way % 9, |_| Back::Cut, |row| row);
+    list.book("1,000 origins, none kept, circles", &none, "refused 8");
+    let by_thirds = |way: usize| [Back::Kept, Back::Cut, Back::Behind][way % 3];
+    let some = rings(|way| 2 + way % 9, by_thirds, |row| (617 * row + 5) % WAYS);
+    list.book("1,000 origins, 334 kept, circles", &some, "nodes 2006 ");
+    list.book("65,535 links, options' stack of 66,533 numbers", &deep_stack(65_535), "nodes 8 ");
 }
 
 /// A book at or near one of the limits of row 12: lists of about 1,024, walks of 4,095 to 4,097.
