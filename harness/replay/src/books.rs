@@ -53,17 +53,20 @@ pub(crate) fn refill<T: Copy>(slice: &mut Vec<T>, len: usize, value: T) {
     slice.resize(len, value);
 }
 
-/// What row 3 asks for by the counts as they stand, none of them above its limit.
-pub fn asked(bytes: &[u8], places: usize) -> u64 {
+/// The counts of links, origins, destinations and legs as they stand, none of them above its limit.
+pub(crate) fn counts(bytes: &[u8]) -> [usize; 4] {
     let count = |at: usize| bytes.get(at..at + 4).map_or(0, |b| u32::from_le_bytes(b.try_into().unwrap()) as usize);
     let mut at = 24;
-    let mut rows = 0;
-    for (width, limit) in [(24, 65_535), (16, 1_000), (4, 1_000), (12, 65_535)] {
+    [(24, 65_535), (16, 1_000), (4, 1_000), (12, 65_535)].map(|(width, limit)| {
         let n = count(at);
-        rows += n.min(limit);
         at += 4 + n * width;
-    }
-    36_864 + 64 * (rows + places.min(65_535)) as u64
+        n.min(limit)
+    })
+}
+
+/// What row 3 asks for by the counts as they stand, none of them above its limit.
+pub fn asked(bytes: &[u8], places: usize) -> u64 {
+    36_864 + 64 * (counts(bytes).iter().sum::<usize>() + places.min(65_535)) as u64
 }
 
 /// The library's number of a book, in work space that is lent already.

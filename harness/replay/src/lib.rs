@@ -1,9 +1,10 @@
-//! Drives the proved static library, and holds it to outside answers. It calls the archive's own functions, `keldurap_raw_..`, which compute in the
+//! Drives the proved static libraries, and holds them to outside answers. It calls the archive's own functions, `keldurap_raw_..`, which compute in the
 //! caller's floating-point mode: this process never leaves the default one.
 pub mod books;
 pub mod events;
 pub mod jobs;
 mod listing;
+pub mod options;
 pub mod room;
 pub mod roots;
 pub mod sizes;

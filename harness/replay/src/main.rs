@@ -1,11 +1,11 @@
 //! The programs over the proved static library.
 use replay::jobs::{GROWN, SHEETS};
-use replay::{books, events, roots, sizes, tables};
+use replay::{books, events, options, roots, sizes, tables};
 use std::process::ExitCode;
 
 const USAGE: &str = "\
-replay books|grown [--places P] [--work BYTES] | tables | events | roots      answers a stream from standard input
-replay check-books|check-grown|check-sheets|check-sizes|check-damage|check-tables|check-events|check-roots [N [SEED]]
+replay books|grown|options [--places P] [--work BYTES] | tables | events | roots      answers a stream from standard input
+replay check-books|check-options|check-grown|check-sheets|check-sizes|check-damage|check-tables|check-events|check-roots [N [SEED]]
 replay check-limits
 Exit status 1: a difference, or the reference has an answer to nothing.";
 
@@ -46,9 +46,18 @@ fn settings(words: &[String]) -> Option<(usize, Option<u64>)> {
     Some((places, work))
 }
 
+/// A stream of books.
+fn books_answered(what: &str, places: usize, work: Option<u64>) -> std::io::Result<()> {
+    match what {
+        "books" => SHEETS.replay(places, work),
+        "grown" => GROWN.replay(places, work),
+        _ => options::replay(places, work),
+    }
+}
+
 /// The named limits of every entry.
 fn limits() -> u64 {
-    books::check_limits() + GROWN.check_limits() + SHEETS.check_limits() + events::check_limits() + tables::check_limits()
+    books::check_limits() + options::check_limits() + GROWN.check_limits() + SHEETS.check_limits() + events::check_limits() + tables::check_limits()
 }
 
 /// Damaged books, through the reading and the whole job.
@@ -60,14 +69,15 @@ fn main() -> ExitCode {
     let words: Vec<String> = std::env::args().skip(1).collect();
     let number = |i: usize, or: u64| words.get(i).and_then(|w| w.parse().ok()).unwrap_or(or);
     match words.first().map_or("", String::as_str) {
-        what @ ("books" | "grown") => match settings(&words[1..]) {
-            Some((places, work)) => replayed(if what == "books" { SHEETS } else { GROWN }.replay(places, work)),
+        what @ ("books" | "grown" | "options") => match settings(&words[1..]) {
+            Some((places, work)) => replayed(books_answered(what, places, work)),
             None => usage(),
         },
         "tables" => replayed(tables::replay()),
         "events" => replayed(events::replay()),
         "roots" => replayed(roots::replay()),
         "check-books" => verdict(books::check(number(1, 1_000_000), number(2, 1))),
+        "check-options" => verdict(options::check(number(1, 1_000_000), number(2, 1))),
         "check-grown" => verdict(GROWN.check(number(1, 1_000_000), number(2, 1))),
         "check-sheets" => verdict(SHEETS.check(number(1, 1_000_000), number(2, 1))),
         "check-sizes" => verdict(sizes::check(&SHEETS, number(1, 10_000), number(2, 1))),

@@ -42,6 +42,27 @@ fn settings() {
 }
 
 #[test]
+fn options() {
+    assert_eq!(printed(&["options"], &worked()), "== 0\nset 1 2\nkept 1\n");
+    assert_eq!(printed(&["options", "--places", "7"], &worked()), "== 0\nset 1 2\nkept 1\n");
+    assert_eq!(printed(&["options", "--work", "36864"], &worked()), "== 0\nrefused 3\n");
+    assert_eq!(program(&["options", "--places"], &worked()).status.code(), Some(2));
+}
+
+/// The stored books have the options that the second answer gives them.
+#[test]
+fn options_of_the_stored_books() {
+    let (mut expected, mut rest) = (String::new(), BOOKS);
+    while let Some((count, behind)) = rest.split_first_chunk() {
+        let (book, behind) = behind.split_at(u32::from_le_bytes(*count) as usize);
+        let number = expected.matches("== ").count();
+        expected += &format!("== {number}\n{}", String::from_utf8(plain::options(book, 65_535, None)).unwrap());
+        rest = behind;
+    }
+    assert_eq!(printed(&["options"], BOOKS), expected);
+}
+
+#[test]
 fn a_stream_that_is_cut_off() {
     let stream = worked();
     for length in [1, 3, 4, stream.len() - 1] {
