@@ -17,9 +17,9 @@ use Rattle.book_format.specs.Rows.{row5, row6, originRepeats, someBadPlace, som
 use Rattle.book_options.specs.Options.{Search, member, originBelow, stacked, pushed, enter, search, optionsOf, inSet, keptOrigins, none, destinationZero, row8}
 use Rattle.book_options.proofs.Walks.{origin-is}
 use Rattle.book_options.proofs.Apart.{member-more, member-here}
-use Rattle.copied_origins.specs.Copied.{Copy, rowsBelow, swapped, swept, sweptAll, CopySearch, enterCopy, searchCopy, copyOptions, keptCopies, copyRefuses}
-use Rattle.copied_origins.proofs.LinkZero.{zero-in-set}
-use Rattle.copied_origins.proofs.Swaps.{turned, turned-n, turned-other, turned-back, turned-most, swapped-at, swapped-length, keptNext, swept-none, swept-one}
+use Rattle.book_copied_origins.specs.Copied.{Copy, rowsBelow, swapped, swept, sweptAll, CopySearch, enterCopy, searchCopy, copyOptions, keptCopies, copyRefuses}
+use Rattle.book_copied_origins.proofs.LinkZero.{zero-in-set}
+use Rattle.book_copied_origins.proofs.Swaps.{turned, turned-n, turned-other, turned-back, turned-most, swapped-at, swapped-length, keptNext, swept-none, swept-one}
 
 -- ---- origins and their links
 
@@ -117,9 +117,9 @@ module _ (b : List ℕ) (h : row6 b ≡ false) (set kept : List ℕ) (c : Copy) 
     sweep-one =
         swept-one b l (origins b - c .kept) (c .kept) p c p-behind (omega (arith, p-most, v .most)) p-behind p-inside p-link
         (λ j x y d z.
-          let g : j < origins b = omega (arith, v .most) in
-          let r : getD (c .rows) j 0 ≡ o = one-origin b h (getD (c .rows) j 0) o (v .named j g) ho (z ∙ sym eo) in
-          d (sym (v .back j g) ∙ ap (v .place) r))
+        let g : j < origins b = omega (arith, v .most) in
+        let r : getD (c .rows) j 0 ≡ o = one-origin b h (getD (c .rows) j 0) o (v .named j g) ho (z ∙ sym eo) in
+        d (sym (v .back j g) ∙ ap (v .place) r))
 
     moved-at : (j : ℕ) → getD (swapped (c .rows) p (c .kept)) j 0 ≡ getD (c .rows) (turned p (c .kept) j) 0
     moved-at j = swapped-at p (c .kept) (c .rows) j p-inside (omega (arith, p-inside, p-behind))

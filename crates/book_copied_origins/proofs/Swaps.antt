@@ -11,7 +11,7 @@ use lib.ListN.{length, getD, set, length-set}
 use Rattle.laws.proofs.Truth.{equal-or-not}
 use Rattle.laws.proofs.Lists.{stored-at, kept-at}
 use Rattle.book_format.specs.Format.{originLink}
-use Rattle.copied_origins.specs.Copied.{Copy, swapped, looked, swept}
+use Rattle.book_copied_origins.specs.Copied.{Copy, swapped, looked, swept}
 
 -- ---- a swap
 
