@@ -1,7 +1,7 @@
--- The options search as the source does it (`get_link_idx_options`): it copies the origins and moves those that it keeps
--- to the front of the copy by swapping. "our smallest host has no room for a copy of them such as the source's options
--- search makes" (document 02, Ask 2). No code goes by these definitions: proofs/Theorem.antt says that the search
--- without a copy finds the same.
+-- The options search as the source does it (`get_link_idx_options`): it copies the origins, and moves those that it
+-- keeps to the end of the copy's kept part by swapping. "our smallest host has no room for a copy of them such as the
+-- source's options search makes" (document 02, Ask 2). No code goes by these definitions: proofs/Theorem.antt says that
+-- the search without a copy finds the same.
 use mathlib.Core.Bool.{Bool, true, false, _||_, cond}
 use mathlib.Core.List.{List, [], _∷_, _++_}
 use Prim.Native.Nat.{ℕ, zero, suc, _+_, _-_, _*_}

@@ -24,10 +24,11 @@ searchNumber b places bytes room = readFirst (readNumber b places bytes) (partNu
 
 -- A book searched: the number and how many origins are kept; the part of the work space that was lent to the search,
 -- and the work space of the reader, which is zero either way.
-pub record OptionsSearched (b : List ℕ) (places : ℕ) (lent left : Work) (given part : List ℕ) (kept r : ℕ) : Type 0 where
-  pub number : r ≡ searchNumber b places (bytesIn lent) (length given)
-  pub many : r ≡ 0 → kept ≡ length (keptOrigins b)
-  pub found : r ≡ 0 → OptionsIn b part
-  pub none : (r ≡ 0 → ⊥) → kept ≡ 0
-  pub zero : (r ≡ 0 → ⊥) → part ≡ zeros (length given)
-  pub work : Cleared lent left
+pub record OptionsSearched (b : List ℕ) (places : ℕ) (lent left : Work) (given part : List ℕ) (kept r : ℕ) : Type 0
+  where
+    pub number : r ≡ searchNumber b places (bytesIn lent) (length given)
+    pub many : r ≡ 0 → kept ≡ length (keptOrigins b)
+    pub found : r ≡ 0 → OptionsIn b part
+    pub none : (r ≡ 0 → ⊥) → kept ≡ 0
+    pub zero : (r ≡ 0 → ⊥) → part ≡ zeros (length given)
+    pub work : Cleared lent left

@@ -1,5 +1,5 @@
-// The options search by itself: an entry for tests, so that its set, its order and its number can be compared, in a part
-// of the work space of just the length that it asks for. It is no part of the library for users.
+// The options search by itself: an entry for tests, so that its set, its order and its number can be compared, in a
+// part of the work space of just the length that it asks for. It is no part of the library for users.
 // Contracts: specs/Searched.antt, specs/Steps.antt.
 use book_format::Sections;
 use book_options::LinkOptions;
