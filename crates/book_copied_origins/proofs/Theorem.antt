@@ -17,6 +17,7 @@ use Rattle.book_format.specs.Rows.{row5, row6, originRepeats, someBadPlace, som
 use Rattle.book_options.specs.Options.{Search, member, originBelow, stacked, pushed, enter, search, optionsOf, inSet, keptOrigins, none, destinationZero, row8}
 use Rattle.book_options.proofs.Walks.{origin-is}
 use Rattle.book_options.proofs.Apart.{member-more, member-here}
+use Rattle.book_options.proofs.Empties.{options-whole}
 use Rattle.book_copied_origins.specs.Copied.{Copy, rowsBelow, swapped, swept, sweptAll, CopySearch, enterCopy, searchCopy, copyOptions, keptCopies, copyRefuses}
 use Rattle.book_copied_origins.proofs.LinkZero.{zero-in-set}
 use Rattle.book_copied_origins.proofs.Swaps.{turned, turned-n, turned-other, turned-back, turned-most, swapped-at, swapped-length, keptNext, swept-none, swept-one}
@@ -242,6 +243,8 @@ front-is (suc n) (y ∷ rows) (x ∷ kept) e h g =
 
 -- What document 02 asks for beside the work space: "Set, order and number are those of before."
 pub record SameOptions (b : List ℕ) : Type 0 where
+  -- the pops are enough
+  pub whole : copyOptions b .stack ≡ []
   pub set : copyOptions b .set ≡ optionsOf b .set
   pub kept : keptCopies b ≡ keptOrigins b
   pub number : copyRefuses b ≡ row8 b
@@ -258,6 +261,7 @@ same-options b g h =
     let a = search-agrees b h (destinations b + 2 * links b) (stacked b (destinations b)) [] [] (record { rows = rowsBelow (origins b); kept = 0 }) (same-start b) in
     let n = copyOptions b .copy .kept in
     record {
+      whole = a .stack ∙ options-whole b g;
       set = a .set;
       kept = front-is n (copyOptions b .copy .rows) (optionsOf b .kept) (a .same .many) (omega (arith, a .same .most, a .same .sized)) (a .same .rows);
       number = ap (λ (s : List ℕ). member 0 s || eqb n 0) (a .set) ∙ ap (λ (t : Bool). t || eqb n 0) (zero-in-set b g) ∙ ap (λ (t : Bool). destinationZero b || t) (none-counted n (optionsOf b .kept) (a .same .many));

@@ -66,7 +66,7 @@ searchCopy (suc k) b (l ∷ stack) set c =
     let t = enterCopy b l (member l set) stack set c in
     searchCopy k b (t .stack) (t .set) (t .copy)
 
--- the whole search, with as many pops as empty the stack (`options-whole`, crates/book_options/proofs/Empties.antt)
+-- the whole search, with as many pops as empty the stack (`same-options`, proofs/Theorem.antt)
 unfoldable pub copyOptions : List ℕ → CopySearch
 unfolding searchCopy
 copyOptions b =

@@ -13,8 +13,8 @@ use Rattle.book_format.specs.declared.Sections.{Sections}
 use Rattle.book_reader.specs.declared.Reading.{Reading}
 use Rattle.book_reader.specs.declared.Reading.the-variants as reader
 use Rattle.book_reader.specs.Reader.{readNumber, readingNumber}
-use Rattle.options_for_tests.specs.declared.Search.{Search}
-use Rattle.options_for_tests.specs.declared.Search.the-variants.{Kept, Refused}
+use Rattle.options_for_tests.specs.declared.FoundOptions.{FoundOptions}
+use Rattle.options_for_tests.specs.declared.FoundOptions.the-variants.{Kept, Refused}
 use Rattle.options_for_tests.specs.Searched.{partNumber, readFirst, searchNumber, OptionsSearched}
 use Rattle.options_for_tests.specs.Steps.{searchedNumber, searchedKept, SearchedIn, SearchedAfter}
 
@@ -33,20 +33,20 @@ module _ {b given : List ℕ} {reading : Reading} where
   pub read-refused : {n : ℕ} → reading ≡ reader.Refused n → (n ≡ 0 → ⊥) → SearchedAfter b reading given given (Refused n)
   read-refused {n} e h = subst (λ (z : Reading). SearchedAfter b z given given (Refused n)) (sym e) (record { number = refused-first n (partNumber b (length given)) h; into = (h, refl) })
 
-  pub read-accepted : {part : List ℕ} {r : Search} {s : Sections} {n : ℕ} → reading ≡ reader.Accepted s n → SearchedAfter b (reader.Accepted s n) given part r → SearchedAfter b reading given part r
+  pub read-accepted : {part : List ℕ} {r : FoundOptions} {s : Sections} {n : ℕ} → reading ≡ reader.Accepted s n → SearchedAfter b (reader.Accepted s n) given part r → SearchedAfter b reading given part r
   read-accepted {part} {r} e = subst (λ (z : Reading). SearchedAfter b z given part r) (sym e)
 
 module _ (b given part : List ℕ) where
-  some-kept : (found : Search) → SearchedIn b given part found → searchedNumber found ≡ 0 → (searchedKept found ≡ length (keptOrigins b)) × OptionsIn b part
+  some-kept : (found : FoundOptions) → SearchedIn b given part found → searchedNumber found ≡ 0 → (searchedKept found ≡ length (keptOrigins b)) × OptionsIn b part
   some-kept (Kept n) h e = h
   some-kept (Refused n) h e = absurd (h .0 e)
 
-  none-kept : (found : Search) → SearchedIn b given part found → (searchedNumber found ≡ 0 → ⊥) → (searchedKept found ≡ 0) × (part ≡ given)
+  none-kept : (found : FoundOptions) → SearchedIn b given part found → (searchedNumber found ≡ 0 → ⊥) → (searchedKept found ≡ 0) × (part ≡ given)
   none-kept (Kept n) h e = absurd (e refl)
   none-kept (Refused n) h e = (refl, h .1)
 
 -- The reading is that of the lent work space; the part was made zero before the search.
-module _ {b : List ℕ} {places : ℕ} {lent left : Work} {given blank part : List ℕ} {reading : Reading} {found : Search} {kept r : ℕ} where
+module _ {b : List ℕ} {places : ℕ} {lent left : Work} {given blank part : List ℕ} {reading : Reading} {found : FoundOptions} {kept r : ℕ} where
   pub searched-whole : readingNumber reading ≡ readNumber b places (bytesIn lent) → blank ≡ zeros (length given) → SearchedAfter b reading blank part found → kept ≡ searchedKept found → r ≡ searchedNumber found → Cleared lent left
       → OptionsSearched b places lent left given part kept r
   unfolding searchNumber

@@ -17,13 +17,13 @@ ghost use Rattle.options_for_tests.specs.Searched.{OptionsSearched};
 ghost use Rattle.options_for_tests.specs.Steps.{ReadOnce, searchedNumber, searchedKept, SearchedAfter};
 
 // What the search found: how many origins are kept, or the number of a refusal.
-pub enum Search {
+pub enum FoundOptions {
     Kept(usize),
     Refused(u32),
 }
 
 // The search in a part of any length: 3 unless it is just as long as the search asks for.
-fn search_part(book: &[u8], s: Sections, kept: usize, part: &mut [u32]) -> Search
+fn search_part(book: &[u8], s: Sections, kept: usize, part: &mut [u32]) -> FoundOptions
     requires { ⌜ Readable (now book) s ⌝ }
     requires { ⌜ row6 (now book) ≡ false ⌝ }
     requires { ⌜ row8 (now book) ≡ false ⌝ }
@@ -31,42 +31,42 @@ fn search_part(book: &[u8], s: Sections, kept: usize, part: &mut [u32]) -> Searc
     ensures { λ r. ⌜ SearchedAfter (now (book .entry)) (Accepted s kept) (now (part .entry)) (now (part .exit)) r ⌝ }
 {
     if part.len() != book_options::search_room(s) {
-        return Search::Refused(3);
+        return FoundOptions::Refused(3);
     }
     let options = book_options::get_link_idx_options(book, s, part);
     match options {
-        LinkOptions::NoPath => Search::Refused(8),
-        LinkOptions::Kept(n) => Search::Kept(n),
+        LinkOptions::NoPath => FoundOptions::Refused(8),
+        LinkOptions::Kept(n) => FoundOptions::Kept(n),
     }
 }
 
 // The search after a reading that let the book through.
-fn search_after(book: &[u8], reading: Reading, part: &mut [u32]) -> Search
+fn search_after(book: &[u8], reading: Reading, part: &mut [u32]) -> FoundOptions
     requires { ⌜ ReadOnce (now book) reading ⌝ }
     requires { ⌜ now part ≡ zeros (length (now part)) ⌝ }
     ensures { λ r. ⌜ SearchedAfter (now (book .entry)) reading (now (part .entry)) (now (part .exit)) r ⌝ }
 {
     match reading {
-        Reading::Refused(n) => Search::Refused(n),
+        Reading::Refused(n) => FoundOptions::Refused(n),
         Reading::Accepted(s, kept) => search_part(book, s, kept, part),
     }
 }
 
-fn number_of(found: Search) -> u32
+fn number_of(found: FoundOptions) -> u32
     ensures { λ r. ⌜ r ≡ searchedNumber found ⌝ }
 {
     match found {
-        Search::Kept(_) => 0,
-        Search::Refused(n) => n,
+        FoundOptions::Kept(_) => 0,
+        FoundOptions::Refused(n) => n,
     }
 }
 
-fn kept_of(found: Search) -> usize
+fn kept_of(found: FoundOptions) -> usize
     ensures { λ r. ⌜ r ≡ searchedKept found ⌝ }
 {
     match found {
-        Search::Kept(n) => n,
-        Search::Refused(_) => 0,
+        FoundOptions::Kept(n) => n,
+        FoundOptions::Refused(_) => 0,
     }
 }
 
