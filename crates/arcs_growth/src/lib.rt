@@ -1,1 +1,2 @@
 // Arcs: definitions and theorems alone. See specs/Arcs.antt and proofs/.
+#![tactic(auto)]

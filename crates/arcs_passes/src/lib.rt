@@ -1,1 +1,2 @@
 // Both passes keep the arcs: theorems alone. See proofs/.
+#![tactic(auto)]

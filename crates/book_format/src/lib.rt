@@ -1,5 +1,7 @@
 // The format of a book: where its sections begin, its rows as structs by value, and tests of counts and samples.
 // Contracts: specs/Format.antt, specs/Rows.antt.
+#![tactic(auto)]
+
 ghost use Rattle.std.specs.Prelude.{◌≡◌, true, false, ◌+◌, ◌*◌, ◌≤◌, ◌<◌, length};
 ghost use Rattle.fields.specs.Fields.{u32_at};
 ghost use Rattle.floats.specs.Floats.{book_float};

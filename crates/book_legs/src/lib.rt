@@ -1,5 +1,7 @@
 // A book's legs: their chains in the work space, what row 7 says of their samples, and the search for a leg.
 // Contracts: book_format's specs/Chains.antt, specs/Legs.antt.
+#![tactic(auto)]
+
 ghost use Rattle.std.specs.Prelude.{◌≡◌, false, not, ◌||◌, List, ℕ, ◌+◌, ◌*◌, ◌-◌, ◌≤◌, ◌<◌, length};
 ghost use Rattle.space.specs.Space.{zeros};
 ghost use Rattle.book_format.specs.Format.{Sized, links, legs, samples, leg_parent, first_sample};

@@ -1,5 +1,7 @@
 // `get_link_idx_options`: the set of the links that the search from the destinations meets, and the origins kept
 // (row 8). Contracts: specs/Options.antt, specs/Turns.antt.
+#![tactic(auto)]
+
 ghost use Rattle.std.specs.Prelude.{◌≡◌, true, false, ℕ, ◌+◌, ◌*◌, ◌≤◌, ◌<◌, length, get_or};
 ghost use Rattle.space.specs.Space.{zeros};
 ghost use Rattle.book_format.specs.Format.{Sized, links, destinations};

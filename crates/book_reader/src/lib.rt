@@ -1,4 +1,6 @@
 // Reads a book: rows 1 to 8, the legs' chains and the link options. Contracts: specs/Reader.antt.
+#![tactic(auto)]
+
 ghost use Rattle.std.specs.Prelude.{◌≡◌, ◌*◌, min, length};
 ghost use Rattle.space.specs.Space.{bytes_of, zeros};
 ghost use Rattle.space.specs.Lent.{work_at_entry, work_at_exit};

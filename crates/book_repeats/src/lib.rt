@@ -1,5 +1,7 @@
 // Repeated origins (row 6) and repeated legs (row 7), found in one sweep each by a mark for every link.
 // Contracts: book_format's specs/Rows.antt.
+#![tactic(auto)]
+
 ghost use Rattle.std.specs.Prelude.{◌≡◌, false, ◌+◌, ◌≤◌, ◌<◌, length};
 ghost use Rattle.laws.specs.Below.{some_below};
 ghost use Rattle.space.specs.Space.{zeros};

@@ -1,5 +1,7 @@
 // Row 3, and what rows 4 to 7 say of single rows of a section.
 // Contracts: book_format's specs/Rows.antt, specs/Elements.antt.
+#![tactic(auto)]
+
 ghost use Rattle.std.specs.Prelude.{◌≡◌, true, List, ℕ, ◌+◌, ◌≤◌, ◌<◌, min, leb, eqb};
 ghost use Rattle.laws.specs.Below.{some_below, sum_below};
 ghost use Rattle.floats.specs.Floats.{book_float};

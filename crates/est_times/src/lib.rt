@@ -1,5 +1,7 @@
 // Estimated times: a book to its sheet. Contracts: specs/Sheet.antt, specs/Network.antt; of the inner functions
 // specs/Stages.antt.
+#![tactic(auto)]
+
 ghost use Rattle.std.specs.Prelude.{◌≡◌, true, ◌≤◌, length};
 ghost use Rattle.floats.specs.Floats.{book_float};
 ghost use Rattle.book_format.specs.Format.{departure_bits};

@@ -1,4 +1,6 @@
 // One event: its offset, its kind, and the time and speed at which the train passes it. Contracts: specs/Event.antt.
+#![tactic(auto)]
+
 ghost use Rattle.std.specs.Prelude.{◌≡◌};
 ghost use Rattle.std.specs.Float.Ieee.Scale.{finite};
 ghost use Rattle.event_formula.specs.Event.{event_offset, clears, time_at, passing_at, bad_passing};

@@ -1,4 +1,6 @@
 // The event maker: samples, points and a train's length in, the events of one leg out. Contract: specs/Maker.antt.
+#![tactic(auto)]
+
 ghost use Rattle.std.specs.Prelude.{◌≡◌, false, suc, ◌+◌, ◌*◌, ◌≤◌, ◌<◌, length};
 ghost use Rattle.book_format.specs.Format.{sample_width};
 ghost use Rattle.space.specs.Space.{zeros, zero_floats};

@@ -1,4 +1,6 @@
 // The walk along a path's points: where it begins, and the next point that is passed. Contracts: specs/Walk.antt.
+#![tactic(auto)]
+
 ghost use Rattle.std.specs.Prelude.{◌≡◌, true, false, ℕ, ◌+◌, ◌-◌, ◌*◌, ◌≤◌, ◌<◌, length, get_or};
 ghost use Rattle.std.specs.Float.{nan};
 ghost use Rattle.std.specs.Float.Ieee.{is_nan};

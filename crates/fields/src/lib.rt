@@ -1,4 +1,6 @@
 // The numbers that stand in a slice of bytes. Contracts: specs/Fields.antt.
+#![tactic(auto)]
+
 ghost use Rattle.std.specs.Prelude.{◌≡◌, ◌+◌, ◌*◌, ◌≤◌, length};
 ghost use Rattle.fields.specs.Fields.{u32_at, u64_at};
 

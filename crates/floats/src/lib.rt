@@ -1,4 +1,6 @@
 // The float tests and choices that document 01 names, one function each. Contracts: specs/Floats.antt.
+#![tactic(auto)]
+
 ghost use Rattle.std.specs.Prelude.{◌≡◌};
 ghost use Rattle.std.specs.Float.{binary64};
 ghost use Rattle.std.specs.Float.Ieee.{to_bits};

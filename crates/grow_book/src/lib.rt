@@ -1,5 +1,7 @@
 // Growth of a book's network: its origins, all runs, the ends. Contracts: grow_rules' specs/Growth.antt,
 // specs/Answers.antt.
+#![tactic(auto)]
+
 ghost use Rattle.std.specs.Prelude.{◌≡◌, true, false, not, ◌&&◌, ℕ, ◌+◌, ◌*◌, ◌≤◌, eqb, length};
 ghost use Rattle.net_node.specs.Left.{places_of};
 ghost use Rattle.net_node.specs.Table.{node_at};

@@ -1,5 +1,7 @@
 // Where a network begins and ends: nodes 0 and 1, a run's finish, the end Fakes and the last node. Contracts:
 // grow_rules' specs/Growth.antt, specs/Ends.antt.
+#![tactic(auto)]
+
 ghost use Rattle.std.specs.Prelude.{◌≡◌, ◌+◌, ◌*◌, ◌≤◌, ◌<◌, length};
 ghost use Rattle.net_node.specs.Table.{Room, float_width, number_width};
 ghost use Rattle.grow_rules.specs.Growth.{fake_node, leads_to_end, last_node};

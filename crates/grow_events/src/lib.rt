@@ -1,5 +1,7 @@
 // A run on its way: one event is joined or inserted, then all of a leg. Contracts: grow_rules' specs/Run.antt,
 // specs/Held.antt.
+#![tactic(auto)]
+
 ghost use Rattle.std.specs.Prelude.{◌≡◌, ℕ, ◌+◌, ◌≤◌, ◌<◌, length};
 ghost use Rattle.event_walk.specs.Course.{course_of, Held, Walkable};
 ghost use Rattle.event_walk.specs.Walk.{passed_from, some_bad, Within};

@@ -1,5 +1,7 @@
 // The network of a book before its times are known: an entry for tests, so that growth can be compared by itself.
 // Contracts: specs/Grown.antt.
+#![tactic(auto)]
+
 ghost use Rattle.std.specs.Prelude.{◌≡◌};
 ghost use Rattle.net_node.specs.Lent.{lent_at_entry, lent_at_exit};
 ghost use Rattle.grow_for_tests.specs.Grown.{grown_report, NetworkGrown};

@@ -1,5 +1,7 @@
 // One leg of the run at the front: its events, then a finish or the way on. Contracts: grow_rules' specs/Growth.antt,
 // grow_state's specs/Held.antt, specs/OneLeg.antt.
+#![tactic(auto)]
+
 ghost use Rattle.std.specs.Prelude.{◌≡◌, true, ℕ, ◌%◌, ◌≤◌, ◌<◌, ◌+◌, eqb, length, get_or};
 ghost use Rattle.book_format.specs.Format.{Sized, links};
 ghost use Rattle.book_format.specs.Chains.{Readable};

@@ -1,5 +1,7 @@
 // The kept origins of a book, inserted at the start of its network: each one's events, then its run, which waits.
 // Contracts: grow_rules' specs/Growth.antt, specs/Origins.antt.
+#![tactic(auto)]
+
 ghost use Rattle.std.specs.Prelude.{◌≡◌, false, ◌≢◌, ℕ, ◌+◌, ◌*◌, ◌≤◌, ◌<◌, length};
 ghost use Rattle.net_node.specs.Table.{node_at};
 ghost use Rattle.book_format.specs.Format.{links, origins, legs, origin_link};

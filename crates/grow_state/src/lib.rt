@@ -1,4 +1,6 @@
 // What growth keeps between two legs. Contracts: specs/Held.antt.
+#![tactic(auto)]
+
 ghost use Rattle.std.specs.Prelude.{◌≡◌, true, false, ◌≤◌, ◌<◌, length};
 ghost use Rattle.grow_state.specs.Held.{SomeDrive, SameDrive};
 

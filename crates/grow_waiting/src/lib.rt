@@ -1,4 +1,6 @@
 // The runs that wait, in the work space. Contracts: specs/Held.antt.
+#![tactic(auto)]
+
 ghost use Rattle.std.specs.Prelude.{◌≡◌, List, ◌∷◌, ◌+◌, ◌*◌, ◌≤◌, ◌<◌, length};
 ghost use Rattle.net_join_paths.specs.Entries.{entries_in};
 ghost use Rattle.grow_waiting.specs.Held.{waiting_of, SavedElsewhere, SomeWaits};

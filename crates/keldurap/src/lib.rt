@@ -1,6 +1,8 @@
 // The entries for other languages. Each is thin: it calls the proved function of its crate and hands on its answer.
 // Contracts: specs/Entries.antt. They hold in the default floating-point mode; include/keldurap.h and users/rust call
 // each of these raw entries in it, whatever the caller's is.
+#![tactic(auto)]
+
 ghost use Rattle.std.specs.Prelude.{◌≡◌, ◌≤◌};
 ghost use Rattle.std.specs.Float.{binary64};
 ghost use Rattle.report.specs.Numbers.{report_in};

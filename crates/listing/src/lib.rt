@@ -1,4 +1,6 @@
 // The listing of a sheet, as bytes. Contracts: specs/Listing.antt, specs/Written.antt.
+#![tactic(auto)]
+
 ghost use Rattle.std.specs.Prelude.{◌≡◌, [], ◌∷◌, ◌++◌, ◌-◌, ◌≤◌, ◌<◌, length, take};
 ghost use Rattle.std.proofs.Math.Option.{some};
 ghost use Rattle.space.specs.Space.{zeros};

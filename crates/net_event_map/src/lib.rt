@@ -1,4 +1,6 @@
 // The nodes of an event, kept in the work space: the source's `link_event_map`. Contracts: specs/EventMap.antt.
+#![tactic(auto)]
+
 ghost use Rattle.std.specs.Prelude.{◌≡◌, ℕ, ◌+◌, ◌*◌, ◌≤◌, ◌<◌, length, get_or};
 ghost use Rattle.net_node.specs.declared.EstTime.{EstTime};
 ghost use Rattle.net_event_map.specs.EventMap.{seen_in, arrive_at, clear_at, CellsApart, Mapped, MapOnly, Real};

@@ -1,4 +1,6 @@
 // Insertion of one event into the network: `insert_est_time`. Contracts: specs/Insertion.antt.
+#![tactic(auto)]
+
 ghost use Rattle.std.specs.Prelude.{◌≡◌, ◌+◌, ◌*◌, ◌≤◌, ◌<◌, length};
 ghost use Rattle.net_node.specs.Table.{node_at, Room, Indexed, with_next_alt, float_width, number_width};
 ghost use Rattle.net_node.specs.Lent.{table_at_entry};

@@ -1,5 +1,7 @@
 // Join entries and their lists: how a list lies in a slice, an entry put behind it, and the nodes of a span of it put
 // behind it once more. Contracts: specs/Entries.antt, specs/Spans.antt.
+#![tactic(auto)]
+
 ghost use Rattle.std.specs.Prelude.{◌≡◌, ◌+◌, ◌-◌, ◌*◌, ◌≤◌, ◌<◌, length};
 ghost use Rattle.net_notes.specs.Log.{span_begin, span_end};
 ghost use Rattle.net_join_paths.specs.Entries.{entry, entry_at, push, pushed_if, ListBecomes};

@@ -1,5 +1,7 @@
 // A run's joins: the choice among its entries, the join, the entries appended, and the three together for one event.
 // Contracts: specs/Joins.antt.
+#![tactic(auto)]
+
 ghost use Rattle.std.specs.Prelude.{◌≡◌, List, ℕ, ◌+◌, ◌*◌, ◌≤◌, ◌<◌, ltb, length, get_or};
 ghost use Rattle.net_node.specs.declared.EstTime.{EstTime};
 ghost use Rattle.net_node.specs.Table.{node_at, Room, Indexed, float_width, number_width};

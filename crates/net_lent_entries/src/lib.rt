@@ -1,4 +1,6 @@
 // The choice among join entries that are lent as a list of entries. Contracts: net_joins' specs/Joins.antt.
+#![tactic(auto)]
+
 ghost use Rattle.std.specs.Prelude.{◌≡◌, ◌+◌, ◌*◌, ◌≤◌, length};
 ghost use Rattle.net_node.specs.Table.{Room, float_width, number_width};
 ghost use Rattle.net_join_paths.specs.Entries.{Valid};

@@ -1,5 +1,7 @@
 // Insertion at a run's place that is lent and moved in place, as the source's `insert_est_time` has it. Contracts:
 // specs/LentPlace.antt and net_insertion's specs/Insertion.antt.
+#![tactic(auto)]
+
 ghost use Rattle.std.specs.Prelude.{◌≡◌, ◌+◌, ◌*◌, ◌≤◌, ◌<◌, length};
 ghost use Rattle.net_node.specs.Table.{node_at, Room, Indexed};
 ghost use Rattle.net_insertion.specs.Insertion.{inserted, InsertedInto, flagged};

@@ -1,4 +1,6 @@
 // A node of the network and its event, and the table of nodes in two lent slices. Contracts: specs/Table.antt.
+#![tactic(auto)]
+
 ghost use Rattle.std.specs.Prelude.{◌≡◌, ◌+◌, ◌*◌, ◌≤◌, length};
 ghost use Rattle.net_node.specs.Lent.{table_at_entry};
 ghost use Rattle.net_node.specs.Left.{filled, places_of, kind_at, floats_kept, numbers_kept};

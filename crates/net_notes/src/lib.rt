@@ -1,6 +1,8 @@
 // What is noted of a node while a run's join entries are followed for one event, which `net_strands` does: spans of the
 // new list. And the log of the nodes of which something is noted, by which all of it is taken back. Contracts:
 // specs/Log.antt.
+#![tactic(auto)]
+
 ghost use Rattle.std.specs.Prelude.{◌≡◌, cond, List, ℕ, ◌≤◌, ◌<◌, length};
 ghost use Rattle.net_event_map.specs.EventMap.{CellsApart};
 ghost use Rattle.net_notes.specs.Log.{note_in, span_number, LogIn, Touched, Notes, Ungiven};

@@ -1,6 +1,8 @@
 // The stack of a strand walk, which `net_strands` does: alternatives that are still to be walked, and nodes of which
 // what they give is noted when all that they stacked is walked. And where a strand is left. Contracts:
 // specs/Stack.antt, specs/Openings.antt.
+#![tactic(auto)]
+
 ghost use Rattle.std.specs.Prelude.{◌≡◌, ◌+◌, ◌-◌, ◌≤◌, ◌<◌, length};
 ghost use Rattle.net_event_map.specs.EventMap.{CellsApart};
 ghost use Rattle.net_notes.specs.Log.{matched_column, note_in, span_number, Notes};

@@ -1,5 +1,7 @@
 // A run's join entries, followed along the network to the nodes that have an event: `update_join_paths_space`.
 // Contracts: specs/Space.antt; of the inner functions specs/Steps.antt, specs/Walks.antt, specs/Given.antt.
+#![tactic(auto)]
+
 ghost use Rattle.std.specs.Prelude.{◌≡◌, [], ◌≤◌, ◌<◌, length};
 ghost use Rattle.net_node.specs.Table.{node_at, Room, Indexed};
 ghost use Rattle.net_event_map.specs.EventMap.{CellsApart};

@@ -1,1 +1,2 @@
 // Which answers a request has changed: theorems alone. See specs/ and proofs/.
+#![tactic(auto)]

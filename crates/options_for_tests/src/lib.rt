@@ -1,6 +1,8 @@
 // The options search by itself: an entry for tests, so that its set, its order and its number can be compared, in a
 // part of the work space of just the length that it asks for. It is no part of the library for users.
 // Contracts: specs/Searched.antt, specs/Steps.antt.
+#![tactic(auto)]
+
 ghost use Rattle.std.specs.Prelude.{◌≡◌, false, length};
 ghost use Rattle.space.specs.Space.{zeros};
 ghost use Rattle.space.specs.Lent.{work_at_entry, work_at_exit};

@@ -1,5 +1,7 @@
 // The checks and both time passes over a network: rows 14 to 16. Contracts: pass_rules' specs/Passes.antt,
 // specs/Answers.antt.
+#![tactic(auto)]
+
 ghost use Rattle.std.specs.Prelude.{◌≡◌, false, ℕ, ◌+◌, ◌*◌, ◌≤◌, length};
 ghost use Rattle.laws.specs.Answer.{and_then};
 ghost use Rattle.space.specs.Space.{zeros};

@@ -1,5 +1,7 @@
 // The backward time pass: `update_times_backward`. Contracts: pass_rules' specs/Backward.antt, pass_state's
 // specs/Held.antt and specs/Promises.antt, specs/Strands.antt.
+#![tactic(auto)]
+
 ghost use Rattle.std.specs.Prelude.{◌≡◌, true, false, ℕ, ◌+◌, ◌-◌, ◌*◌, ◌≤◌, ◌<◌, length};
 ghost use Rattle.net_node.specs.Table.{float_width, number_width, node_at, Room};
 ghost use Rattle.net_node.specs.Lent.{table_at_entry, table_at_exit};

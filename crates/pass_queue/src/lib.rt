@@ -1,4 +1,6 @@
 // The queue of a time pass: a binary heap in lent slices. Contracts: specs/Queue.antt, specs/Slots.antt.
+#![tactic(auto)]
+
 ghost use Rattle.std.specs.Prelude.{◌≡◌, ◌+◌, ◌*◌, ◌-◌, ◌≤◌, ◌<◌, length};
 ghost use Rattle.pass_queue.specs.Queue.{by_bits, before_forward, before_backward, before, Ordered, slot, Added};
 ghost use Rattle.pass_queue.specs.Queue.{Dropped, TakenOut};

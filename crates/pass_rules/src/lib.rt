@@ -1,4 +1,6 @@
 // The checks before the time passes, and the relinks of both. Contracts: specs/.
+#![tactic(auto)]
+
 ghost use Rattle.std.specs.Prelude.{◌≡◌, not, ◌&&◌, ◌+◌, ◌-◌, ◌≤◌, ◌<◌, length};
 ghost use Rattle.net_node.specs.Table.{node_at, Room};
 ghost use Rattle.net_node.specs.Lent.{table_at_entry};

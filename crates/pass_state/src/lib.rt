@@ -1,4 +1,6 @@
 // A time pass at work: which nodes are done, and its queue. Contracts: specs/Held.antt, specs/Promises.antt.
+#![tactic(auto)]
+
 ghost use Rattle.std.specs.Prelude.{◌≡◌, ◌+◌, ◌*◌, ◌≤◌, ◌<◌, length, set};
 ghost use Rattle.net_node.specs.Table.{float_width, number_width, set_time};
 ghost use Rattle.net_node.specs.Lent.{table_at_entry};

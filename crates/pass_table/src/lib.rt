@@ -1,4 +1,6 @@
 // The table entry: times a lent node table. Contracts: specs/TableEntry.antt, those of its parts specs/Parts.antt.
+#![tactic(auto)]
+
 ghost use Rattle.std.specs.Prelude.{◌≡◌, ◌||◌, [], ◌∷◌, ◌*◌, ◌≤◌, leb, ltb, length};
 ghost use Rattle.net_node.specs.Table.{float_width, number_width};
 ghost use Rattle.net_node.specs.Left.{nodes_in};

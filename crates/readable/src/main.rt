@@ -1,5 +1,7 @@
 // Reads a book from standard input and prints the number that it gets by rows 1 to 8, or that it is readable.
 // The limits are those of the program `sheet`: books of 65,536 bytes, 192 nodes, 65,536 bytes of work space.
+#![tactic(auto)]
+
 ghost use Rattle.std.specs.Prelude.{◌≡◌};
 ghost use Rattle.book_reader.specs.Reader.{read_number};
 

@@ -1,5 +1,7 @@
 // The report of a sheet: its five numbers, as a record and as callers of other languages have them. Contracts:
 // specs/Numbers.antt.
+#![tactic(auto)]
+
 ghost use Rattle.std.specs.Prelude.{◌≡◌};
 ghost use Rattle.report.specs.Numbers.{no_report, numbers_of, report_in};
 

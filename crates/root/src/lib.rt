@@ -1,5 +1,7 @@
 // The square root of an f64: guessed in floats, tested in whole numbers, and worked out digit by digit where the guess
 // is wrong. Contract: specs/Root.antt.
+#![tactic(auto)]
+
 ghost use Rattle.std.specs.Prelude.{◌≡◌, true};
 ghost use Prim.Native.Nat.{◌≤◌, ◌<◌, compare};
 ghost use Rattle.std.specs.Float.{binary64};

@@ -1,4 +1,6 @@
 // Reads bit patterns of eight bytes, the least significant byte first, and prints the pattern of each one's root.
+#![tactic(auto)]
+
 ghost use Rattle.std.specs.Prelude.{◌≡◌, take};
 ghost use Rattle.roots.specs.Roots.{little_endian, root_bits};
 ghost use Rattle.roots.specs.Roots.{answer as Roots·answer};

@@ -3,6 +3,8 @@
 // A program of this language has no exit status to give. Where standard output takes no more, as on a full disk or
 // where it is closed, a line on standard error says so; a write to a pipe that nobody reads ends the program by
 // SIGPIPE.
+#![tactic(auto)]
+
 use libc::{STDERR_FILENO, STDIN_FILENO, STDOUT_FILENO};
 
 // Says on standard error if not all was written.

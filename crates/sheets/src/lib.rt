@@ -1,4 +1,6 @@
 // A book to its listing, for programs. Contracts: specs/Sheets.antt.
+#![tactic(auto)]
+
 ghost use Rattle.net_node.specs.Lent.{lent_at_entry, lent_at_exit};
 ghost use Rattle.sheets.specs.Sheets.{BookListed, SheetText};
 

@@ -1,4 +1,6 @@
 // The work space in units, and making slices zero. Contracts: specs/Space.antt.
+#![tactic(auto)]
+
 ghost use Rattle.std.specs.Prelude.{◌≡◌, ◌++◌, ◌-◌, min, length, take};
 ghost use Rattle.space.specs.Space.{units_of, zeros, zero_floats};
 ghost use Rattle.space.specs.Lent.{work_at_entry, work_at_exit, Cleared};

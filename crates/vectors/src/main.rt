@@ -1,5 +1,7 @@
 // Answers a stream of books, each after its byte count (four bytes, little-endian, books to 65,536 bytes), as the
 // program `sheet` does, each behind a line `== K`, K from 0.
+#![tactic(auto)]
+
 use libc::{STDIN_FILENO, STDOUT_FILENO};
 
 // Answers the book of so many bytes that comes next, which is read into a slice; false if it is longer than that, or if

@@ -1,0 +1,619 @@
+#!/usr/bin/env python3
+"""Turns the proofs of a crate's functions, proofs/F/Proof.antt, to Invariants.antt and Answers.antt.
+
+usage: turn_walks.py NAMES CRATE [F ..]
+
+NAMES is the names.json that `rt check --generated DIR --old-names` writes for the crate in the folder CRATE. It turns the
+positional answers of `tie.spec` to answers by name, paths over `.before` to names of steps, places in a tuple of clauses to
+the clauses' names, and the variables of an invariant to fields of `l`. An answer that only says `search rules` or
+`omega arith` is left out, since the check finds it. It prints what it could not turn.
+"""
+
+import glob
+import json
+import os
+import re
+import sys
+
+NAME = r"[^\s(){}.;,@\"«»\[\]]+"
+OPEN, CLOSE = "([{", ")]}"
+
+
+def snake(s):
+    return s.replace("-", "_")
+
+
+def norm(s):
+    return re.sub(r"[-_]", "", s)
+
+
+# ---- the sources: clauses and parameters of each function
+
+class Fn:
+    def __init__(self):
+        self.requires, self.ensures, self.params = [], [], []
+
+    def mut(self):
+        return [n for n, t in self.params if t.startswith("&mut") or t.startswith("&'") and "mut" in t]
+
+    def mut_slices(self):
+        return [n for n, t in self.params if t.startswith("&mut [")]
+
+
+def clause_names(text, kind):
+    names = []
+    for m in re.finditer(r"\b%s\*?(?: (\w+))? \{" % kind, text):
+        names.append(m[1])
+    return names
+
+
+def functions(root):
+    got = {}
+    for f in glob.glob(os.path.join(root, "crates/*/src/**/*.rt"), recursive=True):
+        crate = f.split("crates/")[-1].split("/")[0]
+        text = re.sub(r"//[^\n]*", "", open(f, encoding="utf-8").read())
+        impl = [(m.start(), m[1]) for m in re.finditer(r"(?m)^impl(?:<[^>]*>)? (?:\w+ for )?(\w+)", text)]
+        ends = [m.start() for m in re.finditer(r"(?m)^\}", text)]
+        for m in re.finditer(r"(?m)^( *)(?:pub(?:\(\w+\))? )?(?:unsafe )?(?:extern \"C\" )?fn (\w+)(?:<[^>]*>)?\(", text):
+            depth, i = 1, m.end()
+            while depth:
+                depth += (text[i] == "(") - (text[i] == ")")
+                i += 1
+            params = text[m.end() : i - 1]
+            rest = text[i:]
+            # clauses up to the body: the first line that is `{` alone, or a `{` that is no clause's
+            body = re.search(r"(?m)^%s\{|\)?[^\n]*\{\n" % m[1], rest)
+            stop = re.search(r"(?m)^%s\{" % m[1], rest)
+            end = stop.start() if stop else body.start() if body else 0
+            nxt = re.search(r"\n%s(?:pub )?fn " % m[1], rest)
+            if nxt and nxt.start() < end:
+                end = 0
+            clauses = rest[:end]
+            fn = Fn()
+            fn.params = [(p[1], p[2].strip()) for p in re.finditer(r"(?:mut )?(\w+): ((?:[^,\[]|\[[^\]]*\])+)", params)]
+            fn.requires, fn.ensures = clause_names(clauses, "requires"), clause_names(clauses, "ensures")
+            of = ""
+            if m[1]:
+                for at, name in impl:
+                    if at < m.start():
+                        of = name
+            got[f"{crate}::{m[2]}"] = fn
+            if of:
+                got[f"{crate}::{of}::{m[2]}"] = fn
+            mod = os.path.relpath(f, os.path.join(root, "crates", crate, "src"))[:-3]
+            if mod not in ("lib", "main"):
+                got[f"{crate}::{mod.replace('/', '::')}::{m[2]}"] = fn
+    return got
+
+
+# ---- terms
+
+def split_top(text, sep):
+    parts, depth, start, i = [], 0, 0, 0
+    while i < len(text):
+        ch = text[i]
+        if ch in OPEN:
+            depth += 1
+        elif ch in CLOSE:
+            depth -= 1
+        elif ch == sep and not depth:
+            parts.append(text[start:i])
+            start = i + 1
+        i += 1
+    parts.append(text[start:])
+    return parts
+
+
+def arguments(text):
+    """The arguments of an application, atoms and parenthesized terms."""
+    args, i = [], 0
+    while i < len(text):
+        if text[i].isspace():
+            i += 1
+            continue
+        j, depth = i, 0
+        while j < len(text) and (depth or not text[j].isspace()):
+            depth += (text[j] in OPEN) - (text[j] in CLOSE)
+            j += 1
+        args.append(text[i:j])
+        i = j
+    return args
+
+
+def strip_parens(t):
+    t = t.strip()
+    while t.startswith("(") and matching(t, 0) == len(t) - 1:
+        inner = t[1:-1].strip()
+        if len(split_top(inner, ",")) > 1:
+            return t
+        t = inner
+    return t
+
+
+def matching(t, i):
+    depth = 0
+    for j in range(i, len(t)):
+        depth += (t[j] in OPEN) - (t[j] in CLOSE)
+        if not depth:
+            return j
+    return -1
+
+
+def lets(t):
+    """Leading `let .. in` of a term, and the rest."""
+    i = 0
+    while True:
+        m = re.compile(r"\s*let\s").match(t, i)
+        if not m:
+            return t[:i], t[i:]
+        depth, nest, j = 0, 1, m.end()
+        while True:
+            if t[j] in OPEN:
+                depth += 1
+            elif t[j] in CLOSE:
+                depth -= 1
+            elif not depth and re.compile(r"(?<![\w'-])let(?=\s)").match(t, j):
+                nest += 1
+            elif not depth and re.compile(r"(?<![\w'.-])in(?=[\s(])").match(t, j):
+                nest -= 1
+                if not nest:
+                    break
+            j += 1
+        i = j + 2
+
+
+def tuple_parts(t, n):
+    """A nested pair as n parts, or nothing."""
+    t = t.strip()
+    if not (t.startswith("(") and matching(t, 0) == len(t) - 1):
+        return None
+    parts = [p.strip() for p in split_top(t[1:-1], ",")]
+    parts = [p for p in parts if p]
+    if len(parts) == 1 and n > 1:
+        return tuple_parts(parts[0], n)
+    if len(parts) == n:
+        return parts
+    if len(parts) < 2:
+        return None
+    while len(parts) < n:
+        more = tuple_parts(parts[-1], n - len(parts) + 1)
+        if not more:
+            return None
+        parts = parts[:-1] + more
+    return parts if len(parts) == n else None
+
+
+# ---- one function
+
+class Turn:
+    def __init__(self, key, row, fns, crate, path, said):
+        self.row, self.fns, self.crate, self.path, self.said = row, fns, crate, path, said
+        self.places, self.by_old = {}, {}
+        for k, (old, parent, step, callee, *_more) in enumerate(row["places"]):
+            new = row["places_by_name"][k]
+            self.places[old] = dict(parent=parent, old=step[0], new=step[1], callee=callee, name=new)
+            self.by_old[norm(old)] = old
+        parts = path.split(".")
+        self.own = fns.get(f"{crate}::" + "::".join(parts)) or Fn()
+
+    def complain(self, text):
+        self.said.append(f"{self.crate}/{self.path}: {text}")
+
+    def place(self, name):
+        got = self.by_old.get(norm(name))
+        if not got:
+            for old, p in self.places.items():
+                if norm(p["name"]) == norm(name):
+                    return old
+        return got
+
+    def step(self, place, name):
+        p = place
+        while p:
+            if self.places[p]["old"] and norm(self.places[p]["old"]) == norm(name):
+                return p
+            p = self.places[p]["parent"]
+        p = place
+        while p:
+            if self.places[p]["new"] and norm(self.places[p]["new"]) == norm(name):
+                return p
+            p = self.places[p]["parent"]
+        return None
+
+    def follow(self, kind, comps):
+        """The components of a path, turned, and what they lead to."""
+        out, i = [], 0
+        while i < len(comps):
+            c = comps[i]
+            if kind[0] == "place":
+                if c == "before":
+                    out.append(c)
+                    kind = ("place", self.places[kind[1]]["parent"] if kind[1] else None)
+                    i += 1
+                    if not kind[1]:
+                        self.complain(f"a path goes beyond the start: {'.'.join(comps)}")
+                        return out + comps[i:], ("other",)
+                    continue
+                out = []
+                if c in ("args",):
+                    out.append(c)
+                    kind = ("args",)
+                elif c == "requires":
+                    out.append(c)
+                    kind = ("clauses", self.own.requires)
+                elif c in ("ranges", "lifetimes", "well_formed", "utf8"):
+                    out.append(c)
+                    kind = ("args",)
+                else:
+                    at = self.step(kind[1], c)
+                    if not at:
+                        self.complain(f"no step {c} at {kind[1]}")
+                        out.append(snake(c))
+                        kind = ("other",)
+                    else:
+                        out.append(self.places[at]["new"])
+                        kind = ("step", at)
+                i += 1
+            elif kind[0] == "args":
+                out.append(snake(c))
+                kind = ("other",)
+                i += 1
+            elif kind[0] == "step":
+                callee = self.fns.get(self.places[kind[1]]["callee"] or "")
+                out.append(snake(c) if not c[0].isdigit() else c)
+                if c == "ensures":
+                    kind = ("clauses", callee.ensures if callee else [])
+                elif c == "new":
+                    kind = ("tuple", callee.mut() if callee else [])
+                elif c == "auto":
+                    kind = ("tuple", callee.mut_slices() if callee else [])
+                else:
+                    kind = ("other",)
+                i += 1
+            elif kind[0] in ("clauses", "tuple"):
+                names = kind[1]
+                least = 2 if kind[0] == "clauses" else 1
+                if len(names) < least or not re.match(r"\d+$", c):
+                    out.append(c)
+                    kind = ("other",)
+                    i += 1
+                    continue
+                k = 0
+                while i < len(comps) and comps[i] == "1" and (kind[0] == "tuple" or k < len(names) - 1):
+                    k += 1
+                    i += 1
+                if kind[0] == "tuple" or k < len(names) - 1:
+                    if i < len(comps) and comps[i] == "0":
+                        i += 1
+                    else:
+                        self.complain(f"a path ends in a part of a tuple: {'.'.join(comps)}")
+                out.append(names[k] if k < len(names) and names[k] else "UNNAMED")
+                kind = ("other",)
+            else:
+                out.append(c)
+                i += 1
+        return out, kind
+
+    def turned(self, text, scope):
+        """A term with its paths turned. scope: what each variable stands for."""
+        scope = dict(scope)
+        out, i = [], 0
+        word = re.compile(r"(?<![\w'’.\-₀-₉])([a-zA-Z][\w'\-₀-₉]*)((?:\.%s)*)" % NAME)
+        pos = 0
+        while True:
+            m = word.search(text, pos)
+            if not m:
+                out.append(text[pos:])
+                break
+            out.append(text[pos : m.start()])
+            v, path = m[1], m[2]
+            if v in scope:
+                comps = path[1:].split(".") if path else []
+                new, kind = self.follow(scope[v], comps)
+                out.append(".".join([v] + new))
+                # an alias: `let x = PATH in`
+                head = re.search(r"(?<![\w'-])let ([\w'\-₀-₉]+) = $", "".join(out[:-1])[-80:])
+                if head and re.compile(r"\s+in(?=[\s(])").match(text, m.end()):
+                    scope[head[1]] = kind
+            else:
+                out.append(m[0])
+            pos = m.end()
+        return "".join(out)
+
+
+def declarations(text):
+    """The top-level declarations: (comment lines, text)."""
+    uses, decls, comment = [], [], []
+    lines = text.split("\n")
+    i = 0
+    while i < len(lines):
+        l = lines[i]
+        if l.startswith("use "):
+            uses.append(l)
+        elif l.startswith("--"):
+            comment.append(l)
+        elif l and not l[0].isspace():
+            block = [l]
+            name = re.match(r"(?:(?:abbrev|unfoldable|pub) )*(%s)" % NAME, l)[1]
+            j = i + 1
+            while j < len(lines):
+                n = lines[j]
+                if n.startswith("use ") or n.startswith("--"):
+                    break
+                if n and not n[0].isspace():
+                    first = re.match(r"(%s)" % NAME, n)
+                    if not (n.startswith("unfolding ") or first and first[1] == name):
+                        break
+                    if first and first[1] == name and re.match(r"%s :" % re.escape(name), n):
+                        break
+                block.append(n)
+                j += 1
+            decls.append((comment, name, "\n".join(block).rstrip()))
+            comment = []
+            i = j
+            continue
+        elif not l:
+            if comment and i + 1 < len(lines) and not lines[i + 1].startswith("--"):
+                decls.append((comment, None, ""))
+                comment = []
+        i += 1
+    return uses, decls
+
+
+def parts_of(name, text):
+    """(marks, type, unfolding line or '', binders, body) of a declaration of one equation."""
+    m = re.match(r"((?:(?:abbrev|unfoldable|pub) )*)%s :" % re.escape(name), text)
+    rest = text[m.end() :]
+    u = re.search(r"(?m)^unfolding [^\n]*$", rest)
+    e = re.search(r"(?m)^%s((?: [^\n=]*)?) =" % re.escape(name), rest)
+    if not e:
+        return None
+    sig = rest[: u.start() if u and u.start() < e.start() else e.start()]
+    return m[1], sig.strip(), (u[0] if u and u.start() < e.start() else ""), e[1].split(), rest[e.end() :]
+
+
+TRIVIAL = re.compile(r"^(search rules( depth \d+)?( fits \d+)?|omega arith|search \(rules, arith\))$")
+
+
+def main(argv):
+    names, crate_dir, only = argv[0], os.path.abspath(argv[1]), argv[2:]
+    crate = os.path.basename(crate_dir)
+    root = os.path.dirname(os.path.dirname(crate_dir))
+    rows = json.load(open(names, encoding="utf-8"))
+    fns = functions(root)
+    said = []
+    for f in sorted(glob.glob(os.path.join(crate_dir, "proofs/**/Proof.antt"), recursive=True)):
+        folder = os.path.dirname(f)
+        path = os.path.relpath(folder, os.path.join(crate_dir, "proofs")).replace("/", ".")
+        if only and path not in only or "+" in path:
+            continue
+        row = rows.get(f"Rattle-{crate}-proofs.{path}.Lts")
+        if not row:
+            said.append(f"{crate}/{path}: no row in {names}")
+            continue
+        text = open(f, encoding="utf-8").read()
+        if "tie.spec" not in text:
+            said.append(f"{crate}/{path}: no tie.spec")
+            continue
+        try:
+            turn_file(f, folder, path, row, fns, crate, text, said)
+        except Exception as e:  # noqa: BLE001
+            said.append(f"{crate}/{path}: {type(e).__name__} {e}")
+            if os.environ.get("TRACE"):
+                raise
+    print("\n".join(said))
+    return 0
+
+
+def turn_file(f, folder, path, row, fns, crate, text, said):
+    t = Turn(None, row, fns, crate, path, said)
+    uses, decls = declarations(text)
+    byname = {n: (c, d) for c, n, d in decls if n}
+    spec = [n for n in byname if n.endswith("_spec") and "tie.spec" in byname[n][1]][0]
+    _, _, spec_unfolds, _, body = parts_of(spec, byname[spec][1])
+    body = strip_parens(body)
+    assert body.startswith("tie.close"), body[:40]
+    inner = strip_parens(body[len("tie.close") :])
+    assert inner.startswith("tie.spec"), inner[:40]
+    args = arguments(inner[len("tie.spec") :])
+    nloops = len(row["loops"])
+    if row.get("pre"):
+        t.complain("a recursion")
+    needs = row["needs"]
+    loop_args, answers = args[: 2 * nloops], args[2 * nloops :]
+    if len(answers) != len(needs):
+        t.complain(f"{len(answers)} answers for {len(needs)} goals: {[n[0] for n in needs]}")
+        return
+    local = set(byname)
+    inv_out, ans_out = [], []
+    # invariants and measures
+    kept_for_inv = []
+    for k, ((old, new), variables) in enumerate(row["loops"]):
+        changed = row["changed"][k]
+        for what, arg in (("invariant", loop_args[2 * k]), ("decreases", loop_args[2 * k + 1])):
+            if arg in byname:
+                comment, d = byname[arg]
+                _, _, unfolds, binders, b = parts_of(arg, d)
+            else:
+                m = re.match(r"λ ([^.]*)\.(.*)$", strip_parens(arg), re.S)
+                comment, unfolds, binders, b = [], "", m[1].split(), m[2]
+            terms = [("l.initial." if ch else "l.") + v for v, ch in zip(variables, changed)]
+            terms += ["l." + v for v, ch in zip(variables, changed) if ch]
+            if len(binders) != len(terms):
+                t.complain(f"{what}-{new}: {len(binders)} variables for {terms}")
+                continue
+            sub = {x: y for x, y in zip(binders, terms) if x != "_"}
+            b = substituted(b, sub)
+            inv_out.append("\n".join(comment + [f"abbrev pub {what}-{new} : goal.{what}-{new}"] + ([unfolds] if unfolds else []) + [f"{what}-{new} l ={b}"]))
+    # answers
+    used = {}
+    wants = set()
+    order = []
+    for (old, new), at, arg in zip(needs, row["asked_at"], answers):
+        comment = []
+        unfolds = spec_unfolds
+        if arg in byname:
+            comment, d = byname[arg]
+            got = parts_of(arg, d)
+            if not got:
+                t.complain(f"{arg}: no equation")
+                continue
+            _, _, unfolds, binders, b = got
+            used[arg] = new
+            if not binders and re.match(r"\s*λ", b):
+                m = re.match(r"\s*λ ([^.]*)\.(.*)$", b, re.S)
+                binders, b = m[1].split(), m[2]
+        else:
+            s = strip_parens(arg)
+            m = re.match(r"λ ([^.]*)\.(.*)$", s, re.S)
+            if not m:
+                t.complain(f"{new}: the answer is {s[:60]}")
+                continue
+            binders, b = m[1].split(), m[2]
+        if TRIVIAL.match(b.strip()) and not unfolds:
+            continue
+        if len(binders) > 2 or len(binders) == 2 and re.search(r"(?<![\w-])%s(?![\w-])" % re.escape(binders[1]), b):
+            b = "λ " + " ".join(binders[1:]) + ". " + b if len(binders) > 2 else b
+            t.complain(f"{new}: binders {binders}")
+        place = t.place(at[0])
+        var = binders[0]
+        b = t.turned(b, {var: ("place", place)})
+        clauses = None
+        m = re.match(r"(.*)-requires(-\d+)?$", old)
+        if m:
+            short = norm(m[1])
+            for callee in row["params"]:
+                if norm(callee.split("::")[-1]) == short and callee in fns:
+                    clauses = fns[callee].requires
+        elif re.match(r"returns(-\d+)?$", old):
+            clauses = t.own.ensures
+        if clauses and len(clauses) > 1 and not TRIVIAL.match(b.strip()):
+            b = by_clauses(b, clauses, t, new)
+        ans_out.append((new, "\n".join(comment + [f"pub {new} : goal.{new}"] + ([unfolds] if unfolds else []) + [f"{new} {var} ={b if b[:1].isspace() else ' ' + b}"])))
+        order.append(new)
+    # helpers, in their order among the answers
+    helpers = []
+    for comment, n, d in decls:
+        if n is None:
+            continue
+        if n == spec or n in used or n in loop_args:
+            continue
+        if re.search(r": *tie\.(Need-|invariant|decreases)", d.split("\n")[0]):
+            continue
+        m = re.search(r"tie\.(%s)" % NAME, d)
+        new = d
+        if m:
+            def place_type(mm):
+                p = t.place(mm[1])
+                if not p:
+                    t.complain(f"no place {mm[1]}")
+                    return mm[0]
+                wants.add(t.places[p]["name"])
+                return t.places[p]["name"]
+            bind = re.findall(r"\((%s) : tie\.(%s)" % (NAME, NAME), d)
+            scope = {v: ("place", t.place(p)) for v, p in bind if t.place(p)}
+            first = re.match(r"(?:(?:abbrev|unfoldable|pub) )*%s : tie\.(%s)" % (re.escape(n), NAME), d)
+            if first and t.place(first[1]):
+                e = re.search(r"(?m)^%s (%s)" % (re.escape(n), NAME), d)
+                if e:
+                    scope[e[1]] = ("place", t.place(first[1]))
+            eq = re.search(r"(?m)^%s ((?:%s )*)=" % (re.escape(n), NAME), d)
+            if eq and bind:
+                for v, (_, p) in zip(eq[1].split(), bind):
+                    if t.place(p):
+                        scope[v] = ("place", t.place(p))
+            # the type's arguments go: invariants and measures are known to Goals
+            invs = [a for a in loop_args]
+            tail = r"tie\.(%s)%s" % (NAME, "".join(r"\s+" + re.escape(a) for a in invs))
+            d2 = re.sub(tail, place_type, d)
+            d2 = re.sub(r"tie\.(%s)" % NAME, place_type, d2)
+            new = t.turned(d2, scope)
+        helpers.append((n, "\n".join(comment + [new])))
+    body_text = "\n\n".join(h for _, h in helpers) + ("\n\n" if helpers else "") + "\n\n".join(a for _, a in ans_out)
+    inv_text = "\n\n".join(inv_out)
+    for u in used:
+        if re.search(r"(?<![\w'.-])%s(?![\w'-])" % re.escape(u), body_text.replace("goal." + u, "")) and u not in order:
+            body_text = re.sub(r"(?<![\w'.-])%s(?![\w'-])" % re.escape(u), used[u], body_text)
+            t.complain(f"{u} is cited by another proof, as {used[u]} now")
+    # helpers that only serve invariants
+    inv_helpers = [h for n, h in helpers if re.search(r"(?<![\w'.-])%s(?![\w'-])" % re.escape(n), inv_text) and "tie" not in h]
+    inv_names = [n for n, h in helpers if h in inv_helpers]
+    head = [c for c, n, d in decls[:1]][0] if decls else []
+    mod = f"Rattle.{crate}.proofs.{path}"
+
+    def imports(for_text):
+        got = []
+        for u in uses:
+            if ".Statement" in u or re.search(r"\.Tie as tie", u):
+                continue
+            m = re.match(r"use (\S+?)\.\{(.*)\}$", u)
+            if m:
+                keep = []
+                for n in split_top(m[2], ","):
+                    n = n.strip()
+                    alias = n.split(" as ")[-1]
+                    op = re.findall(r"[^◌]+", alias) if "◌" in alias else None
+                    if op:
+                        if all(o in for_text for o in op):
+                            keep.append(n)
+                    elif re.search(r"(?<![\w'.\-₀-₉])%s(?![\w'\-₀-₉])" % re.escape(alias), for_text):
+                        keep.append(n)
+                if keep:
+                    got.append(f"use {m[1]}.{{{', '.join(keep)}}}")
+            else:
+                last = u.split()[-1].split(".")[-1]
+                if re.search(r"(?<![\w'.-])%s\." % re.escape(last), for_text):
+                    got.append(u)
+        return got
+
+    note = text.split("\n")[0] if text.startswith("--") else ""
+    if inv_out:
+        whole = ("\n\n".join(inv_helpers) + "\n\n" if inv_helpers else "") + inv_text
+        with open(os.path.join(folder, "Invariants.antt"), "w", encoding="utf-8") as out:
+            out.write("\n".join(([note] if note else []) + imports(whole) + [f"use {mod}.Given as goal", "", whole]) + "\n")
+    if ans_out or [h for n, h in helpers if n not in inv_names]:
+        if not ans_out:
+            pass
+        else:
+            only_inv = [h for n, h in helpers if n in inv_names and not re.search(r"(?<![\w'.-])%s(?![\w'-])" % re.escape(n), "\n".join(a for _, a in ans_out) + "".join(h2 for n2, h2 in helpers if n2 != n))]
+            for h in only_inv:
+                body_text = body_text.replace(h + "\n\n", "")
+            goal_line = f"use {mod}.Goals as goal"
+            extra = [f"use {mod}.Goals.{{{', '.join(sorted(wants))}}}"] if wants else []
+            with open(os.path.join(folder, "Answers.antt"), "w", encoding="utf-8") as out:
+                out.write("\n".join(([note] if note else []) + imports(body_text) + [goal_line] + extra + ["", body_text]) + "\n")
+    os.makedirs(os.environ.get("OLD", "/tmp/walks") + f"/{crate}/{path}", exist_ok=True)
+    os.replace(f, os.environ.get("OLD", "/tmp/walks") + f"/{crate}/{path}/Proof.antt")
+
+
+def by_clauses(b, clauses, t, new):
+    pre, rest = lets(b)
+    core = rest.strip()
+    if core.startswith("record {"):
+        return b
+    got = tuple_parts(core, len(clauses))
+    names = [c or "UNNAMED" for c in clauses]
+    if got:
+        rec = "record {\n" + "".join(f"      {n} = {p};\n" for n, p in zip(names, got)) + "    }"
+        return pre + ("\n    " if pre else " ") + rec
+    m = re.match(r"rw (\([^()]*\)|\S+) (\(.*\))$", core, re.S)
+    if re.match(r"(cc|grind|simp|search|omega|\?)", core):
+        return b
+    whole = " ".join(core.split("\n")) if "\n" not in core else core
+    n = len(clauses)
+    sel = [".1" * k + (".0" if k < n - 1 else "") for k in range(n)]
+    t.complain(f"{new}: the clauses {names} come from one term")
+    return pre + f"\n    let all = {whole} in\n    record {{\n" + "".join(f"      {a} = all{s};\n" for a, s in zip(names, sel)) + "    }"
+
+
+def substituted(text, sub):
+    word = re.compile(r"(?<![\w'.\-₀-₉])([^\s(){}.;,@\"«»\[\]]+)")
+
+    def one(m):
+        return sub.get(m[1], m[1])
+
+    return word.sub(one, text)
+
+
+if __name__ == "__main__":
+    raise SystemExit(main(sys.argv[1:]))
