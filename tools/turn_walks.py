@@ -241,8 +241,8 @@ class Turn:
                 elif c == "requires":
                     out.append(c)
                     kind = ("clauses", self.own.requires)
-                elif c in ("ranges", "lifetimes", "well_formed", "utf8"):
-                    out.append(c)
+                elif snake(c) in ("ranges", "lifetimes", "well_formed", "utf8"):
+                    out.append(snake(c))
                     kind = ("args",)
                 else:
                     at = self.step(kind[1], c)
@@ -293,6 +293,18 @@ class Turn:
                 out.append(c)
                 i += 1
         return out, kind
+
+    def last_kind(self, text, var, place):
+        """The names of the clauses that a whole term stands for, if it is a path to such."""
+        core = lets(text)[1].strip()
+        if re.match(r"%s\.[^\s()]*$" % re.escape(var), core):
+            if core == var + ".requires":
+                return self.own.requires
+            m = re.match(r"%s\.(\S+)\.ensures$" % re.escape(var), core)
+            for p in self.places.values() if m else ():
+                if p["new"] == m[1] and p["callee"] in self.fns:
+                    return self.fns[p["callee"]].ensures
+        return None
 
     def turned(self, text, scope):
         """A term with its paths turned. scope: what each variable stands for."""
@@ -417,8 +429,6 @@ def turn_file(f, folder, path, row, fns, crate, text, said):
     assert inner.startswith("tie.spec"), inner[:40]
     args = arguments(inner[len("tie.spec") :])
     nloops = len(row["loops"])
-    if row.get("pre"):
-        t.complain("a recursion")
     needs = row["needs"]
     loop_args, answers = args[: 2 * nloops], args[2 * nloops :]
     if len(answers) != len(needs):
@@ -473,8 +483,7 @@ def turn_file(f, folder, path, row, fns, crate, text, said):
         if TRIVIAL.match(b.strip()) and not unfolds:
             continue
         if len(binders) > 2 or len(binders) == 2 and re.search(r"(?<![\w-])%s(?![\w-])" % re.escape(binders[1]), b):
-            b = "λ " + " ".join(binders[1:]) + ". " + b if len(binders) > 2 else b
-            t.complain(f"{new}: binders {binders}")
+            b = " λ " + " ".join(binders[1:]) + "." + (b if b[:1].isspace() else " " + b)
         place = t.place(at[0])
         var = binders[0]
         b = t.turned(b, {var: ("place", place)})
@@ -488,7 +497,7 @@ def turn_file(f, folder, path, row, fns, crate, text, said):
         elif re.match(r"returns(-\d+)?$", old):
             clauses = t.own.ensures
         if clauses and len(clauses) > 1 and not TRIVIAL.match(b.strip()):
-            b = by_clauses(b, clauses, t, new)
+            b = by_clauses(b, clauses, t, new, t.last_kind(b, var, place))
         ans_out.append((new, "\n".join(comment + [f"pub {new} : goal.{new}"] + ([unfolds] if unfolds else []) + [f"{new} {var} ={b if b[:1].isspace() else ' ' + b}"])))
         order.append(new)
     # helpers, in their order among the answers
@@ -586,11 +595,13 @@ def turn_file(f, folder, path, row, fns, crate, text, said):
     os.replace(f, os.environ.get("OLD", "/tmp/walks") + f"/{crate}/{path}/Proof.antt")
 
 
-def by_clauses(b, clauses, t, new):
+def by_clauses(b, clauses, t, new, theirs):
     pre, rest = lets(b)
     core = rest.strip()
     if core.startswith("record {"):
         return b
+    if theirs and len(theirs) == len(clauses):
+        return pre + " record { " + " ".join(f"{n} = {core}.{m};" for n, m in zip(clauses, theirs)) + " }"
     got = tuple_parts(core, len(clauses))
     names = [c or "UNNAMED" for c in clauses]
     if got:

@@ -1,0 +1,10 @@
+-- `root::significand_of` meets its contract: a pattern with an empty exponent's field is a subnormal number's digits alone.
+use native.Mathlib.Omega.{arith}
+use Rattle.root.proofs.Steps.{normal_significant}
+use Rattle.root.proofs.significand_of.Goals as goal
+
+pub returns-then-field-eq0 : goal.returns-then-field-eq0
+returns-then-field-eq0 c = c.normalize.ensures
+
+pub returns : goal.returns
+returns c = normal_significant c.args.bits c.requires.bits_bound (omega arith)
