@@ -194,6 +194,7 @@ class Turn:
             self.places[old] = dict(parent=parent, old=step[0], new=step[1], callee=callee, name=new)
             self.by_old[norm(old)] = old
         parts = path.split(".")
+        self.helpers, self.goal = {}, None
         self.own = fns.get(f"{crate}::" + "::".join(parts)) or Fn()
 
     def complain(self, text):
@@ -208,6 +209,10 @@ class Turn:
         return got
 
     def step(self, place, name):
+        got = self.step_named(place, name)
+        return got or (self.step_named(place, name[:-4]) if name.endswith("_lem") else None)
+
+    def step_named(self, place, name):
         p = place
         while p:
             if self.places[p]["old"] and norm(self.places[p]["old"]) == norm(name):
@@ -220,21 +225,23 @@ class Turn:
             p = self.places[p]["parent"]
         return None
 
+    def above(self, place, other):
+        """How many places `other` stands above `place`."""
+        n = 0
+        while place and place != other:
+            place = self.places[place]["parent"]
+            n += 1
+        return n if place else None
+
     def follow(self, kind, comps):
-        """The components of a path, turned, and what they lead to."""
+        """The components of a path, turned, and what they lead to. A step is found by its name, whatever the count of `.before`."""
         out, i = [], 0
         while i < len(comps):
             c = comps[i]
             if kind[0] == "place":
                 if c == "before":
-                    out.append(c)
-                    kind = ("place", self.places[kind[1]]["parent"] if kind[1] else None)
                     i += 1
-                    if not kind[1]:
-                        self.complain(f"a path goes beyond the start: {'.'.join(comps)}")
-                        return out + comps[i:], ("other",)
                     continue
-                out = []
                 if c in ("args",):
                     out.append(c)
                     kind = ("args",)
@@ -321,11 +328,34 @@ class Turn:
             v, path = m[1], m[2]
             if v in scope:
                 comps = path[1:].split(".") if path else []
-                new, kind = self.follow(scope[v], comps)
-                out.append(".".join([v] + new))
+                root, at = (scope[v][2], ("place", scope[v][1])) if scope[v][0] == "alias" else (v, scope[v])
+                head = re.search(r"let ([\w'\-₀-₉]+) = $", "".join(out)[-80:])
+                after = re.compile(r"\s+in(?=[\s(])").match(text, m.end())
+                if at[0] == "place" and all(x == "before" for x in comps):
+                    if head and after and comps:
+                        # another name of a place above: its steps are steps of the variable itself
+                        scope[head[1]] = ("alias", at[1], root)
+                        joined = "".join(out)
+                        out = [joined[: len(joined) - len(head[0])].rstrip(" ")]
+                        pos = after.end()
+                        continue
+                    call = re.search(r"(?<![\w'.-])([\w'\-₀-₉]+) $", "".join(out)[-80:])
+                    n = self.above(at[1], self.helpers[call[1]]) if call and call[1] in self.helpers else len(comps)
+                    if n is None:
+                        self.complain(f"{call[1]} is called at {at[1]}, which is not below {self.helpers[call[1]]}")
+                        n = len(comps)
+                    if call and call[1] in self.helpers and self.goal:
+                        out.append(f"(goal.at.{self.goal} {root}).{self.places[self.helpers[call[1]]]['name']}")
+                    else:
+                        if comps:
+                            self.complain(f"{self.goal}: a place is passed on: {m[0]}")
+                        out.append(".".join([root] + ["before"] * n))
+                    pos = m.end()
+                    continue
+                new, kind = self.follow(at, comps)
+                out.append(".".join([root] + new))
                 # an alias: `let x = PATH in`
-                head = re.search(r"(?<![\w'-])let ([\w'\-₀-₉]+) = $", "".join(out[:-1])[-80:])
-                if head and re.compile(r"\s+in(?=[\s(])").match(text, m.end()):
+                if head and after:
                     scope[head[1]] = kind
             else:
                 out.append(m[0])
@@ -352,7 +382,7 @@ def declarations(text):
                 n = lines[j]
                 if n.startswith("use ") or n.startswith("--"):
                     break
-                if n and not n[0].isspace():
+                if n and not n[0].isspace() and n[0] not in CLOSE:
                     first = re.match(r"(%s)" % NAME, n)
                     if not (n.startswith("unfolding ") or first and first[1] == name):
                         break
@@ -436,8 +466,11 @@ def turn_file(f, folder, path, row, fns, crate, text, said):
         return
     local = set(byname)
     inv_out, ans_out = [], []
+    for _, n, d in decls:
+        m = re.match(r"(?:(?:abbrev|unfoldable|pub) )*%s : (?:\(%s : )?tie\.(%s)" % (re.escape(n or "-"), NAME, NAME), d)
+        if n and m and t.place(m[1]):
+            t.helpers[n] = t.place(m[1])
     # invariants and measures
-    kept_for_inv = []
     for k, ((old, new), variables) in enumerate(row["loops"]):
         changed = row["changed"][k]
         for what, arg in (("invariant", loop_args[2 * k]), ("decreases", loop_args[2 * k + 1])):
@@ -486,7 +519,9 @@ def turn_file(f, folder, path, row, fns, crate, text, said):
             b = " λ " + " ".join(binders[1:]) + "." + (b if b[:1].isspace() else " " + b)
         place = t.place(at[0])
         var = binders[0]
-        b = t.turned(b, {var: ("place", place)})
+        t.goal = new
+        b = no_not(t.turned(b, {var: ("place", place)}))
+        t.goal = None
         clauses = None
         m = re.match(r"(.*)-requires(-\d+)?$", old)
         if m:
@@ -536,7 +571,7 @@ def turn_file(f, folder, path, row, fns, crate, text, said):
             tail = r"tie\.(%s)%s" % (NAME, "".join(r"\s+" + re.escape(a) for a in invs))
             d2 = re.sub(tail, place_type, d)
             d2 = re.sub(r"tie\.(%s)" % NAME, place_type, d2)
-            new = t.turned(d2, scope)
+            new = no_not(t.turned(d2, scope))
         helpers.append((n, "\n".join(comment + [new])))
     body_text = "\n\n".join(h for _, h in helpers) + ("\n\n" if helpers else "") + "\n\n".join(a for _, a in ans_out)
     inv_text = "\n\n".join(inv_out)
@@ -593,6 +628,11 @@ def turn_file(f, folder, path, row, fns, crate, text, said):
                 out.write("\n".join(([note] if note else []) + imports(body_text) + [goal_line] + extra + ["", body_text]) + "\n")
     os.makedirs(os.environ.get("OLD", "/tmp/walks") + f"/{crate}/{path}", exist_ok=True)
     os.replace(f, os.environ.get("OLD", "/tmp/walks") + f"/{crate}/{path}/Proof.antt")
+
+
+def no_not(b):
+    """A test of `!x` says what a test of x says."""
+    return re.sub(r"not-(true|false) (?:_|[\w.'-]+|\([^()]*\)) (\w+\.if-not-[\w.'-]+\.\1)", r"\2", b)
 
 
 def by_clauses(b, clauses, t, new, theirs):

@@ -11,7 +11,7 @@ ghost use Rattle.book_format.specs.Format.{sample_from, sample_at, sample_patter
 ghost use Rattle.book_format.specs.Rows.{measured_of, outside_limits, bad_sample_from, bad_sample, sample_falls};
 
 // The counts of a book, and where the first row of each section but the links' stands.
-#[derive(Drop)]
+#[derive(Clone, Copy)]
 pub struct Sections {
     pub links: usize,
     pub origins: usize,
@@ -26,14 +26,14 @@ pub struct Sections {
 }
 
 // What the bytes' length says of the counts: they fit, they end too early (row 1), or some are left over (row 2).
-#[derive(Drop)]
+#[derive(Clone, Copy)]
 pub enum Measured {
     Whole(Sections),
     Short,
     Long,
 }
 
-#[derive(Drop)]
+#[derive(Clone, Copy)]
 pub struct Link {
     pub length: f64,
     pub idx_next: u32,
@@ -42,21 +42,21 @@ pub struct Link {
     pub idx_prev_alt: u32,
 }
 
-#[derive(Drop)]
+#[derive(Clone, Copy)]
 pub struct Origin {
     pub link_idx: u32,
     pub offset: f64,
     pub is_front_end: u32,
 }
 
-#[derive(Drop)]
+#[derive(Clone, Copy)]
 pub struct Leg {
     pub link_idx: u32,
     pub parent: u32,
     pub samples: u32,
 }
 
-#[derive(Drop)]
+#[derive(Clone, Copy)]
 pub struct Sample {
     pub time: f64,
     pub offset: f64,
@@ -64,7 +64,7 @@ pub struct Sample {
 }
 
 // The patterns of a sample's floats, whatever they are.
-#[derive(Drop)]
+#[derive(Clone, Copy)]
 pub struct SamplePatterns {
     pub time: u64,
     pub offset: u64,
@@ -72,7 +72,7 @@ pub struct SamplePatterns {
 }
 
 // The patterns of the three floats at the head: the speed gap J of a join, the departure and the train's length.
-#[derive(Drop)]
+#[derive(Clone, Copy)]
 pub struct HeadPatterns {
     pub join: u64,
     pub departure: u64,

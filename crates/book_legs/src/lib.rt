@@ -13,14 +13,14 @@ ghost use Rattle.book_legs.specs.Legs.{named_start, Named, SameButStarts, leg_in
 use book_format::{Leg, Sections};
 
 // A leg that was sought: its number, or that there is none.
-#[derive(Drop)]
+#[derive(Clone, Copy)]
 pub enum LegSearch {
     Found(u32),
     Missing,
 }
 
 // A leg that is taken: its number, and its samples from the first up to where they end.
-#[derive(Drop)]
+#[derive(Clone, Copy)]
 pub struct TakenLeg {
     pub number: u32,
     pub first: usize,
@@ -28,7 +28,7 @@ pub struct TakenLeg {
 }
 
 // What the driver gets for a leg that it needs: the leg, or a refusal's number.
-#[derive(Drop)]
+#[derive(Clone, Copy)]
 pub enum Taken {
     Leg(TakenLeg),
     Refused(u32),

@@ -12,14 +12,14 @@ ghost use Rattle.book_options.specs.Turns.{AllStacked, AllNumbered, Walking, Sea
 use book_format::Sections;
 
 // What the search found: how many origins are kept, or that a destination is link 0 or no origin is kept (row 8).
-#[derive(Drop)]
+#[derive(Clone, Copy)]
 pub enum LinkOptions {
     Kept(usize),
     NoPath,
 }
 
 // How many links stand on the stack, and how many origins are kept.
-#[derive(Drop)]
+#[derive(Clone, Copy)]
 struct Walk {
     top: usize,
     kept: usize,

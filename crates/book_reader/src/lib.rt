@@ -16,14 +16,14 @@ use book_format::{Measured, Sections};
 use book_options::LinkOptions;
 
 // What reading found: where the sections stand and how many origins are kept, or the number of a refusal.
-#[derive(Drop)]
+#[derive(Clone, Copy)]
 pub enum Reading {
     Accepted(Sections, usize),
     Refused(u32),
 }
 
 // What the first stage found: a number, or the sections and whether a single leg gives row 7.
-#[derive(Drop)]
+#[derive(Clone, Copy)]
 enum Tested {
     Left(Sections, bool),
     Stopped(u32),

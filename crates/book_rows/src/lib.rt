@@ -42,7 +42,7 @@ fn work_bytes(s: Sections, places: usize) -> usize
 }
 
 // What the legs say of their samples.
-#[derive(Drop)]
+#[derive(Clone, Copy)]
 struct LegCounts {
     empty: bool,
     sum: usize,

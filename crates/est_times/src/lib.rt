@@ -17,7 +17,7 @@ use grow_book::GrownBook;
 use report::Report;
 
 // The report of a sheet, or the number of a refusal.
-#[derive(Drop)]
+#[derive(Clone, Copy)]
 pub enum Sheet {
     Made(Report),
     Refused(u32),

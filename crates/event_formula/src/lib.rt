@@ -8,7 +8,7 @@ ghost use Rattle.event_formula.specs.Event.{event_offset, clears, time_at, passi
 use book_format::Sample;
 
 // When and how fast a point is passed.
-#[derive(Drop)]
+#[derive(Clone, Copy)]
 pub struct Passing {
     pub time: f64,
     pub speed: f64,

@@ -10,7 +10,7 @@ use Rattle.laws.specs.Below.{some_below}
 use Rattle.laws.specs.Refusals.{Row, row, first_of}
 use Rattle.floats.specs.Floats.{book_value}
 use Rattle.space.specs.Space.{zeros, zero_floats}
-use Rattle.space.specs.Lent.{Lent}
+use Rattle.space.specs.Lent.{Lent, Seen}
 use Rattle.book_format.specs.Format.{sample_width}
 use Rattle.book_format.specs.Rows.{outside_limits, bad_sample_from, sample_falls}
 use Rattle.net_node.specs.Table.{kind_number}
@@ -30,7 +30,7 @@ pub record LentLeg : Type 0 where
   pub offsets : List Float
   pub links : List ℕ
 
-abbrev pub lent_leg : Float → Lent (List ℕ) → Lent (List Float) → Lent (List ℕ) → LentLeg
+abbrev pub lent_leg : Float → Seen (List ℕ) → Seen (List Float) → Seen (List ℕ) → LentLeg
 lent_leg train samples offsets links = record {
   train = train;
   samples = samples.entry.now;

@@ -21,7 +21,7 @@ const EVENT_FLOATS: usize = 3;
 const EVENT_NUMBERS: usize = 2;
 
 // How many events are in the list, or the number of a refusal.
-#[derive(Drop)]
+#[derive(Clone, Copy)]
 pub enum Made {
     Listed(usize),
     Refused(u32),

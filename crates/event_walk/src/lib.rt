@@ -14,7 +14,7 @@ use event_formula::Passing;
 use net_node::EstType;
 
 // A train's samples, which stand in bytes from `at` on, its path's points, and its length.
-#[derive(Drop)]
+#[derive(Clone, Copy)]
 pub struct Movement {
     pub at: usize,
     pub samples: usize,
@@ -23,7 +23,7 @@ pub struct Movement {
 }
 
 // The sample up to which the walk looks, and the next point for the train's end and for its front.
-#[derive(Drop)]
+#[derive(Clone, Copy)]
 pub struct Heads {
     pub i: usize,
     pub pt_idx_back: usize,
@@ -31,7 +31,7 @@ pub struct Heads {
 }
 
 // An event: when, where and how fast which point is passed, by the front (Arrive) or by the end (Clear).
-#[derive(Drop)]
+#[derive(Clone, Copy)]
 pub struct PassedPoint {
     pub time: f64,
     pub offset: f64,
@@ -41,7 +41,7 @@ pub struct PassedPoint {
 }
 
 // The next event and the heads behind it, or that there is none.
-#[derive(Drop)]
+#[derive(Clone, Copy)]
 pub enum Next {
     Passed(PassedPoint, Heads),
     End,
@@ -60,7 +60,7 @@ pub fn reaches_last(book: &[u8], offsets: &[f64], m: Movement) -> bool
 }
 
 // The points from `low` on and below `high`: the first that lies beyond an offset is among them, or it is `high`.
-#[derive(Drop)]
+#[derive(Clone, Copy)]
 struct Span {
     low: usize,
     high: usize,

@@ -25,7 +25,7 @@ use net_insertion::Place;
 use report::Report;
 
 // The counts of a network that has grown, or the number of a refusal.
-#[derive(Drop)]
+#[derive(Clone, Copy)]
 pub enum GrownBook {
     Whole(Report),
     Stopped(u32),

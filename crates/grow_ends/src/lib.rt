@@ -12,7 +12,7 @@ use net_insertion::Place;
 use net_node::EstTime;
 
 // How many nodes there are then, or that one did not fit (refusal 12).
-#[derive(Drop)]
+#[derive(Clone, Copy)]
 pub enum TailAnswer {
     Nodes(usize),
     Full,

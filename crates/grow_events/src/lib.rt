@@ -19,7 +19,7 @@ use net_node::TimedEvent;
 
 // What is counted of a network: its nodes, event nodes, split Fakes and joins; and the latest node at which a run has
 // finished, or 0.
-#[derive(Drop)]
+#[derive(Clone, Copy)]
 pub struct Counts {
     pub nodes: usize,
     pub added: usize,
@@ -29,7 +29,7 @@ pub struct Counts {
 }
 
 // The run that moves: its place, whether it has added since its pop, and how many join entries it has.
-#[derive(Drop)]
+#[derive(Clone, Copy)]
 pub struct Mover {
     pub place: Place,
     pub has_split: bool,
@@ -37,7 +37,7 @@ pub struct Mover {
 }
 
 // What becomes of a run at an event: it goes on, it has ended by a join, or a refusal's number.
-#[derive(Drop)]
+#[derive(Clone, Copy)]
 pub enum RunAnswer {
     On(Counts, Mover),
     Ended(Counts),

@@ -18,7 +18,7 @@ use Rattle.grow_state.specs.declared.GrowthAnswer.{GrowthAnswer}
 use Rattle.grow_state.specs.declared.GrowthAnswer.TheVariants.{On, Refused}
 use Rattle.grow_state.specs.Held.{PlanIn, FrontIn, WaitIn, AllSound, Prefixes, SeparateFrom, AllSeparate, Lists, lists}
 use Rattle.grow_state.specs.Held.{DriveIn, TurnedAs}
-use Rattle.space.specs.Lent.{Lent}
+use Rattle.space.specs.Lent.{Lent, Seen}
 use Rattle.book_options.specs.Options.{in_set}
 use Rattle.net_node.specs.Table.{Table}
 use Rattle.grow_events.specs.declared.Counts.{Counts}
@@ -196,6 +196,6 @@ TakesLeg b p g s s' r =
     → TurnedAs (take_leg b p.w.places net run saved) b p s' r
 
 -- what the slices hold at exit, where the table and the join entries are only read
-abbrev pub lists_saved : Lent (List Float) → Lent (List ℕ) → Lent (List Float) → Lent (List ℕ) → Lent (List ℕ) → Lists
+abbrev pub lists_saved : Seen (List Float) → Seen (List ℕ) → Lent (List Float) → Lent (List ℕ) → Seen (List ℕ) → Lists
 lists_saved floats numbers reals cells joins =
     lists floats.entry.now numbers.entry.now reals.exit.now cells.exit.now joins.entry.now

@@ -24,7 +24,7 @@ use grow_events::{Counts, Mover, RunAnswer};
 use grow_state::{Front, GrowthAnswer, Plan, State};
 
 // The links over which a run can go on. Of two the alternative is saved.
-#[derive(Drop)]
+#[derive(Clone, Copy)]
 pub enum Ways {
     None,
     One(u32),
@@ -100,7 +100,7 @@ fn ways_behind(book: &[u8], s: Sections, marks: &[u32], link_idx: u32) -> Ways
 // The run at the front finishes, unless row 13 holds.
 fn finish_run(floats: &[f64], numbers: &[u32], cells: &mut [u32], p: Plan, g: State) -> GrowthAnswer
     requires { SomeFinish p floats.now numbers.now cells.old g }
-    ensures { FinishesRun p g (table_at_entry floats numbers) cells.old cells.new result }
+    ensures { FinishesRun p g (table_seen floats numbers) cells.old cells.new result }
 {
     let counts = g.counts;
     let front = g.front;
@@ -267,7 +267,7 @@ fn end_leg(
     requires book_in_bounds { links book.now ≤ length marks.now }
     requires some_way { SomeWay book.now p (lists floats.now numbers.now reals.old cells.old joins.now) g }
     requires in_bounds { 2048 ≤ length joins.now }
-    ensures { EndsLeg book.now p g (lists_at_entry floats numbers reals cells joins)
+    ensures { EndsLeg book.now p g (lists floats.now numbers.now reals.old cells.old joins.now)
         (lists_saved floats numbers reals cells joins) result }
 {
     let s = p.s;

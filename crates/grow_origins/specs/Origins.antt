@@ -21,7 +21,7 @@ use Rattle.grow_state.specs.declared.State.{State}
 use Rattle.grow_state.specs.declared.GrowthAnswer.{GrowthAnswer}
 use Rattle.grow_state.specs.declared.GrowthAnswer.TheVariants.{On, Refused}
 use Rattle.grow_state.specs.Held.{DriveIn, PlanIn, Lists, lists}
-use Rattle.space.specs.Lent.{Lent}
+use Rattle.space.specs.Lent.{Lent, Seen}
 use Rattle.book_options.specs.Options.{kept_origins}
 use Rattle.net_node.specs.declared.EstType.{EstType}
 use Rattle.grow_waiting.specs.Steps.{Stacks}
@@ -200,6 +200,6 @@ GrowsOrigins b p g s s' r =
     b p s' [] r
 
 -- what the slices hold at exit, where the join entries are only read
-abbrev pub lists_left : Lent (List Float) → Lent (List ℕ) → Lent (List Float) → Lent (List ℕ) → Lent (List ℕ) → Lists
+abbrev pub lists_left : Lent (List Float) → Lent (List ℕ) → Lent (List Float) → Lent (List ℕ) → Seen (List ℕ) → Lists
 lists_left floats numbers reals cells joins =
     lists floats.exit.now numbers.exit.now reals.exit.now cells.exit.now joins.entry.now

@@ -206,7 +206,7 @@ fn origin(
     requires leads_from { LeadsFrom (table_of floats.old numbers.old) g.counts.nodes last (origin_link book.now idx) }
     requires started { Started book.now marks.now }
     requires book_in_bounds { 2 * links book.now ≤ length marks.now }
-    ensures { GrowsOrigin book.now p g idx (lists_at_entry floats numbers reals cells joins)
+    ensures { GrowsOrigin book.now p g idx (lists floats.old numbers.old reals.old cells.old joins.now)
         (lists_left floats numbers reals cells joins) result }
 {
     let s = p.s;
@@ -268,7 +268,7 @@ pub fn origins(
         (kept_origins book.now) g }
     requires only_start { OnlyStart (node_at floats.old numbers.old) g.counts.nodes }
     requires started { Started book.now marks.now }
-    ensures { GrowsOrigins book.now p g (lists_at_entry floats numbers reals cells joins)
+    ensures { GrowsOrigins book.now p g (lists floats.old numbers.old reals.old cells.old joins.now)
         (lists_left floats numbers reals cells joins) result }
 {
     let s = p.s;

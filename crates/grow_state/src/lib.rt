@@ -11,7 +11,7 @@ use net_event_map::Layout;
 
 // What growth goes by: where the book's sections stand, where the work space has what, and the three floats at the
 // book's head.
-#[derive(Drop)]
+#[derive(Clone, Copy)]
 pub struct Plan {
     pub s: Sections,
     pub w: Layout,
@@ -22,7 +22,7 @@ pub struct Plan {
 }
 
 // The run at the front, if one moves: the leg that it takes next, and how many legs it has taken.
-#[derive(Drop)]
+#[derive(Clone, Copy)]
 pub struct Front {
     pub moves: bool,
     pub mover: Mover,
@@ -32,7 +32,7 @@ pub struct Front {
 
 // How far growth has come: the network's counts, the leg of the run that was saved last (0: none) and how many join
 // entries wait, and the run at the front.
-#[derive(Drop)]
+#[derive(Clone, Copy)]
 pub struct State {
     pub counts: Counts,
     pub top: u32,
@@ -41,7 +41,7 @@ pub struct State {
 }
 
 // The state then, or a refusal's number.
-#[derive(Drop)]
+#[derive(Clone, Copy)]
 pub enum GrowthAnswer {
     On(State),
     Refused(u32),

@@ -1,7 +1,7 @@
 -- What the functions of this crate answer.
 use Rattle.std.specs.Prelude.{◌≡◌, ◌≢◌, List, ◌∷◌, ℕ, ◌+◌, ◌*◌, ◌≤◌, ◌<◌, length, get_or, Float}
 use Rattle.net_join_paths.specs.declared.EstJoinPath.{EstJoinPath}
-use Rattle.space.specs.Lent.{Lent}
+use Rattle.space.specs.Lent.{Lent, Seen}
 use Rattle.net_join_paths.specs.Entries.{entries_in}
 use Rattle.grow_waiting.specs.declared.Popped.{Popped}
 use Rattle.grow_waiting.specs.declared.Rooms.{Rooms}
@@ -26,6 +26,10 @@ pub record Stacks : Type 0 where
 -- both at a function's entry
 abbrev pub stacks_at_entry : Lent (List ℕ) → Lent (List Float) → Stacks
 stacks_at_entry cells reals = record { cells = cells.entry.now; reals = reals.entry.now }
+
+-- both where they are only read
+abbrev pub stacks_seen : Seen (List ℕ) → Seen (List Float) → Stacks
+stacks_seen cells reals = record { cells = cells.entry.now; reals = reals.entry.now }
 
 -- and at its exit
 abbrev pub stacks_at_exit : Lent (List ℕ) → Lent (List Float) → Stacks

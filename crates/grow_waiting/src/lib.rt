@@ -12,7 +12,7 @@ use net_join_paths::EstJoinPath;
 
 // Where the nodes' units stand in the cells and the pairs of reals in the reals, and how many legs and places there
 // are.
-#[derive(Drop)]
+#[derive(Clone, Copy)]
 pub struct Rooms {
     pub nodes_at: usize,
     pub pairs_at: usize,
@@ -22,7 +22,7 @@ pub struct Rooms {
 
 // A run that is taken up again: its place, its leg, how many legs it has taken, how many join entries it has, and the
 // leg of the run saved before it.
-#[derive(Drop)]
+#[derive(Clone, Copy)]
 pub struct Popped {
     pub place: Place,
     pub leg: u32,
@@ -119,7 +119,7 @@ pub fn pop(
     requires legs_in_bounds { w.pairs_at + w.legs * 2 + 2 ≤ length reals.now }
     requires in_bounds { 2048 ≤ length joins.old }
     requires some_waits { SomeWaits cells.now reals.now w top used }
-    ensures popped { TakesUp w top used (stacks_at_entry cells reals) joins.new result }
+    ensures popped { TakesUp w top used (stacks_seen cells reals) joins.new result }
 {
     let at = top as usize * 8;
     let pair = w.pairs_at + top as usize * 2;

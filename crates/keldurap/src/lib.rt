@@ -236,7 +236,7 @@ pub extern "C" fn keldurap_raw_list_sheet(
     out: &mut [u8],
     text_length: &mut usize,
 ) -> u32
-    ensures { ListingGiven (sheet_in (report_in report.now) (table_at_entry floats numbers))
+    ensures { ListingGiven (sheet_in (report_in report.now) (table_seen floats numbers))
         out.old out.new text_length.new result }
 {
     let listed = listing::list_sheet(floats, numbers, report::read_report(report), out);

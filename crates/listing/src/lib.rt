@@ -16,7 +16,7 @@ use report::Report;
 
 // How many bytes a listing has, that the slice is too short for it, or that the table has fewer nodes than the report
 // says.
-#[derive(Drop)]
+#[derive(Clone, Copy)]
 pub enum Listed {
     Bytes(usize),
     Short,
@@ -187,7 +187,7 @@ fn finish(s: &mut [u8], at: usize) -> Listed
 // Lists a sheet: its report, then as many nodes as that says. A slice that is too short is left zero, and so is one for
 // a table that has fewer nodes.
 pub fn list_sheet(floats: &[f64], numbers: &[u32], report: Report, out: &mut [u8]) -> Listed
-    ensures { TextListed (sheet_in report (table_at_entry floats numbers)) out.old
+    ensures { TextListed (sheet_in report (table_seen floats numbers)) out.old
         out.new result }
 {
     let n = report.nodes;

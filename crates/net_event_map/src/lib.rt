@@ -9,7 +9,7 @@ ghost use Rattle.net_event_map.specs.EventMap.{first_at, next_at, MapsNode, Maps
 use net_node::{EstType, LinkEvent};
 
 // Where the cells of links and of nodes stand, and how many links and places there are.
-#[derive(Drop)]
+#[derive(Clone, Copy)]
 pub struct Layout {
     pub links_at: usize,
     pub nodes_at: usize,

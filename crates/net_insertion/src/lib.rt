@@ -10,7 +10,7 @@ ghost use Rattle.net_insertion.specs.Insertion.{split_at, place_at, inserted, In
 use net_node::{EstTime, TimedEvent};
 
 // A run's place, the source's `est_alt`: a node, and the time and offset of the run's own event there.
-#[derive(Drop)]
+#[derive(Clone, Copy)]
 pub struct Place {
     pub time_to_next: f64,
     pub dist_to_next: f64,
@@ -19,7 +19,7 @@ pub struct Place {
 
 // Where an event goes: behind a node without a next, to a node that is there already, or behind a Fake to be made the
 // alternative of a node.
-#[derive(Drop)]
+#[derive(Clone, Copy)]
 enum Seek {
     Open(u32),
     Match(u32),
@@ -28,7 +28,7 @@ enum Seek {
 
 // What insertion answers: the place behind an event that was added, and whether by a split; the place that the run
 // moved to; or a refusal's number.
-#[derive(Drop)]
+#[derive(Clone, Copy)]
 pub enum Inserted {
     Added(Place, bool),
     Moved(Place),

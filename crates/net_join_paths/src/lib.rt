@@ -8,14 +8,14 @@ ghost use Rattle.net_join_paths.specs.Entries.{entry, entry_at, push, pushed_if,
 ghost use Rattle.net_join_paths.specs.Spans.{pushed_all, nodes_in, pushed_known};
 
 // A join entry: the link to be matched (0: matched already) and a node of the network.
-#[derive(Drop)]
+#[derive(Clone, Copy)]
 pub struct EstJoinPath {
     pub link_idx_match: u32,
     pub est_idx_next: u32,
 }
 
 // How many entries a list has then, or that one did not fit (refusal 12).
-#[derive(Drop)]
+#[derive(Clone, Copy)]
 pub enum Count {
     Entries(usize),
     Over,

@@ -20,14 +20,14 @@ use net_join_paths::{Count, EstJoinPath};
 use net_node::{EstTime, LinkEvent, TimedEvent};
 
 // The smallest gap of speeds so far, and its node.
-#[derive(Drop)]
+#[derive(Clone, Copy)]
 pub struct SpeedJoin {
     pub speed_diff_join: f64,
     pub est_idx_join: u32,
 }
 
 // What becomes of a run at an event: it has joined a node, it goes on with so many entries, or a refusal's number.
-#[derive(Drop)]
+#[derive(Clone, Copy)]
 pub enum Step {
     Joined(u32),
     Waits(usize),
@@ -330,7 +330,7 @@ pub fn join_step(
     requires stack_length_in_bounds { stack_length ≤ length stack.old }
     requires valid { Valid (entries_in joins.old count) n }
     ensures answer { StepAs
-        (join_step (nodes_at_entry floats numbers) n w.places join est_time_add
+        (join_step (node_at floats.old numbers.old) n w.places join est_time_add
         (entries_in joins.old count)) joins.new result }
     ensures table { SteppedInto (table_at_entry floats numbers) n est_time_add floats.new
         numbers.new result }

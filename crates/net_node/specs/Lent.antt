@@ -1,7 +1,7 @@
 -- A lent table, read at a function's two moments: its two slices as one record, alone and beside the work space.
 -- Contracts of entries are said over these records, by name.
 use Rattle.std.specs.Prelude.{List, ℕ, length, Float}
-use Rattle.space.specs.Lent.{Lent, Work, work_at_entry, work_at_exit, bytes_in}
+use Rattle.space.specs.Lent.{Lent, Seen, Work, work_at_entry, work_at_exit, bytes_in}
 use Rattle.net_node.specs.Table.{Table}
 use Rattle.net_node.specs.Left.{places_of}
 
@@ -11,6 +11,10 @@ table_at_entry floats numbers = record { floats = floats.entry.now; numbers = nu
 
 abbrev pub table_at_exit : Lent (List Float) → Lent (List ℕ) → Table
 table_at_exit floats numbers = record { floats = floats.exit.now; numbers = numbers.exit.now }
+
+-- both where they are only read
+abbrev pub table_seen : Seen (List Float) → Seen (List ℕ) → Table
+table_seen floats numbers = record { floats = floats.entry.now; numbers = numbers.entry.now }
 
 -- a table and the work space: all that the entries are lent to write to
 pub record Slices : Type 0 where

@@ -16,7 +16,7 @@ pub const NUMBER_WIDTH: usize = 6;
 
 // Type of an estimated time node: the train arrives at the entry point of a link, clears it, or the node only links
 // alternatives.
-#[derive(Drop)]
+#[derive(Clone, Copy)]
 pub enum EstType {
     Arrive,
     Clear,
@@ -24,14 +24,14 @@ pub enum EstType {
 }
 
 // A link and a type.
-#[derive(Drop)]
+#[derive(Clone, Copy)]
 pub struct LinkEvent {
     pub link_idx: u32,
     pub est_type: EstType,
 }
 
 // An estimated time node.
-#[derive(Drop)]
+#[derive(Clone, Copy)]
 pub struct EstTime {
     pub time_sched: f64,
     pub time_to_next: f64,
@@ -45,7 +45,7 @@ pub struct EstTime {
 }
 
 // An event of a run: when, where and how fast it happens.
-#[derive(Drop)]
+#[derive(Clone, Copy)]
 pub struct TimedEvent {
     pub time: f64,
     pub offset: f64,

@@ -18,7 +18,7 @@ use book_options::LinkOptions;
 use book_reader::Reading;
 
 // What the search found: how many origins are kept, or the number of a refusal.
-#[derive(Drop)]
+#[derive(Clone, Copy)]
 pub enum FoundOptions {
     Kept(usize),
     Refused(u32),

@@ -30,7 +30,7 @@ fn some_left_lem(cells: &[u32], done_at: usize, n: usize) -> bool
 // Row 16: whether all times are 0 or -0.
 fn all_zero(floats: &[f64], numbers: &[u32], n: usize) -> bool
     requires { Room floats.now numbers.now n }
-    ensures { result ≡ all_zero (table_at_entry floats numbers) n }
+    ensures { result ≡ all_zero (table_seen floats numbers) n }
 {
     let mut i = 0;
     while i < n {

@@ -29,7 +29,7 @@ fn enqueue_node(
     requires number_width_in_bounds { i * number_width + number_width ≤ length numbers.now }
     requires count_in_bounds { (count + 1) * 2 ≤ length times.old }
     requires count_in_bounds_2 { count < length nodes.old }
-    ensures { Enqueues times nodes false count (reaching (table_at_entry floats numbers) i) result }
+    ensures { Enqueues times nodes false count (reaching (table_seen floats numbers) i) result }
 {
     let node = net_node::load(floats, numbers, i as usize);
     let time = node.time_sched + node.time_to_next;

@@ -7,7 +7,7 @@ ghost use Rattle.pass_queue.specs.Queue.{Dropped, TakenOut};
 ghost use Rattle.pass_queue.specs.Slots.{put_times, put_nodes, BestChild};
 
 // An entry: a time, what is subtracted behind it (backward only), and a node.
-#[derive(Drop)]
+#[derive(Clone, Copy)]
 pub struct Entry {
     pub time: f64,
     pub sub: f64,

@@ -13,7 +13,7 @@ ghost use Rattle.pass_rules.specs.Walks.{Inside, done_in, pass_of, ahead, end_of
 use net_node::EstTime;
 
 // Where a relink walk ends, or that it has passed more Fakes than there are nodes.
-#[derive(Drop)]
+#[derive(Clone, Copy)]
 pub enum Walked {
     Found(u32),
     Endless,
@@ -139,7 +139,7 @@ fn is_passable(
     requires inside { Inside (node_at floats.now numbers.now) n }
     requires n_in_bounds { done_at + n ≤ length cells.now }
     requires i_lt_n { i < n }
-    ensures { result ≡ passable backward (pass_of (table_at_entry floats numbers)
+    ensures { result ≡ passable backward (pass_of (table_seen floats numbers)
         (done_in cells.now done_at)) n i }
 {
     let node = net_node::load(floats, numbers, i as usize);
@@ -166,7 +166,7 @@ pub fn relink_walk(
     requires inside { Inside (node_at floats.now numbers.now) n }
     requires n_in_bounds { done_at + n ≤ length cells.now }
     requires i_lt_n { i < n }
-    ensures { RelinkWalk backward (table_at_entry floats numbers) (done_in cells.now done_at) n i result }
+    ensures { RelinkWalk backward (table_seen floats numbers) (done_in cells.now done_at) n i result }
 {
     let mut at = i;
     let mut count = 0;

@@ -10,7 +10,7 @@ ghost use Rattle.pass_state.specs.Promises.{Enqueues};
 use pass_queue::Entry;
 
 // How many entries the queue has then, or that an assertion of the pass fails.
-#[derive(Drop)]
+#[derive(Clone, Copy)]
 pub enum Passed {
     Queued(usize),
     Fails,
@@ -18,7 +18,7 @@ pub enum Passed {
 
 // Which node a walk stands on, which one it looks at, and how many entries the queue has then; or that an assertion
 // fails.
-#[derive(Drop)]
+#[derive(Clone, Copy)]
 pub enum Stands {
     On(u32, u32, usize),
     Nowhere,

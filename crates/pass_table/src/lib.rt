@@ -14,7 +14,7 @@ ghost use Rattle.pass_table.specs.Parts.{nodes_number, first_number, kept_nodes,
 use net_node::EstTime;
 
 // How many nodes the timed table has, or the number of a refusal.
-#[derive(Drop)]
+#[derive(Clone, Copy)]
 pub enum TimedTable {
     Whole(usize),
     Refused(u32),
@@ -71,7 +71,7 @@ fn five_if(stray: bool) -> u32
 fn nodes_number(floats: &[f64], numbers: &[u32], n: usize) -> u32
     requires float_width_in_bounds { n * float_width ≤ length floats.now }
     requires number_width_in_bounds { n * number_width ≤ length numbers.now }
-    ensures { result ≡ nodes_number (table_at_entry floats numbers) n }
+    ensures { result ≡ nodes_number (table_seen floats numbers) n }
 {
     let mut stray = false;
     let mut i = 0;
@@ -90,7 +90,7 @@ fn nodes_number(floats: &[f64], numbers: &[u32], n: usize) -> u32
 fn first_number(floats: &[f64], numbers: &[u32], n: usize, departure: f64, units: usize) -> u32
     requires float_width_in_bounds { n * float_width ≤ length floats.now }
     requires number_width_in_bounds { n * number_width ≤ length numbers.now }
-    ensures { result ≡ first_number (table_at_entry floats numbers) n departure (64 * units) }
+    ensures { result ≡ first_number (table_seen floats numbers) n departure (64 * units) }
 {
     if size_refused(n, units) {
         return 3;

@@ -6,7 +6,7 @@ ghost use Rattle.std.specs.Prelude.{◌≡◌};
 ghost use Rattle.report.specs.Numbers.{no_report, numbers_of, report_in};
 
 // "a report of nodes, added (origins' nodes included), splits, joined, finished"
-#[derive(Drop)]
+#[derive(Clone, Copy)]
 pub struct Report {
     pub nodes: usize,
     pub added: usize,

@@ -21,21 +21,21 @@ const START: u64 = 0x5fdb_f102_0000_0000;
 const CUT: f64 = 100663296.0;
 
 // A magnitude of m * 2 ^ y.
-#[derive(Drop)]
+#[derive(Clone, Copy)]
 struct Significand {
     m: u64,
     y: u64,
 }
 
 // A magnitude of a * 2 ^ 52 * 4 ^ k.
-#[derive(Drop)]
+#[derive(Clone, Copy)]
 struct Scaled {
     a: u64,
     k: u64,
 }
 
 // A whole root and what is left over.
-#[derive(Drop)]
+#[derive(Clone, Copy)]
 struct WholeRoot {
     q: u64,
     r: u64,

@@ -1,13 +1,17 @@
 -- What an entry is lent, read at its two moments: the work space's three slices as one record, at entry and at exit.
 -- Contracts of entries are said over these records, by name.
 use Rattle.std.specs.Prelude.{◌≡◌, List, ℕ, length, Float}
-use Rattle.std.specs.Borrow.{MutBor}
+use Rattle.std.specs.Borrow.{Bor, MutBor}
 use denote.Triple.Both.{Both}
 use Rattle.space.specs.Space.{bytes_of, zeros, zero_floats}
 
 -- a slice that is lent to be written, at a function's entry and at its exit
 abbrev pub Lent : Type 0 → Type 0
 Lent A = Both (MutBor A) (MutBor A)
+
+-- the same of one that is lent to be read
+abbrev pub Seen : Type 0 → Type 0
+Seen A = Both (Bor A) (Bor A)
 
 -- the work space: 3 f64 (reals), 8 u32 (cells) and 2 u32 (marks) to a unit
 pub record Work : Type 0 where
