@@ -15,16 +15,16 @@ import os
 import re
 import sys
 
-NAME = r"[^\s(){}.;,@\"«»\[\]]+"
+NAME = r"(?:«[^»]*»|[^\s(){}.;,@\"«»\[\]]+)"
 OPEN, CLOSE = "([{", ")]}"
 
 
 def snake(s):
-    return s.replace("-", "_")
+    return s.strip("«»").replace("-", "_")
 
 
 def norm(s):
-    return re.sub(r"[-_]", "", s)
+    return re.sub(r"[-_«»]", "", s)
 
 
 # ---- the sources: clauses and parameters of each function
@@ -186,15 +186,16 @@ def tuple_parts(t, n):
 # ---- one function
 
 class Turn:
-    def __init__(self, key, row, fns, crate, path, said):
+    def __init__(self, lts, row, fns, crate, path, said):
+        self.lts = lts
         self.row, self.fns, self.crate, self.path, self.said = row, fns, crate, path, said
         self.places, self.by_old = {}, {}
         for k, (old, parent, step, callee, *_more) in enumerate(row["places"]):
             new = row["places_by_name"][k]
-            self.places[old] = dict(parent=parent, old=step[0], new=step[1], callee=callee, name=new)
+            self.places[old] = dict(parent=parent, old=step[0], new=step[1], callee=callee, name=new, arm=row["arms"][k])
             self.by_old[norm(old)] = old
         parts = path.split(".")
-        self.helpers, self.goal = {}, None
+        self.helpers, self.goal, self.bodies, self.inner = {}, None, {}, {}
         self.own = fns.get(f"{crate}::" + "::".join(parts)) or Fn()
 
     def complain(self, text):
@@ -233,6 +234,42 @@ class Turn:
             n += 1
         return n if place else None
 
+    def arm_field(self, place, comps):
+        """The field of an arm that stands for a path to what a match told, and how long that path is."""
+        p = place
+        while p:
+            arm = self.places[p]["arm"]
+            if arm:
+                for field, step, path in arm[2]:
+                    for name in (comps[0], comps[0][:-4] if comps[0].endswith("_lem") else comps[0]):
+                        if path and norm(step) == norm(name) and comps[1 : 1 + len(path)] == path and path[0] == "given":
+                            return arm[0], field, 1 + len(path)
+            p = self.places[p]["parent"]
+        return None
+
+    def listed(self, step, what):
+        """The names of what a call gave back, as the generated text lists them, with a blank for what has none."""
+        at = re.search(r"c\.%s\.%s\.\w" % (re.escape(step), what), self.lts)
+        if not at:
+            return []
+        # the outermost pair that holds it, below the tuple of all that the call gave
+        i, start, opened = at.start(), at.start(), 0
+        while i > 0:
+            i -= 1
+            if self.lts[i] in CLOSE:
+                break
+            if self.lts[i] == "(":
+                text = self.lts[i : matching(self.lts, i) + 1]
+                if f"c.{step}.lifetimes" in text or f"c.{step}.result" in text or f"c.{step}.type_inv" in text:
+                    break
+                start = i
+        text, got = self.lts[start : matching(self.lts, start) + 1], []
+        while text.startswith("("):
+            first, rest = split_top(text[1:-1], ",")[0].strip(), split_top(text[1:-1], ",")[1].strip()
+            got.append(first.split(".")[-1] if first != "tt" else None)
+            text = rest
+        return got
+
     def follow(self, kind, comps):
         """The components of a path, turned, and what they lead to. A step is found by its name, whatever the count of `.before`."""
         out, i = [], 0
@@ -251,6 +288,16 @@ class Turn:
                 elif snake(c) in ("ranges", "lifetimes", "well_formed", "utf8"):
                     out.append(snake(c))
                     kind = ("args",)
+                elif self.arm_field(kind[1], comps[i:]):
+                    arm, field, n = self.arm_field(kind[1], comps[i:])
+                    out += [arm, field]
+                    kind = ("other",)
+                    if field == "ensures":
+                        kind = ("other",)
+                    i += n - 1
+                elif c == "pre" and not self.step(kind[1], c):
+                    out.append("requires")
+                    kind = ("clauses", self.own.requires)
                 else:
                     at = self.step(kind[1], c)
                     if not at:
@@ -271,9 +318,9 @@ class Turn:
                 if c == "ensures":
                     kind = ("clauses", callee.ensures if callee else [])
                 elif c == "new":
-                    kind = ("tuple", callee.mut() if callee else [])
+                    kind = ("tuple", self.listed(self.places[kind[1]]["new"], "new"))
                 elif c == "auto":
-                    kind = ("tuple", callee.mut_slices() if callee else [])
+                    kind = ("tuple", self.listed(self.places[kind[1]]["new"], "auto"))
                 else:
                     kind = ("other",)
                 i += 1
@@ -292,6 +339,8 @@ class Turn:
                 if kind[0] == "tuple" or k < len(names) - 1:
                     if i < len(comps) and comps[i] == "0":
                         i += 1
+                    elif i >= len(comps) and kind[0] == "clauses":
+                        return out, ("rest", names[k:])
                     else:
                         self.complain(f"a path ends in a part of a tuple: {'.'.join(comps)}")
                 out.append(names[k] if k < len(names) and names[k] else "UNNAMED")
@@ -312,6 +361,10 @@ class Turn:
                 if p["new"] == m[1] and p["callee"] in self.fns:
                     return self.fns[p["callee"]].ensures
         return None
+
+    def is_all(self, text, m):
+        """Whether a path is the whole of a term's last part."""
+        return lets(text)[1].strip() == m[0]
 
     def turned(self, text, scope):
         """A term with its paths turned. scope: what each variable stands for."""
@@ -344,6 +397,12 @@ class Turn:
                     if n is None:
                         self.complain(f"{call[1]} is called at {at[1]}, which is not below {self.helpers[call[1]]}")
                         n = len(comps)
+                    if call and call[1] in self.bodies and not self.goal:
+                        joined = "".join(out)
+                        out = [joined[: len(joined) - 1]]
+                        self.inner.setdefault(call[1], root)
+                        pos = m.end()
+                        continue
                     if call and call[1] in self.helpers and self.goal:
                         out.append(f"(goal.at.{self.goal} {root}).{self.places[self.helpers[call[1]]]['name']}")
                     else:
@@ -353,7 +412,17 @@ class Turn:
                     pos = m.end()
                     continue
                 new, kind = self.follow(at, comps)
-                out.append(".".join([root] + new))
+                whole = ".".join([root] + new)
+                is_let = head and after
+                if kind[0] == "rest" or kind[0] == "clauses" and len(kind[1]) > 1 and not is_let and not self.is_all(text, m) and not in_tactic(text, m.start()):
+                    # the clauses, or the last of them, as the pairs that a lemma takes
+                    names = kind[1]
+                    term = f"{whole}.{names[-1]}"
+                    for n in reversed(names[:-1]):
+                        term = f"({whole}.{n}, {term})"
+                    whole = term
+                    kind = ("other",)
+                out.append(whole)
                 # an alias: `let x = PATH in`
                 if head and after:
                     scope[head[1]] = kind
@@ -448,7 +517,8 @@ def main(argv):
 
 
 def turn_file(f, folder, path, row, fns, crate, text, said):
-    t = Turn(None, row, fns, crate, path, said)
+    lts = os.path.join(os.environ.get("GEN", "/nowhere"), f"Rattle-{crate}-proofs", *path.split("."), "Lts.antt")
+    t = Turn(open(lts, encoding="utf-8").read() if os.path.exists(lts) else "", row, fns, crate, path, said)
     uses, decls = declarations(text)
     byname = {n: (c, d) for c, n, d in decls if n}
     spec = [n for n in byname if n.endswith("_spec") and "tie.spec" in byname[n][1]][0]
@@ -571,7 +641,25 @@ def turn_file(f, folder, path, row, fns, crate, text, said):
             tail = r"tie\.(%s)%s" % (NAME, "".join(r"\s+" + re.escape(a) for a in invs))
             d2 = re.sub(tail, place_type, d)
             d2 = re.sub(r"tie\.(%s)" % NAME, place_type, d2)
+            t.inner = {}
             new = no_not(t.turned(d2, scope))
+            got = parts_of(n, new)
+            if got and bind + ([first] if first else []):
+                marks, sig, unfolds, binders, b = got
+                inner = dict(t.inner)
+                pre = ""
+                for other, root in inner.items():
+                    v, ty, ob, ounf = t.bodies[other]
+                    pre += f" let {other} : {renamed(ty, v, root)} = {renamed(ob, v, root).strip()} in"
+                    if ounf:
+                        names = sorted(set((unfolds + " " + ounf).replace("unfolding", "").split()))
+                        unfolds = "unfolding " + " ".join(names)
+                if inner:
+                    b = pre + (b if b[:1].isspace() else " " + b)
+                    new = f"{marks}{n} : {sig}\n" + (unfolds + "\n" if unfolds else "") + f"{n} {' '.join(binders)} =\n   {b}"
+                ty = re.sub(r"^\(%s : [^()]*\) → " % NAME, "", sig) if sig.startswith("(") else re.sub(r"^%s → " % NAME, "", sig)
+                if len(binders) == 1:
+                    t.bodies[n] = (binders[0], ty, b, unfolds)
         helpers.append((n, "\n".join(comment + [new])))
     body_text = "\n\n".join(h for _, h in helpers) + ("\n\n" if helpers else "") + "\n\n".join(a for _, a in ans_out)
     inv_text = "\n\n".join(inv_out)
@@ -628,6 +716,23 @@ def turn_file(f, folder, path, row, fns, crate, text, said):
                 out.write("\n".join(([note] if note else []) + imports(body_text) + [goal_line] + extra + ["", body_text]) + "\n")
     os.makedirs(os.environ.get("OLD", "/tmp/walks") + f"/{crate}/{path}", exist_ok=True)
     os.replace(f, os.environ.get("OLD", "/tmp/walks") + f"/{crate}/{path}/Proof.antt")
+
+
+def renamed(text, a, b):
+    return text if a == b else re.sub(r"(?<![\w'.-])%s(?=[\s.)])" % re.escape(a), b, text)
+
+
+def in_tactic(text, at):
+    """Whether a place stands in a tactic's list."""
+    depth = 0
+    for i in range(at - 1, -1, -1):
+        if text[i] in CLOSE:
+            depth += 1
+        elif text[i] in OPEN:
+            if not depth:
+                return bool(re.search(r"(?<![\w'-])(?:omega|search|grind|cc|simp|rw) $", text[:i][-10:]))
+            depth -= 1
+    return False
 
 
 def no_not(b):

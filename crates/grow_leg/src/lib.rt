@@ -10,7 +10,7 @@ ghost use Rattle.grow_path.specs.Path.{link_of};
 ghost use Rattle.grow_rules.specs.Growth.{is_destination};
 ghost use Rattle.grow_events.specs.Held.{NotFewer};
 ghost use Rattle.grow_state.specs.Held.{PlanIn, Driving, lists_at_entry, lists_at_exit, lists};
-ghost use Rattle.net_node.specs.Lent.{table_at_entry};
+ghost use Rattle.net_node.specs.Lent.{table_seen};
 ghost use Rattle.net_stack.specs.Openings.{stack_length};
 ghost use Rattle.grow_waiting.specs.Steps.{stacks_at_entry, stacks_at_exit};
 ghost use Rattle.grow_leg.specs.OneLeg.{SomeFinish, SomeLeg, SomeEnding, SomeWay, SomeGoing, ways_behind};

@@ -10,7 +10,7 @@ ghost use Rattle.book_format.specs.Chains.{Readable};
 ghost use Rattle.book_legs.specs.Legs.{Started};
 ghost use Rattle.book_options.specs.Options.{OptionsIn, kept_origins, search_room};
 ghost use Rattle.grow_events.specs.Held.{Growing, NotFewer};
-ghost use Rattle.grow_state.specs.Held.{PlanIn, lists_at_entry, lists};
+ghost use Rattle.grow_state.specs.Held.{PlanIn, lists};
 ghost use Rattle.net_node.specs.Lent.{table_at_entry, table_at_exit};
 ghost use Rattle.grow_waiting.specs.Steps.{stacks_at_entry, stacks_at_exit};
 ghost use Rattle.grow_origins.specs.Origins.{start_state, LeadsFrom, OnlyStart, SomeOrigin, SomeOrigins};

@@ -4,7 +4,7 @@
 ghost use Rattle.std.specs.Prelude.{◌≡◌, List, ◌∷◌, ◌+◌, ◌*◌, ◌≤◌, ◌<◌, length};
 ghost use Rattle.net_join_paths.specs.Entries.{entries_in};
 ghost use Rattle.grow_waiting.specs.Held.{waiting_of, SavedElsewhere, SomeWaits};
-ghost use Rattle.grow_waiting.specs.Steps.{EntriesPushed, EntriesCopied, stacks_at_entry, stacks_at_exit, SavesOnTop};
+ghost use Rattle.grow_waiting.specs.Steps.{EntriesPushed, EntriesCopied, stacks_at_entry, stacks_at_exit, SavesOnTop, stacks_seen};
 ghost use Rattle.grow_waiting.specs.Steps.{TakesUp};
 
 use net_insertion::Place;

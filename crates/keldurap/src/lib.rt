@@ -8,7 +8,7 @@ ghost use Rattle.std.specs.Float.{binary64};
 ghost use Rattle.report.specs.Numbers.{report_in};
 ghost use Rattle.root.specs.Root.{sqrt};
 ghost use Rattle.space.specs.Lent.{work_at_entry, work_at_exit};
-ghost use Rattle.net_node.specs.Lent.{table_at_entry, lent_at_entry, lent_at_exit};
+ghost use Rattle.net_node.specs.Lent.{lent_at_entry, lent_at_exit, table_seen};
 ghost use Rattle.book_reader.specs.Reader.{Checked};
 ghost use Rattle.event_maker.specs.Maker.{lent_leg, list_at_entry, list_at_exit, made_number, made_count};
 ghost use Rattle.pass_table.specs.TableEntry.{table_number, table_nodes};

@@ -6,7 +6,7 @@ ghost use Rattle.std.proofs.Math.Option.{some};
 ghost use Rattle.space.specs.Space.{zeros};
 ghost use Rattle.net_node.specs.Table.{node_at};
 ghost use Rattle.net_node.specs.Left.{filled};
-ghost use Rattle.net_node.specs.Lent.{table_at_entry};
+ghost use Rattle.net_node.specs.Lent.{table_seen};
 ghost use Rattle.listing.specs.Listing.{glyph as Listing·glyph, letter as Listing·letter, digits, decimal, float};
 ghost use Rattle.listing.specs.Listing.{line, lines, head, refused_text, sheet_in, TextListed};
 ghost use Rattle.listing.specs.Written.{Puts, Finishes};

@@ -6,7 +6,7 @@ ghost use Rattle.std.specs.Prelude.{◌≡◌, false, ℕ, ◌+◌, ◌*◌, ◌
 ghost use Rattle.laws.specs.Answer.{and_then};
 ghost use Rattle.space.specs.Space.{zeros};
 ghost use Rattle.net_node.specs.Table.{node_at, Room};
-ghost use Rattle.net_node.specs.Lent.{table_at_entry, table_at_exit};
+ghost use Rattle.net_node.specs.Lent.{table_at_entry, table_at_exit, table_seen};
 ghost use Rattle.pass_rules.specs.Walks.{Inside, done_in};
 ghost use Rattle.pass_rules.specs.Backward.{backward};
 ghost use Rattle.pass_rules.specs.Passes.{some_left, all_zero, after_backward, passes};

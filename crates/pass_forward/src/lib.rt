@@ -4,7 +4,7 @@
 
 ghost use Rattle.std.specs.Prelude.{◌≡◌, false, ℕ, ◌+◌, ◌-◌, ◌*◌, ◌≤◌, ◌<◌, length};
 ghost use Rattle.net_node.specs.Table.{float_width, number_width, node_at, Room};
-ghost use Rattle.net_node.specs.Lent.{table_at_entry, table_at_exit};
+ghost use Rattle.net_node.specs.Lent.{table_at_entry, table_at_exit, table_seen};
 ghost use Rattle.pass_rules.specs.Walks.{Inside, done_in};
 ghost use Rattle.pass_rules.specs.Forward.{forward};
 ghost use Rattle.pass_state.specs.Held.{slices, Working};

@@ -3,7 +3,7 @@
 
 ghost use Rattle.std.specs.Prelude.{◌≡◌, not, ◌&&◌, ◌+◌, ◌-◌, ◌≤◌, ◌<◌, length};
 ghost use Rattle.net_node.specs.Table.{node_at, Room};
-ghost use Rattle.net_node.specs.Lent.{table_at_entry};
+ghost use Rattle.net_node.specs.Lent.{table_at_entry, table_seen};
 ghost use Rattle.pass_rules.specs.Checks.{differ, prev_holds, next_holds, fake_holds, node_holds, row14};
 ghost use Rattle.pass_rules.specs.Plain.{plain, neighbours_hold};
 ghost use Rattle.pass_rules.specs.Forward.{swap_join};

@@ -4,7 +4,7 @@
 ghost use Rattle.std.specs.Prelude.{◌≡◌, ◌||◌, [], ◌∷◌, ◌*◌, ◌≤◌, leb, ltb, length};
 ghost use Rattle.net_node.specs.Table.{float_width, number_width};
 ghost use Rattle.net_node.specs.Left.{nodes_in};
-ghost use Rattle.net_node.specs.Lent.{table_at_entry, table_at_exit, lent_at_entry, lent_at_exit};
+ghost use Rattle.net_node.specs.Lent.{table_at_entry, table_at_exit, lent_at_entry, lent_at_exit, table_seen};
 ghost use Rattle.space.specs.Lent.{work_at_entry, bytes_in};
 ghost use Rattle.laws.specs.Refusals.{row, first_of};
 ghost use Rattle.pass_all.specs.Answers.{TimedAs};
