@@ -403,7 +403,9 @@ class Turn:
                         self.inner.setdefault(call[1], root)
                         pos = m.end()
                         continue
-                    if call and call[1] in self.helpers and self.goal:
+                    if call and call[1] in self.helpers and self.goal and self.helpers[call[1]] == "Start":
+                        out.append(".".join([root] + ["before"] * (n + 1)))
+                    elif call and call[1] in self.helpers and self.goal:
                         out.append(f"(goal.at.{self.goal} {root}).{self.places[self.helpers[call[1]]]['name']}")
                     else:
                         if comps:
@@ -540,6 +542,10 @@ def turn_file(f, folder, path, row, fns, crate, text, said):
         m = re.match(r"(?:(?:abbrev|unfoldable|pub) )*%s : (?:\(%s : )?tie\.(%s)" % (re.escape(n or "-"), NAME, NAME), d)
         if n and m and t.place(m[1]):
             t.helpers[n] = t.place(m[1])
+        m = re.match(r"module _ \((%s) : tie\.(%s)" % (NAME, NAME), d)
+        if m and t.place(m[2]):
+            for inner in re.findall(r"(?m)^  (?:(?:abbrev|unfoldable|pub) )*(%s) :" % NAME, d):
+                t.helpers[inner] = t.place(m[2])
     # invariants and measures
     for k, ((old, new), variables) in enumerate(row["loops"]):
         changed = row["changed"][k]
@@ -643,7 +649,7 @@ def turn_file(f, folder, path, row, fns, crate, text, said):
             d2 = re.sub(r"tie\.(%s)" % NAME, place_type, d2)
             t.inner = {}
             new = no_not(t.turned(d2, scope))
-            got = parts_of(n, new)
+            got = parts_of(n, new) if n != "module" else None
             if got and bind + ([first] if first else []):
                 marks, sig, unfolds, binders, b = got
                 inner = dict(t.inner)
