@@ -397,7 +397,7 @@ class Turn:
                     if n is None:
                         self.complain(f"{call[1]} is called at {at[1]}, which is not below {self.helpers[call[1]]}")
                         n = len(comps)
-                    if call and call[1] in self.bodies and not self.goal:
+                    if call and call[1] in self.bodies and not self.goal and n:
                         joined = "".join(out)
                         out = [joined[: len(joined) - 1]]
                         self.inner.setdefault(call[1], root)

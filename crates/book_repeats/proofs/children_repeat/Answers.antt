@@ -50,7 +50,8 @@ returns-then-marks-link c = let w = c.loop-j.invariant in
     }
 
 pub bounds-marks-link-in-loop-j : goal.bounds-marks-link-in-loop-j
-bounds-marks-link-in-loop-j c = bounds-marks-link c.before
+bounds-marks-link-in-loop-j c =
+    walk_link c.loop-j.invariant c.loop-j-test.true _ c.leg_at-leg.ensures c.requires.readable c.requires.book_in_bounds
 
 pub overflow_mul-j-in-loop-j : goal.overflow_mul-j-in-loop-j
 overflow_mul-j-in-loop-j c = omega (arith, (limits _ c.requires.readable.counted.counts).legs_most, c.loop-j.invariant.within)
@@ -75,7 +76,7 @@ loop-j-preserved c =
     let w = c.loop-j.invariant in
     let h = c.loop-j-test.true in
     let ch = c.requires.chained in
-    walk_on w h _ c.leg_at-leg.ensures _ (bounds-marks-link c.before.before) c.if-marks-link.false (next_child ch w h)
+    walk_on w h _ c.leg_at-leg.ensures _ (walk_link c.loop-j.invariant c.loop-j-test.true _ c.leg_at-leg.ensures c.requires.readable c.requires.book_in_bounds) c.if-marks-link.false (next_child ch w h)
 
 pub shape_of-marks : goal.shape_of-marks
 shape_of-marks c = c.loop-j.invariant.kept

@@ -31,12 +31,13 @@ returns-then-marks-link-eq1 c =
     swept_found c.loop-i.invariant q.sized c.loop-i-test.true _ c.origin_at-o.ensures c.if-marks-link-eq1.true
 
 pub bounds-marks-link-in-loop-i : goal.bounds-marks-link-in-loop-i
-bounds-marks-link-in-loop-i c = bounds-marks-link c.before
+bounds-marks-link-in-loop-i c =
+    swept_link c.loop-i.invariant c.requires.sized c.loop-i-test.true _ c.origin_at-o.ensures c.requires.book_value_2 c.requires.book_in_bounds
 
 pub loop-i-preserved : goal.loop-i-preserved
 loop-i-preserved c =
     let q = c.requires in
-    swept_on c.loop-i.invariant q.sized c.loop-i-test.true _ c.origin_at-o.ensures (bounds-marks-link c.before) c.if-marks-link-eq1.false
+    swept_on c.loop-i.invariant q.sized c.loop-i-test.true _ c.origin_at-o.ensures (swept_link c.loop-i.invariant c.requires.sized c.loop-i-test.true _ c.origin_at-o.ensures c.requires.book_value_2 c.requires.book_in_bounds) c.if-marks-link-eq1.false
 
 pub shape_of-marks : goal.shape_of-marks
 shape_of-marks c = c.loop-i.invariant.kept

@@ -25,10 +25,9 @@ abbrev there : After-first_reaching-i → Heads
 there c = heads c.first_reaching-i.result 1 c.args.h.pt_idx_front
 
 -- from there on the walk is the same
-skipped : (c : After-first_reaching-i) → (passed_from (course) c.args.h ≡ passed_from (course) (there)) × Within (course) (there)
+skipped : (c : After-first_reaching-i) → (passed_from (course c) c.args.h ≡ passed_from (course c) (there c)) × Within (course c) (there c)
 unfolding course_of clears_next
 skipped c =
-    let course : Course = course_of c.args.book.now c.args.offsets.now c.args.m in let there : Heads = heads c.first_reaching-i.result 1 c.args.h.pt_idx_front in
 
     let u = unseen_is _ _ c.args.h (sym c.is_unseen.ensures ∙ c.if-is_unseen.true) in
     next_unseen c.requires.walkable c.requires.within c.event_offset-offset_next.result (unseen_offset c.args.book.now c.args.offsets.now c.args.m c.args.h c.event_offset-offset_next.result u.1 c.event_offset-offset_next.ensures)
