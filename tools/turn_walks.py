@@ -416,7 +416,11 @@ class Turn:
                 new, kind = self.follow(at, comps)
                 whole = ".".join([root] + new)
                 is_let = head and after
-                if kind[0] == "rest" or kind[0] == "clauses" and len(kind[1]) > 1 and not is_let and not self.is_all(text, m) and not in_tactic(text, m.start()):
+                if kind[0] == "rest" and is_let:
+                    kind = ("clauses", kind[1])
+                if kind[0] == "rest" and in_tactic(text, m.start()):
+                    kind = ("other",)
+                elif kind[0] == "rest" or kind[0] == "clauses" and len(kind[1]) > 1 and not is_let and not self.is_all(text, m) and not in_tactic(text, m.start()):
                     # the clauses, or the last of them, as the pairs that a lemma takes
                     names = kind[1]
                     term = f"{whole}.{names[-1]}"
@@ -702,6 +706,9 @@ def turn_file(f, folder, path, row, fns, crate, text, said):
                 last = u.split()[-1].split(".")[-1]
                 if re.search(r"(?<![\w'.-])%s\." % re.escape(last), for_text):
                     got.append(u)
+        for name, home in (("ap", "mathlib.Core.Path"), ("not", "mathlib.Core.Bool")):
+            if "(ap not " in for_text and not any(re.search(r"[{ ]%s[,}]" % name, g) for g in got):
+                got.insert(0, f"use {home}.{{{name}}}")
         return got
 
     note = text.split("\n")[0] if text.startswith("--") else ""
@@ -743,7 +750,9 @@ def in_tactic(text, at):
 
 def no_not(b):
     """A test of `!x` says what a test of x says."""
-    return re.sub(r"not-(true|false) (?:_|[\w.'-]+|\([^()]*\)) (\w+\.if-not-[\w.'-]+\.\1)", r"\2", b)
+    b = re.sub(r"not-(true|false) (?:_|[\w.'-]+|\([^()]*\)) (\w+\.if-not-[\w.'-]+\.\1)", r"\2#", b)
+    b = re.sub(r"(?<![\w.'-])(\w+\.if-not-[\w.'-]+\.(?:true|false))(?!#)(?![\w'-])", r"(ap not \1)", b)
+    return b.replace("#", "")
 
 
 def by_clauses(b, clauses, t, new, theirs):

@@ -7,16 +7,16 @@ use Rattle.net_join_paths.proofs.Spans.{copying_start, copying_whole, copying_ov
 use Rattle.net_join_paths.proofs.push_nodes.Goals as goal
 
 pub loop-k-init : goal.loop-k-init
-loop-k-init c = let r = (c.requires.n_bound, (c.requires.begin_le_end, c.requires.end_le_n)) in (refl, copying_start _ _ _ _ _ r.0 r.1.0)
+loop-k-init c = let r = c.requires in (refl, copying_start _ _ _ _ _ r.n_bound r.begin_le_end)
 
 pub overflow_mul-x : goal.overflow_mul-x
-overflow_mul-x c = let r = (c.requires.n_bound, (c.requires.begin_le_end, c.requires.end_le_n)) in omega (arith, c.loop-k-test.true, r.0, r.1.1)
+overflow_mul-x c = let r = c.requires in omega (arith, c.loop-k-test.true, r.n_bound, r.end_le_n)
 
 pub overflow_add-x : goal.overflow_add-x
-overflow_add-x c = let r = (c.requires.n_bound, (c.requires.begin_le_end, c.requires.end_le_n)) in omega (arith, c.loop-k-test.true, r.0, r.1.1)
+overflow_add-x c = let r = c.requires in omega (arith, c.loop-k-test.true, r.n_bound, r.end_le_n)
 
 pub offset_bounds-list-k : goal.offset_bounds-list-k
-offset_bounds-list-k c = let r = (c.requires.n_bound, (c.requires.begin_le_end, c.requires.end_le_n)) in omega (arith, c.loop-k-test.true, r.0, r.1.1)
+offset_bounds-list-k c = let r = c.requires in omega (arith, c.loop-k-test.true, r.n_bound, r.end_le_n)
 
 pub bounds-list-k : goal.bounds-list-k
 bounds-list-k c = let r = c.requires in omega (arith, c.loop-k-test.true, c.loop-k.invariant.0, r.in_bounds, r.n_bound, r.end_le_n)
@@ -35,7 +35,7 @@ unfolding entry
 returns-in_default c = let p = c.push_entry in copying_over c.loop-k.invariant.1 c.loop-k-test.true c.requires.end_le_n _ refl p.new.list p.result p.ensures c.in_default.is
 
 pub overflow_add-k : goal.overflow_add-k
-overflow_add-k c = let r = (c.requires.n_bound, (c.requires.begin_le_end, c.requires.end_le_n)) in omega (arith, c.loop-k-test.true, r.0, r.1.1)
+overflow_add-k c = let r = c.requires in omega (arith, c.loop-k-test.true, r.n_bound, r.end_le_n)
 
 pub loop-k-smaller : goal.loop-k-smaller
 loop-k-smaller c = omega (arith, c.loop-k-test.true)
