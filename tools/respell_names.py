@@ -106,6 +106,10 @@ def turned(text, becomes, path):
     stay = foreign(text) if path.endswith((".antt", ".rt")) else set()
     mark = "//" if path.endswith(".rt") else "--"
 
+    # a name of src/ that is spelled so already is a function's or a variable's
+    if path.endswith(".rt") or path.endswith(".edit") and re.search(r"(?m)^file: src/", text):
+        becomes = {n: k for n, k in becomes.items() if not re.match(r"[a-z0-9_]+$", n)}
+
     def word(m):
         name = m[0]
         before = text_of[0][max(0, m.start() - 8) : m.start()]

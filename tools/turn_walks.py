@@ -196,6 +196,7 @@ class Turn:
             self.by_old[norm(old)] = old
         parts = path.split(".")
         self.helpers, self.goal, self.bodies, self.inner = {}, None, {}, {}
+        self.wants, self.startings = set(), {}
         self.own = fns.get(f"{crate}::" + "::".join(parts)) or Fn()
 
     def complain(self, text):
@@ -339,8 +340,8 @@ class Turn:
                 if kind[0] == "tuple" or k < len(names) - 1:
                     if i < len(comps) and comps[i] == "0":
                         i += 1
-                    elif i >= len(comps) and kind[0] == "clauses":
-                        return out, ("rest", names[k:])
+                    elif i >= len(comps):
+                        return out, ("rest" if kind[0] == "clauses" else "tail", names[k:])
                     else:
                         self.complain(f"a path ends in a part of a tuple: {'.'.join(comps)}")
                 out.append(names[k] if k < len(names) and names[k] else "UNNAMED")
@@ -397,15 +398,22 @@ class Turn:
                     if n is None:
                         self.complain(f"{call[1]} is called at {at[1]}, which is not below {self.helpers[call[1]]}")
                         n = len(comps)
-                    if call and call[1] in self.bodies and not self.goal and n:
+                    if call and call[1] in self.startings:
+                        # what is said at the start is said of the variable itself
+                        v, b = self.startings[call[1]]
+                        joined = "".join(out)
+                        cut = joined[: len(joined) - len(call[1]) - 1]
+                        out = [cut, "(" + renamed(b, v, root) + ")"]
+                    elif call and call[1] in self.helpers and self.helpers[call[1]] == "Start" and (self.goal or at[1] != "Start"):
+                        out.append(".".join([root] + ["before"] * (n + 1)))
+                    elif call and call[1] in self.bodies and not self.goal and n:
                         joined = "".join(out)
                         out = [joined[: len(joined) - 1]]
                         self.inner.setdefault(call[1], root)
                         pos = m.end()
                         continue
-                    if call and call[1] in self.helpers and self.goal and self.helpers[call[1]] == "Start":
-                        out.append(".".join([root] + ["before"] * (n + 1)))
                     elif call and call[1] in self.helpers and self.goal:
+                        self.wants.add(self.places[self.helpers[call[1]]]["name"])
                         out.append(f"(goal.at.{self.goal} {root}).{self.places[self.helpers[call[1]]]['name']}")
                     else:
                         if comps:
@@ -418,6 +426,10 @@ class Turn:
                 is_let = head and after
                 if kind[0] == "rest" and is_let:
                     kind = ("clauses", kind[1])
+                if kind[0] == "tail":
+                    if not is_let:
+                        self.complain(f"a path ends in a part of a tuple: {m[0]}")
+                    kind = ("tuple", kind[1])
                 if kind[0] == "rest" and in_tactic(text, m.start()):
                     kind = ("other",)
                 elif kind[0] == "rest" or kind[0] == "clauses" and len(kind[1]) > 1 and not is_let and not self.is_all(text, m) and not in_tactic(text, m.start()):
@@ -546,10 +558,17 @@ def turn_file(f, folder, path, row, fns, crate, text, said):
         m = re.match(r"(?:(?:abbrev|unfoldable|pub) )*%s : (?:\(%s : )?tie\.(%s)" % (re.escape(n or "-"), NAME, NAME), d)
         if n and m and t.place(m[1]):
             t.helpers[n] = t.place(m[1])
+        if n and m and t.place(m[1]) == "Start" and d.startswith("abbrev"):
+            got = parts_of(n, d)
+            if got and len(got[3]) == 1 and "\n" not in got[4].strip():
+                t.startings[n] = (got[3][0], t.turned(got[4].strip(), {got[3][0]: ("place", "Start")}))
         m = re.match(r"module _ \((%s) : tie\.(%s)" % (NAME, NAME), d)
         if m and t.place(m[2]):
             for inner in re.findall(r"(?m)^  (?:(?:abbrev|unfoldable|pub) )*(%s) :" % NAME, d):
                 t.helpers[inner] = t.place(m[2])
+    for at, arg in zip(row["asked_at"], answers):
+        if arg in byname and t.place(at[0]):
+            t.helpers.setdefault(arg, t.place(at[0]))
     # invariants and measures
     for k, ((old, new), variables) in enumerate(row["loops"]):
         changed = row["changed"][k]
@@ -570,7 +589,7 @@ def turn_file(f, folder, path, row, fns, crate, text, said):
             inv_out.append("\n".join(comment + [f"abbrev pub {what}-{new} : goal.{what}-{new}"] + ([unfolds] if unfolds else []) + [f"{what}-{new} l ={b}"]))
     # answers
     used = {}
-    wants = set()
+    wants = t.wants
     order = []
     for (old, new), at, arg in zip(needs, row["asked_at"], answers):
         comment = []
@@ -620,7 +639,7 @@ def turn_file(f, folder, path, row, fns, crate, text, said):
     for comment, n, d in decls:
         if n is None:
             continue
-        if n == spec or n in used or n in loop_args:
+        if n == spec or n in used or n in loop_args or n in t.startings:
             continue
         if re.search(r": *tie\.(Need-|invariant|decreases)", d.split("\n")[0]):
             continue
@@ -676,7 +695,6 @@ def turn_file(f, folder, path, row, fns, crate, text, said):
     for u in used:
         if re.search(r"(?<![\w'.-])%s(?![\w'-])" % re.escape(u), body_text.replace("goal." + u, "")) and u not in order:
             body_text = re.sub(r"(?<![\w'.-])%s(?![\w'-])" % re.escape(u), used[u], body_text)
-            t.complain(f"{u} is cited by another proof, as {used[u]} now")
     # helpers that only serve invariants
     inv_helpers = [h for n, h in helpers if re.search(r"(?<![\w'.-])%s(?![\w'-])" % re.escape(n), inv_text) and "tie" not in h]
     inv_names = [n for n, h in helpers if h in inv_helpers]
@@ -781,6 +799,8 @@ def substituted(text, sub):
     word = re.compile(r"(?<![\w'.\-₀-₉])([^\s(){}.;,@\"«»\[\]]+)")
 
     def one(m):
+        if re.compile(r"\s*=\s").match(text, m.end()) and not re.search(r"let $", text[: m.start()][-4:]):
+            return m[1]
         return sub.get(m[1], m[1])
 
     return word.sub(one, text)

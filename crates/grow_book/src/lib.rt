@@ -200,10 +200,10 @@ fn run_all(
         (table_at_exit floats numbers) result }
 {
     let g = grow_origins::first_state();
-    let with_origins_lem = grow_origins::origins(
+    let with_origins = grow_origins::origins(
         book, floats, numbers, reals, cells, marks, joins, kept, p, g,
     );
-    let origins_state = match with_origins_lem {
+    let origins_state = match with_origins {
         GrowthAnswer::Refused(k) => return GrownBook::Stopped(k),
         GrowthAnswer::On(state) => state,
     };

@@ -14,7 +14,7 @@ ghost use Rattle.pass_all.specs.Answers.{TimedAs, sixteen_if};
 
 // Row 15: whether a pass has left a node out. A node is done whose cell is set. All cells are looked at, whatever is
 // found: that is faster than stopping.
-fn some_left_lem(cells: &[u32], done_at: usize, n: usize) -> bool
+fn some_left(cells: &[u32], done_at: usize, n: usize) -> bool
     requires { done_at + n ≤ length cells.now }
     ensures { result ≡ some_left (done_in cells.now done_at) n }
 {
@@ -72,7 +72,7 @@ fn pass_backward(
     if !pass_backward::update_times_backward(floats, numbers, n, cells, n, reals, marks) {
         return 15;
     }
-    if some_left_lem(cells, n, n) {
+    if some_left(cells, n, n) {
         return 15;
     }
     sixteen_if(all_zero(floats, numbers, n))
@@ -104,7 +104,7 @@ pub fn run_passes(
     if !pass_forward::update_times_forward(floats, numbers, n, departure, cells, 0, reals, marks) {
         return 15;
     }
-    if some_left_lem(cells, 0, n) {
+    if some_left(cells, 0, n) {
         return 15;
     }
     pass_backward(floats, numbers, n, reals, cells, marks)

@@ -9,6 +9,7 @@ use Rattle.book_reader.proofs.Numbers.{left_told, stopped_told, from_6}
 use Rattle.book_reader.proofs.Rooms.{part_fits, blank_of, number_capped}
 use Rattle.book_reader.proofs.Parts.{read_among, behind_part}
 use Rattle.book_reader.proofs.read_book.Goals as goal
+use Rattle.book_reader.proofs.read_book.Goals.{After-part-1, After-search_room-room}
 
 pub search_room-room-requires : goal.search_room-room-requires
 search_room-room-requires c =
@@ -30,7 +31,7 @@ slice_bounds-part-end c =
     omega (arith, fits, room_told _ t.passed.sized c.search_room-room.ensures)
 
 pub slice_bounds-part-end-in-Left : goal.slice_bounds-part-end-in-Left
-slice_bounds-part-end-in-Left c = sym (length-take-le _ _ (slice_bounds-part-end c.before))
+slice_bounds-part-end-in-Left c = sym (length-take-le _ _ (slice_bounds-part-end (goal.at.slice_bounds-part-end-in-Left c).After-search_room-room))
 
 pub read_rest-requires : goal.read_rest-requires
 read_rest-requires c =
@@ -68,7 +69,7 @@ returns-in-Left c =
     let part = c.read_rest.new.marks in
     let behind = drop c.search_room-room.result c.args.marks.now in
     let told : c.search_room-room.result ≡ search_room b = room_told _ t.passed.sized c.search_room-room.ensures in
-    let e : length part ≡ search_room b = c.read_rest.auto.marks ∙ sym (slice_bounds-part-end-in-Left c.before.before) ∙ told in
+    let e : length part ≡ search_room b = c.read_rest.auto.marks ∙ sym (slice_bounds-part-end-in-Left (goal.at.returns-in-Left c).After-part-1) ∙ told in
     record {
       number =
           r.number

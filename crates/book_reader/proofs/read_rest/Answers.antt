@@ -9,7 +9,7 @@ use Rattle.space.proofs.Zeros.{zeros_front, zeros_back}
 use Rattle.book_format.proofs.Places.{sized_links}
 use Rattle.book_reader.proofs.Numbers.{not_zero_lem, from_6_third, from_6_none, readable_then, no_path, some_path, ready_of}
 use Rattle.book_reader.proofs.read_rest.Goals as goal
-use Rattle.book_reader.proofs.read_rest.Goals.{After-marks-1}
+use Rattle.book_reader.proofs.read_rest.Goals.{After-marks-1, After-own-1, After-slice_known-2-1}
 
 -- the marks are back, as many as before
 back : (c : After-marks-1) → length (c.test_repeats-n.new.marks ++ drop c.args.s.links c.args.marks.now) ≡ length c.args.marks.now
@@ -19,7 +19,7 @@ pub slice_bounds-own-end : goal.slice_bounds-own-end
 slice_bounds-own-end c = omega (arith, sized_links c.requires.rows_passed.sized, c.requires.blank.marks_room)
 
 pub slice_bounds-own-end-2 : goal.slice_bounds-own-end-2
-slice_bounds-own-end-2 c = sym (length-take-le _ _ (slice_bounds-own-end c.before))
+slice_bounds-own-end-2 c = sym (length-take-le _ _ (slice_bounds-own-end (goal.at.slice_bounds-own-end-2 c).After-slice_known-2-1))
 
 pub test_repeats-n-requires : goal.test_repeats-n-requires
 test_repeats-n-requires c =
@@ -29,7 +29,7 @@ test_repeats-n-requires c =
       late_value = p.late_value;
       blank = record {
           cells_room = p.blank.cells_room;
-          marks_room = omega (arith, sized_links p.rows_passed.sized, slice_bounds-own-end-2 c.before);
+          marks_room = omega (arith, sized_links p.rows_passed.sized, slice_bounds-own-end-2 (goal.at.test_repeats-n-requires c).After-own-1);
           cells_zero = p.blank.cells_zero;
           marks_zero = zeros_front c.args.s.links p.blank.marks_zero;
         };
