@@ -283,6 +283,9 @@ class Turn:
                 if c in ("args",):
                     out.append(c)
                     kind = ("args",)
+                elif c == "requires" and len(self.own.requires) == 1 and self.own.requires[0]:
+                    out += [c, self.own.requires[0]]
+                    kind = ("other",)
                 elif c == "requires":
                     out.append(c)
                     kind = ("clauses", self.own.requires)
@@ -318,6 +321,9 @@ class Turn:
                 out.append(snake(c) if not c[0].isdigit() else c)
                 if c == "ensures":
                     kind = ("clauses", callee.ensures if callee else [])
+                    if len(kind[1]) == 1 and kind[1][0]:
+                        out.append(kind[1][0])
+                        kind = ("other",)
                 elif c == "new":
                     kind = ("tuple", self.listed(self.places[kind[1]]["new"], "new"))
                 elif c == "auto":
@@ -630,6 +636,9 @@ def turn_file(f, folder, path, row, fns, crate, text, said):
                     clauses = fns[callee].requires
         elif re.match(r"returns(-\d+)?$", old):
             clauses = t.own.ensures
+        if clauses and len(clauses) == 1 and clauses[0] and not TRIVIAL.match(b.strip()):
+            pre, rest = lets(b)
+            b = f"{pre} record {{ {clauses[0]} = {rest.strip()} }}"
         if clauses and len(clauses) > 1 and not TRIVIAL.match(b.strip()):
             b = by_clauses(b, clauses, t, new, t.last_kind(b, var, place))
         ans_out.append((new, "\n".join(comment + [f"pub {new} : goal.{new}"] + ([unfolds] if unfolds else []) + [f"{new} {var} ={b if b[:1].isspace() else ' ' + b}"])))

@@ -24,4 +24,4 @@ pub overflow_cast-result : goal.overflow_cast-result
 overflow_cast-result c = omega (arith, c.shared_slice_known-7-1.given (c.args.top * 8 + 5))
 
 pub returns : goal.returns
-returns c = pop_gives _ _ _ _ _ _ c.copy_entries.ensures
+returns c = record { popped = pop_gives _ _ _ _ _ _ c.copy_entries.ensures }
