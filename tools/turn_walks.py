@@ -555,9 +555,21 @@ def turn_file(f, folder, path, row, fns, crate, text, said):
     nloops = len(row["loops"])
     needs = row["needs"]
     loop_args, answers = args[: 2 * nloops], args[2 * nloops :]
+    asked = row["asked_at"]
     if len(answers) != len(needs):
-        t.complain(f"{len(answers)} answers for {len(needs)} goals: {[n[0] for n in needs]}")
-        return
+        # some goals are gone: each that an answer is named for keeps it
+        named = {}
+        for a in answers:
+            m = re.search(r": *tie\.Need-(%s)" % NAME, byname[a][1].split("\n")[0]) if a in byname else None
+            if m:
+                named[norm(m[1])] = a
+            elif not TRIVIAL.match(re.sub(r"^λ [^.]*\. ", "", strip_parens(a)).strip()):
+                t.complain(f"an answer for a goal that may be gone: {a[:80]}")
+        asked = [a for n, a in zip(needs, asked) if norm(n[0]) in named]
+        needs = [n for n in needs if norm(n[0]) in named]
+        answers = [named[norm(n[0])] for n in needs]
+        if len(needs) < len(named):
+            t.complain(f"of {list(named.values())} there are goals for {answers}")
     local = set(byname)
     inv_out, ans_out = [], []
     for _, n, d in decls:
@@ -572,7 +584,7 @@ def turn_file(f, folder, path, row, fns, crate, text, said):
         if m and t.place(m[2]):
             for inner in re.findall(r"(?m)^  (?:(?:abbrev|unfoldable|pub) )*(%s) :" % NAME, d):
                 t.helpers[inner] = t.place(m[2])
-    for at, arg in zip(row["asked_at"], answers):
+    for at, arg in zip(asked, answers):
         if arg in byname and t.place(at[0]):
             t.helpers.setdefault(arg, t.place(at[0]))
     # invariants and measures
@@ -597,7 +609,7 @@ def turn_file(f, folder, path, row, fns, crate, text, said):
     used = {}
     wants = t.wants
     order = []
-    for (old, new), at, arg in zip(needs, row["asked_at"], answers):
+    for (old, new), at, arg in zip(needs, asked, answers):
         comment = []
         unfolds = spec_unfolds
         if arg in byname:

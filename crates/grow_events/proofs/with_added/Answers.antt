@@ -1,0 +1,16 @@
+-- `grow_events::with_added` meets its contract.
+use mathlib.Core.Path.{◌≡◌, ap, ◌∙◌}
+use mathlib.Core.Logic.{⊎_elim}
+use Prim.Native.Nat.{ℕ, ◌+◌}
+use Rattle.grow_rules.specs.Run.{count_if}
+use Rattle.grow_events.proofs.Inserting.{count_more, count_same}
+use Rattle.grow_events.proofs.with_added.Goals as goal
+use Rattle.grow_events.proofs.with_added.Goals.{Joined-split}
+
+splits_are : (c : Joined-split) → c.if-split.splits ≡ count_if c.args.split c.args.c.splits
+splits_are c = ⊎_elim (λ o. o.2 ∙ count_more _ _ o.0.taken) (λ o. o.1 ∙ count_same _ _ o.0.left) c.if-split.branch
+
+pub returns : goal.returns
+returns c =
+    let a = c.args in
+    ap (λ (s : ℕ). record { nodes = a.node + 1; added = a.c.added + 1; splits = s; joined = a.c.joined; last_end = a.c.last_end }) (splits_are (goal.at.returns c).Joined-split)

@@ -1,0 +1,37 @@
+-- `listing::put_line` meets its contract.
+use mathlib.Core.Path.{ap}
+use mathlib.Core.List.{[], ◌∷◌}
+use Prim.Native.Nat.{ℕ}
+use Rattle.listing.specs.Listing.{line}
+use Rattle.listing.proofs.Texts.{then_put, put_as}
+use Rattle.listing.proofs.put_line.Goals as goal
+
+-- `listing::put_line` meets its contract.
+-- each call, from the last one back
+pub returns : goal.returns
+unfolding line
+returns c =
+
+
+
+
+
+
+
+
+
+
+
+
+
+    let kind = put_as c.put_byte-to-2.ensures (ap (λ (b : ℕ). b ∷ []) c.letter.ensures) in
+    then_put
+    c.put_decimal-to.ensures
+    (then_put c.put_byte-to.ensures
+    (then_put kind
+    (then_put c.put_count-to.ensures
+    (then_put c.put_count-to-2.ensures
+    (then_put c.put_count-to-3.ensures
+    (then_put c.put_count-to-4.ensures
+    (then_put c.put_count-to-5.ensures
+    (then_put c.put_float-to.ensures (then_put c.put_float-to-2.ensures (then_put c.put_float-to-3.ensures (then_put c.put_float-to-4.ensures c.put_byte.ensures)))))))))))
