@@ -7,7 +7,7 @@ ghost use Rattle.space.specs.Space.{zeros};
 ghost use Rattle.net_node.specs.Table.{node_at};
 ghost use Rattle.net_node.specs.Left.{filled};
 ghost use Rattle.net_node.specs.Lent.{table_seen};
-ghost use Rattle.listing.specs.Listing.{glyph as Listing·glyph, letter as Listing·letter, digits, decimal, float};
+ghost use Rattle.listing.specs.Listing.{glyph, letter, digits, decimal, float};
 ghost use Rattle.listing.specs.Listing.{line, lines, head, refused_text, sheet_in, TextListed};
 ghost use Rattle.listing.specs.Written.{Puts, Finishes};
 
@@ -71,7 +71,7 @@ fn put_count(out: &mut [u8], at: usize, word: &[u8], n: u64) -> usize
 // A hexadecimal digit.
 fn glyph(d: u64) -> u8
     requires { d < 16 }
-    ensures { result ≡ Listing·glyph d }
+    ensures { result ≡ glyph d }
 {
     if d < 10 { 48 + d as u8 } else { 87 + d as u8 }
 }
@@ -103,7 +103,7 @@ fn put_float(out: &mut [u8], at: usize, x: f64) -> usize
 
 // The letter of a kind.
 fn letter(kind: EstType) -> u8
-    ensures { result ≡ Listing·letter kind }
+    ensures { result ≡ letter kind }
 {
     match kind {
         EstType::Arrive => b'A',
