@@ -18,7 +18,7 @@ pub returns-then-not-m : goal.returns-then-not-m
 returns-then-not-m c =
     let i = c.insert_event in
     record {
-      outcome = λ start leg net run v u. alone_as v u _ _ (ap not c.if-not-m.true) _ _ _ _ i.result (i.ensures.outcome start _ leg net run v u);
+      outcome = λ start leg net run v u. alone_as v u _ _ c.if-not-m.true _ _ _ _ i.result (i.ensures.outcome start _ leg net run v u);
       more = i.ensures.more;
     }
 
@@ -46,7 +46,7 @@ pub with_joined-requires : goal.with_joined-requires
 with_joined-requires c =
     let r = c.requires in
     let s = c.join_step-step in
-    let all = joined_small r.moving.holds r.moving.runs _ _ (ap not c.if-not-m.false) _ _ _ _ s.result s.ensures.answer s.ensures.table s.ensures.cells _ c.in-Joined.is in
+    let all = joined_small r.moving.holds r.moving.runs _ _ c.if-not-m.false _ _ _ _ s.result s.ensures.answer s.ensures.table s.ensures.cells _ c.in-Joined.is in
     record {
       nodes_bound = all.0;
       joined_bound = all.1;
@@ -57,7 +57,7 @@ insert_event-requires-in-Waits c =
     let r = c.requires in
     let s = c.join_step-step in
     record {
-      growing = record { start = r.moving.start; net = r.moving.net; holds = waits_net r.moving.holds r.moving.runs _ _ (ap not c.if-not-m.false) _ _ _ _ s.result s.ensures.answer s.ensures.table s.ensures.cells _ c.in-Waits.is };
+      growing = record { start = r.moving.start; net = r.moving.net; holds = waits_net r.moving.holds r.moving.runs _ _ c.if-not-m.false _ _ _ _ s.result s.ensures.answer s.ensures.table s.ensures.cells _ c.in-Waits.is };
       idx_prev_bound = r.moving.runs.stands;
       real = r.real;
     }
@@ -66,7 +66,7 @@ pub returns-in-Refused : goal.returns-in-Refused
 returns-in-Refused c =
     let s = c.join_step-step in
     record {
-      outcome = λ start leg net run v u. step_refused v u _ _ (ap not c.if-not-m.false) _ _ _ _ s.result s.ensures.answer s.ensures.table s.ensures.cells _ c.in-Refused.is;
+      outcome = λ start leg net run v u. step_refused v u _ _ c.if-not-m.false _ _ _ _ s.result s.ensures.answer s.ensures.table s.ensures.cells _ c.in-Refused.is;
       more = tt;
     }
 
@@ -75,7 +75,7 @@ returns-in-Joined c =
     let s = c.join_step-step in
     record {
       outcome = λ start leg net run v u.
-          step_joined v u _ _ (ap not c.if-not-m.false) _ _ _ _ s.result s.ensures.answer s.ensures.table s.ensures.cells _ c.in-Joined.is _ c.with_joined.ensures;
+          step_joined v u _ _ c.if-not-m.false _ _ _ _ s.result s.ensures.answer s.ensures.table s.ensures.cells _ c.in-Joined.is _ c.with_joined.ensures;
       more = omega (arith, ap (λ (x : Counts). x.nodes) c.with_joined.ensures);
     }
 
@@ -85,8 +85,8 @@ returns-in-Waits c =
     let i = c.insert_event-in-Waits in
     record {
       outcome = λ start leg net run v u.
-          step_waits v u _ _ (ap not c.if-not-m.false) _ _ _ _ s.result s.ensures.answer s.ensures.table s.ensures.cells _ c.in-Waits.is
-          _ _ _ _ i.result (i.ensures.outcome start _ leg net _ (waits_net v u _ _ (ap not c.if-not-m.false) _ _ _ _ s.result s.ensures.answer s.ensures.table s.ensures.cells _ c.in-Waits.is)
-          (waits_run v u _ _ (ap not c.if-not-m.false) _ _ _ _ s.result s.ensures.answer s.ensures.table s.ensures.cells _ c.in-Waits.is));
+          step_waits v u _ _ c.if-not-m.false _ _ _ _ s.result s.ensures.answer s.ensures.table s.ensures.cells _ c.in-Waits.is
+          _ _ _ _ i.result (i.ensures.outcome start _ leg net _ (waits_net v u _ _ c.if-not-m.false _ _ _ _ s.result s.ensures.answer s.ensures.table s.ensures.cells _ c.in-Waits.is)
+          (waits_run v u _ _ c.if-not-m.false _ _ _ _ s.result s.ensures.answer s.ensures.table s.ensures.cells _ c.in-Waits.is));
       more = i.ensures.more;
     }

@@ -3,7 +3,7 @@ use mathlib.Core.Path.{refl, sym, ◌∙◌, subst}
 use mathlib.Core.List.{[], ◌∷◌}
 use Prim.{tt}
 use native.Mathlib.Omega.{arith}
-use types.Run.{OneOf}
+use borrow.Enum.Refused.{Among, opened}
 use denote.Enum.Declared.{tag_of}
 use Rattle.event_walk.specs.Course.{course_of}
 use Rattle.event_walk.specs.declared.Next.TheVariants.{Passed}
@@ -141,7 +141,7 @@ returns-in_default-became c =
     let r = c.run_event-became in
     let ok = sym c.is_bad_point.ensures ∙ c.if-is_bad_point.false in
     record {
-      outcome = going-stop _ _ _ _ _ _ _ _ _ _ _ s _ _ n x.result x.ensures _ _ _ _ r.result r.ensures.outcome r.ensures.more ok (λ d m e. not_on (subst (λ (o : RunAnswer). OneOf (1 ∷ 2 ∷ []) (tag_of the_type o)) e c.in_default-became.keys2)) c.stopped.result c.stopped.ensures;
+      outcome = going-stop _ _ _ _ _ _ _ _ _ _ _ s _ _ n x.result x.ensures _ _ _ _ r.result r.ensures.outcome r.ensures.more ok (λ d m e. not_on (opened (subst (λ (o : RunAnswer). Among (1 ∷ 2 ∷ []) (tag_of the_type o)) e c.in_default-became.in_default-became-own.keys2))) c.stopped.result c.stopped.ensures;
       more = stop-more _ _ _ _ _ _ _ _ _ _ _ s _ _ n x.result x.ensures _ _ _ _ r.result r.ensures.outcome r.ensures.more ok c.stopped.result c.stopped.ensures;
     }
 

@@ -1,14 +1,17 @@
 -- `grow_events::with_added` meets its contract.
 use mathlib.Core.Path.{◌≡◌, ap, ◌∙◌}
-use mathlib.Core.Logic.{⊎_elim}
 use Prim.Native.Nat.{ℕ, ◌+◌}
 use Rattle.grow_rules.specs.Run.{count_if}
 use Rattle.grow_events.proofs.Inserting.{count_more, count_same}
 use Rattle.grow_events.proofs.with_added.Goals as goal
-use Rattle.grow_events.proofs.with_added.Goals.{Joined-split}
+use Rattle.grow_events.proofs.with_added.Goals.{Joined-split, then-split, else-split}
 
 splits_are : (c : Joined-split) → c.if-split.splits ≡ count_if c.args.split c.args.c.splits
-splits_are c = ⊎_elim (λ o. o.2 ∙ count_more _ _ o.0.taken) (λ o. o.1 ∙ count_same _ _ o.0.left) c.if-split.branch
+splits_are c =
+    elim c.if-split.branch [
+      then-split w ↦ w.splits-is ∙ count_more _ _ w.if-split.true
+    | else-split w ↦ w.splits-is ∙ count_same _ _ w.if-split.false
+    ]
 
 pub returns : goal.returns
 returns c =
