@@ -3,7 +3,7 @@ use mathlib.Core.Path.{subst}
 use mathlib.Core.List.{[], ◌∷◌}
 use Prim.{tt}
 use native.Mathlib.Omega.{arith}
-use types.Run.{OneOf}
+use borrow.Enum.Refused.{Among, opened}
 use denote.Enum.Declared.{tag_of}
 use Rattle.grow_events.specs.declared.RunAnswer.{RunAnswer}
 use Rattle.grow_events.specs.contracts.RunAnswer.{the_type}
@@ -22,7 +22,7 @@ pub returns-in_default : goal.returns-in_default
 returns-in_default c =
     let i = c.insert_event-first in
     record {
-      answer = λ b reals start joins net plan v. origin_stops b _ reals plan _ _ _ _ _ _ _ _ _ _ i.result i.ensures.outcome _ c.requires.leads_from c.origin_run-run.ensures c.origin_event-arrive.ensures start joins net v (λ d m e. not_on (subst (λ (o : RunAnswer). OneOf (1 ∷ 2 ∷ []) (tag_of the_type o)) e c.in_default.keys2));
+      answer = λ b reals start joins net plan v. origin_stops b _ reals plan _ _ _ _ _ _ _ _ _ _ i.result i.ensures.outcome _ c.requires.leads_from c.origin_run-run.ensures c.origin_event-arrive.ensures start joins net v (λ d m e. not_on (opened (subst (λ (o : RunAnswer). Among (1 ∷ 2 ∷ []) (tag_of the_type o)) e c.in_default.in_default-own.keys2)));
       more = i.ensures.more;
     }
 
@@ -51,5 +51,5 @@ returns c =
     let j = c.insert_event in
     record {
       answer = λ b reals start joins net plan v. origin_clears b _ reals plan _ _ _ _ _ _ _ _ _ _ i.result i.ensures.outcome _ c.requires.leads_from c.origin_run-run.ensures c.origin_event-arrive.ensures start joins net v _ _ c.in-On.is _ c.origin_event-clear.ensures _ _ _ j.result j.ensures.outcome;
-      more = fewer_more _ _ j.result (fewer_as _ _ _ i.result c.in-On.is i.ensures.more) j.ensures.more;
+      more = fewer_more c.args.c c.in-On.counts j.result (fewer_as c.args.c c.in-On.counts c.in-On.mover i.result c.in-On.is i.ensures.more) j.ensures.more;
     }

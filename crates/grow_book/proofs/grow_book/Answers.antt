@@ -1,0 +1,54 @@
+-- `grow_book::grow_book` meets its contract: proofs/Growing.antt.
+use native.Mathlib.Omega.{arith}
+use lib.ListN.{length}
+use Rattle.grow_book.proofs.Growing.{book_small, places_fit, first_fit, book_start, book_some, book_grown}
+use Rattle.grow_book.proofs.grow_book.Goals as goal
+
+pub returns-then-places-lt2 : goal.returns-then-places-lt2
+returns-then-places-lt2 c = book_small _ _ c.places-places.ensures c.if-places-lt2.true _ _
+
+pub plan_of-p-requires : goal.plan_of-p-requires
+plan_of-p-requires c = let r = c.requires.ready in
+    record {
+      readable = r.readable;
+      book_value = r.row7;
+      places_bound = (places_fit c.places-places.ensures).most;
+    }
+
+pub first_nodes-requires : goal.first_nodes-requires
+first_nodes-requires c =
+    let all = first_fit c.places-places.ensures c.if-places-lt2.false in
+    record {
+      float_width_in_bounds = all.0;
+      number_width_in_bounds = all.1;
+    }
+
+pub start_path-requires : goal.start_path-requires
+start_path-requires c = omega (arith, c.requires.book_in_bounds)
+
+pub run_all-requires : goal.run_all-requires
+run_all-requires c =
+    let r = c.requires in
+    let p = c.plan_of-p.ensures in
+    let f = c.first_nodes.ensures in
+    let plan = p.plan (length c.start_path.new.reals) (omega (arith, r.book_in_bounds, c.start_path.auto)) in
+    record {
+      plan_in = plan;
+      options_in = r.ready.marked;
+      book_in_bounds = r.book_in_bounds_3;
+      kept_value = r.ready.kept;
+      some_origins = book_some r.ready _ _ plan c.start_path.ensures c.args.floats.now c.args.numbers.now _ c.places-places.ensures p.places c.if-places-lt2.false p.links r.book_in_bounds_2 _ _ f.floats f.numbers _;
+      only_start = book_start c.args.floats.now c.args.numbers.now _ c.places-places.ensures c.if-places-lt2.false _ _ _ f.floats f.numbers;
+      started = r.ready.starts;
+      in_bounds = omega arith;
+      in_bounds_2 = omega arith;
+      stack_length_in_bounds = omega arith;
+    }
+
+pub returns : goal.returns
+returns c =
+    let r = c.requires in
+    let p = c.plan_of-p.ensures in
+    let f = c.first_nodes.ensures in
+    let a = c.run_all in
+    book_grown r.ready _ _ (p.plan (length c.start_path.new.reals) (omega (arith, r.book_in_bounds, c.start_path.auto))) c.start_path.ensures c.args.floats.now c.args.numbers.now _ c.places-places.ensures p.places c.if-places-lt2.false p.links r.book_in_bounds_2 _ _ f.floats f.numbers _ _ _ a.result a.ensures
