@@ -1,6 +1,5 @@
 -- Small books, written field by field: for cases that are computed. Document 01's worked book is put together from its
 -- sections, so that a case is that book with one section changed.
-use mathlib.Core.Path.{◌≡◌, refl}
 use mathlib.Core.List.{List, [], ◌∷◌, ◌++◌}
 use Prim.Native.Nat.{ℕ, zero, suc, ◌/◌, ◌%◌}
 use lib.IntN.{pos}

@@ -2,7 +2,7 @@
 -- A leg's number is one more than its row's; 0 names no leg, and as a parent the origins.
 -- In the cells of the work space each leg number has a unit of 8: its last child, the child before it of its own
 -- parent, and where its samples end.
-use Rattle.std.specs.Prelude.{◌≡◌, Bool, true, false, ◌&&◌, cond, List, ℕ, zero, suc, ◌+◌, ◌*◌, ◌≤◌, ◌<◌, eqb, length, get_or, set}
+use Rattle.std.specs.Prelude.{◌≡◌, false, ◌&&◌, cond, List, ℕ, zero, suc, ◌+◌, ◌*◌, ◌≤◌, ◌<◌, eqb, length, get_or, set}
 use Rattle.laws.specs.Below.{some_below, sum_below}
 use Rattle.book_format.specs.declared.Sections.{Sections}
 use Rattle.book_format.specs.Format.{Sized, legs, samples, leg_link, leg_parent, leg_samples, first_sample}

@@ -1,24 +1,21 @@
 -- The chains of children: what `linked` writes is what `Chained` says, and a walk along a chain meets every child.
 use mathlib.Core.Path.{◌≡◌, refl, sym, ap, ◌∙◌, subst}
 use mathlib.Core.Logic.{◌⊎◌, inl, inr, ◌≢◌}
-use mathlib.Core.Bool.{Bool, true, false, not, ◌&&◌, ◌||◌, cond}
+use mathlib.Core.Bool.{Bool, true, false, ◌&&◌, cond}
 use mathlib.Core.List.{List}
-use Prim.Native.Nat.{ℕ, zero, suc, ◌+◌, ◌-◌, ◌*◌, ◌≤◌, ◌<◌}
+use Prim.Native.Nat.{ℕ, zero, suc, ◌+◌, ◌*◌, ◌≤◌, ◌<◌}
 use native.Mathlib.Nat.{not-suc-le-zero, le_of_suc-le-suc, eq-or-lt_of_le, le_refl}
 use native.Mathlib.Numerals.{add-one}
 use native.Mathlib.Omega.{arith}
-use lib.Dec.{eqb, T}
+use lib.Dec.{eqb}
 use lib.ListN.{length, get_or, set, length-set}
 use lib.Seq.{get_or-set_same, get_or-set_other}
 use borrow.Author.Tests.{eq-eqb, ne_eqb, eqb-true, eqb-false}
-use Rattle.laws.specs.Below.{some_below, sum_below}
-use Rattle.laws.proofs.Below.{none_at, sum_more, sum_part}
+use Rattle.laws.specs.Below.{sum_below}
 use Rattle.space.specs.Space.{zeros}
 use Rattle.space.proofs.Zeros.{zeros_length, zero_at}
-use Rattle.book_format.specs.declared.Sections.{Sections}
-use Rattle.book_format.specs.Format.{legs, samples, leg_link, leg_parent, leg_samples, first_sample}
-use Rattle.book_format.specs.Rows.{bad_leg}
-use Rattle.book_format.specs.Chains.{last_child, leg_below, linked, Chained, Counted, Readable}
+use Rattle.book_format.specs.Format.{legs, leg_link, leg_parent, first_sample}
+use Rattle.book_format.specs.Chains.{last_child, leg_below, linked, Chained}
 
 -- ---- three stores, and what stands at another place or at one of them
 

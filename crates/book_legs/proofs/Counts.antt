@@ -1,19 +1,17 @@
 -- What a readable book says of one leg: its parent stands above it, it has a sample, and its samples lie within the book's.
 use mathlib.Core.Path.{◌≡◌, refl, sym, ap, ◌∙◌, subst}
-use mathlib.Core.Bool.{Bool, true, false, not, ◌&&◌, ◌||◌, or-true, or-false}
+use mathlib.Core.Bool.{Bool, true, false, not, ◌||◌, or-true, or-false}
 use mathlib.Core.List.{List}
-use Prim.Native.Nat.{ℕ, zero, suc, ◌+◌, ◌-◌, ◌*◌, ◌≤◌, ◌<◌}
-use native.Mathlib.Nat.{le_refl}
+use Prim.Native.Nat.{ℕ, zero, suc, ◌+◌, ◌≤◌, ◌<◌}
 use native.Mathlib.Omega.{arith}
-use lib.Dec.{eqb, ltb}
-use borrow.Author.Tests.{ltb-false, eqb-false}
-use Rattle.laws.specs.Below.{some_below, sum_below}
-use Rattle.laws.proofs.Below.{none_left, none_right, none_at, sum_more, sum_part}
+use lib.Dec.{eqb}
+use borrow.Author.Tests.{eqb-false}
+use Rattle.laws.proofs.Below.{none_at, sum_more, sum_part}
 use Rattle.book_format.specs.declared.Sections.{Sections}
 use Rattle.book_format.specs.declared.Leg.{Leg}
-use Rattle.book_format.specs.Format.{Sized, links, origins, legs, destinations, samples, leg_link, leg_parent, leg_samples, first_sample, leg_at}
-use Rattle.book_format.specs.Rows.{outside_limits, bad_count, bad_leg, begins, leg_begins, leg_falls, same_sample, falls}
-use Rattle.book_format.specs.Chains.{Counted, Readable}
+use Rattle.book_format.specs.Format.{legs, samples, leg_parent, leg_samples, first_sample, leg_at}
+use Rattle.book_format.specs.Rows.{begins, leg_begins, leg_falls}
+use Rattle.book_format.specs.Chains.{Readable}
 use Rattle.book_format.proofs.Given.{limits, leg_above, leg_parent_lem, leg_samples_lem}
 use Rattle.book_format.proofs.Places.{sized_legs}
 use Rattle.book_legs.specs.Legs.{begins_at, falls_from}

@@ -2,7 +2,7 @@
 use mathlib.Core.Path.{◌≡◌, refl, sym, ap, ◌∙◌, subst}
 use mathlib.Core.Bool.{Bool, true, false, not, ◌||◌}
 use mathlib.Core.List.{List}
-use Prim.Native.Nat.{ℕ, zero, suc, ◌+◌, ◌*◌, ◌≤◌, ◌<◌}
+use Prim.Native.Nat.{ℕ, ◌+◌, ◌*◌, ◌≤◌, ◌<◌}
 use native.Mathlib.Numerals.{add-one}
 use native.Mathlib.Omega.{arith}
 use lib.ListN.{length, get_or}
@@ -13,12 +13,12 @@ use Rattle.space.specs.Space.{zeros}
 use Rattle.space.proofs.Zeros.{zeros_length}
 use Rattle.book_format.specs.declared.Sections.{Sections}
 use Rattle.book_format.specs.declared.Leg.{Leg}
-use Rattle.book_format.specs.Format.{legs, leg_parent, leg_samples, first_sample, leg_at}
+use Rattle.book_format.specs.Format.{legs, leg_parent, first_sample, leg_at}
 use Rattle.book_format.specs.Rows.{leg_falls, leg_begins}
 use Rattle.book_format.specs.Chains.{with_leg, linked, all_linked, Readable}
 use Rattle.book_format.proofs.Given.{leg_parent_lem, leg_samples_lem}
 use Rattle.book_legs.specs.Legs.{samples_fail}
-use Rattle.book_legs.proofs.Counts.{LegIn, leg_in_lem, first_next}
+use Rattle.book_legs.proofs.Counts.{leg_in_lem, first_next}
 use Rattle.book_legs.proofs.Chains.{Room, linked_length, linked_ends}
 
 pub record Linking (b : List ℕ) (len : ℕ) (cells : List ℕ) (i first : ℕ) : Type 0 where

@@ -1,22 +1,19 @@
 -- Laws of a leg's samples: what a readable book says of one sample, and the answers of the small functions by what they read.
 use mathlib.Core.Path.{◌≡◌, refl, sym, ap, ◌∙◌, subst}
-use mathlib.Core.Bool.{Bool, true, false, not, ◌&&◌, ◌||◌}
+use mathlib.Core.Bool.{Bool, true, false, ◌&&◌}
 use mathlib.Core.List.{List}
 use Prim.Native.Nat.{ℕ, zero, suc, ◌+◌, ◌-◌, ◌≤◌, ◌<◌}
-use native.Mathlib.Nat.{lt_irrefl}
 use native.Mathlib.Omega.{arith}
 use lib.Dec.{eqb}
-use lib.Ieee.{Float, lt}
 use borrow.Author.Tests.{eq-eqb, ne_eqb}
 use Rattle.laws.specs.Below.{some_below}
-use Rattle.laws.proofs.Below.{none_left, none_right, none_at, none_more, some_at}
+use Rattle.laws.proofs.Below.{none_more, some_at}
 use Rattle.book_format.specs.declared.Sections.{Sections}
 use Rattle.book_format.specs.declared.Sample.{Sample}
 use Rattle.book_format.specs.declared.SamplePatterns.{SamplePatterns}
 use Rattle.book_format.specs.declared.HeadPatterns.{HeadPatterns}
-use Rattle.floats.specs.Floats.{book_float}
-use Rattle.book_format.specs.Format.{Sized, links, origins, join_bits, length_bits, link_length, samples, sample_time, sample_offset, sample_speed, departure_bits, float_of, sample_at, sample_patterns, head_patterns}
-use Rattle.book_format.specs.Rows.{bad_origin_value, bad_sample, row4, sample_falls, falls, same_sample}
+use Rattle.book_format.specs.Format.{samples, sample_time, sample_offset, sample_speed, departure_bits, sample_at, sample_patterns, head_patterns}
+use Rattle.book_format.specs.Rows.{sample_falls, falls, same_sample}
 use Rattle.book_format.specs.Chains.{Readable}
 use Rattle.book_format.proofs.Places.{sized_samples}
 use Rattle.book_legs.specs.Legs.{begins_at, falls_from}

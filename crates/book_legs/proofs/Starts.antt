@@ -15,7 +15,6 @@ use Rattle.book_format.specs.declared.Leg.{Leg}
 use Rattle.book_format.specs.Format.{links, legs, leg_link, leg_parent, leg_at}
 use Rattle.book_format.specs.Chains.{leg_below}
 use Rattle.book_format.proofs.Given.{leg_link_lem, leg_parent_lem}
-use Rattle.book_legs.specs.declared.LegSearch.{LegSearch}
 use Rattle.book_legs.specs.declared.LegSearch.TheVariants.{Found, Missing}
 use Rattle.book_legs.specs.Legs.{search_of, leg_search, Started, Named, SameBut}
 

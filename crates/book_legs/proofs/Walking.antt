@@ -1,12 +1,11 @@
 -- The walk along a parent's children: what holds where it stands at leg number j, and each way a turn can end.
-use mathlib.Core.Path.{◌≡◌, refl, sym, ap, ◌∙◌, subst}
+use mathlib.Core.Path.{◌≡◌, sym, ap, ◌∙◌}
 use mathlib.Core.List.{List}
 use Prim.Native.Nat.{ℕ, zero, suc, ◌+◌, ◌-◌, ◌*◌, ◌≤◌, ◌<◌}
 use native.Mathlib.Omega.{arith}
 use lib.ListN.{get_or}
 use Rattle.book_format.specs.Format.{legs, leg_link, leg_parent}
 use Rattle.book_format.specs.Chains.{last_child, leg_below, Chained}
-use Rattle.book_legs.specs.declared.LegSearch.{LegSearch}
 use Rattle.book_legs.specs.declared.LegSearch.TheVariants.{Found, Missing}
 use Rattle.book_legs.specs.Legs.{search_of, leg_search}
 use Rattle.book_legs.proofs.Chains.{below_last, last_is, below_found, below_passed}

@@ -5,12 +5,11 @@ use mathlib.Core.Bool.{Bool, true, false, not, ◌||◌}
 use mathlib.Core.List.{List}
 use Prim.Native.Nat.{ℕ, ◌+◌, ◌*◌, ◌≤◌, ◌<◌, min}
 use native.Mathlib.Omega.{arith}
-use borrow.Author.Tests.{ltb-false}
 use lib.Dec.{eqb, ltb}
 use Rattle.laws.specs.Below.{some_below, sum_below}
-use Rattle.laws.proofs.Below.{some_more, sum_more, none_left, none_right}
+use Rattle.laws.proofs.Below.{some_more, sum_more}
 use Rattle.book_format.specs.declared.Sections.{Sections}
-use Rattle.book_format.specs.Format.{Sized, sections_of, links, origins, destinations, legs, samples, leg_samples}
+use Rattle.book_format.specs.Format.{Sized, sections_of, legs, samples, leg_samples}
 use Rattle.book_format.specs.Rows.{outside_limits, bad_count, work_bytes, row3}
 
 -- ---- the counts and the work space, by the sections

@@ -2,7 +2,7 @@
 -- Assumes nothing.
 use mathlib.Core.Path.{◌≡◌, refl, ap, ◌∙◌}
 use mathlib.Core.Bool.{Bool, true, false, not, ◌||◌, or_assoc, or_comm, or-false}
-use mathlib.Core.List.{List, [], ◌∷◌}
+use mathlib.Core.List.{List}
 use Prim.Native.Nat.{ℕ, zero, suc, ◌-◌, ◌≤◌, ◌<◌}
 use native.Mathlib.Omega.{arith}
 use borrow.Author.Tests.{not-false}
@@ -10,7 +10,7 @@ use lib.ListN.{length}
 use Rattle.laws.specs.Below.{some_below}
 use Rattle.floats.specs.Floats.{book_float}
 use Rattle.book_format.specs.declared.Sections.{Sections}
-use Rattle.book_format.specs.Format.{Sized, sections_of, origins, legs, origins_at_of, destinations_at_of, legs_at_of, samples_at_of, end_of, join_bits, departure_bits, length_bits, link_length, origin_link, destination_link}
+use Rattle.book_format.specs.Format.{Sized, sections_of, origins_at_of, destinations_at_of, legs_at_of, samples_at_of, end_of, join_bits, departure_bits, length_bits, link_length, origin_link, destination_link}
 use Rattle.book_format.specs.Rows.{no_such_link, link_zero, bad_link, bad_origin_value, bad_origin_place, bad_leg_index, bad_leg, bad_sample, row4, row5}
 use Rattle.book_rows.specs.Elements.{lower, lowest_below, number_of, link_number, origin_number, destination_number, leg_number, sample_number, elements, element_number, single_number}
 use Rattle.book_rows.proofs.Lowest.{number_join, lowest_tests, splice_low, splice_high, lowest_splice}

@@ -1,17 +1,14 @@
 -- Nodes written into a table: what is read at their places and at others, that the room stays, and that additions leave it indexed.
-use mathlib.Core.Path.{◌≡◌, refl, sym, ap, ◌∙◌, subst}
-use mathlib.Core.Logic.{◌⊎◌, inl, inr, ◌≢◌}
-use mathlib.Core.Bool.{Bool, true, false}
+use mathlib.Core.Path.{◌≡◌, ap, ◌∙◌}
+use mathlib.Core.Logic.{◌≢◌}
 use mathlib.Core.List.{List}
-use Prim.Native.Nat.{ℕ, ◌+◌, ◌≤◌, ◌<◌}
+use Prim.Native.Nat.{ℕ, ◌+◌, ◌<◌}
 use native.Mathlib.Omega.{arith}
-use borrow.Author.Tests.{eqb-true, eqb-false}
-use lib.Dec.{eqb}
 use lib.Ieee.{Float}
 use Rattle.net_node.specs.declared.EstTime.{EstTime}
 use Rattle.net_node.specs.declared.TimedEvent.{TimedEvent}
-use Rattle.net_node.specs.Table.{node_at, put_floats, put_numbers, Room, Indexed, Table, put, at, with_next_alt}
-use Rattle.net_node.proofs.Tables.{RoomIn, put_room, put_same, put_other, both, both_room, both_first, both_second, both_other, fits_at, both_indexed}
+use Rattle.net_node.specs.Table.{node_at, put_floats, put_numbers, Indexed, Table, put, at, with_next_alt}
+use Rattle.net_node.proofs.Tables.{RoomIn, both, both_room, both_first, both_second, both_other, fits_at, both_indexed}
 use Rattle.net_insertion.specs.declared.Place.{Place}
 use Rattle.net_insertion.specs.Insertion.{linked_to, event_node, split_fake, add_behind, split_at}
 

@@ -1,14 +1,11 @@
 -- Nodes written into a table: what is read at their places and at others, that the room stays, and that a network stays indexed.
-use mathlib.Core.Path.{◌≡◌, refl, sym, ap, ◌∙◌, subst}
+use mathlib.Core.Path.{◌≡◌, sym, ◌∙◌, subst}
 use mathlib.Core.Logic.{◌⊎◌, inl, inr, ◌≢◌}
-use mathlib.Core.Bool.{Bool, true, false}
 use Prim.Native.Nat.{ℕ, ◌+◌, ◌≤◌, ◌<◌}
 use native.Mathlib.Omega.{arith}
-use borrow.Author.Tests.{eqb-true, eqb-false}
-use lib.Dec.{eqb}
 use Rattle.laws.proofs.Truth.{equal_or_not}
 use Rattle.net_node.specs.declared.EstTime.{EstTime}
-use Rattle.net_node.specs.Table.{node_at, put_floats, put_numbers, Table, put, at, Room, Indexed}
+use Rattle.net_node.specs.Table.{Table, put, at, Room, Indexed}
 use Rattle.net_node.proofs.Nodes.{node_put_same, node_put_other, length_put_floats, length_put_numbers}
 
 abbrev pub RoomIn : Table → ℕ → Type 0

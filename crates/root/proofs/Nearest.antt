@@ -3,25 +3,24 @@ use mathlib.Core.Path.{◌≡◌, refl, sym, ap, ◌∙◌, subst}
 use mathlib.Core.Logic.{◌⊎◌, inl, inr}
 use mathlib.Core.Bool.{Bool, true, false, not, ◌&&◌}
 use Prim.Native.Nat.{ℕ, zero, suc, ◌+◌, ◌-◌, ◌*◌, ◌/◌, ◌%◌, ◌^◌, ◌≤◌, ◌<◌, compare, Ordering}
-use native.Mathlib.Nat.{le_refl, le_trans, le_of_eq, le_of_lt, lt_of_lt_of_le, lt_of_le_of_lt, lt_of_not-le, not-le_of_lt, eq-or-lt_of_le, mul_comm, mul_assoc, mul-one, one-mul, mul_right_comm, mul-pos, zero-lt-suc, mul-le-mul, mul-le-mul_right, mul-lt-mul_of_pos_right, mul-div_cancel, div-lt_iff_lt-mul, le-div_iff_mul-le, div-mul-le_self, pow-succ'}
+use native.Mathlib.Nat.{le_refl, le_trans, le_of_eq, le_of_lt, lt_of_lt_of_le, lt_of_le_of_lt, lt_of_not-le, not-le_of_lt, eq-or-lt_of_le, mul-one, one-mul, mul_right_comm, mul-pos, zero-lt-suc, mul-le-mul, mul-le-mul_right, mul-lt-mul_of_pos_right, div-lt_iff_lt-mul, le-div_iff_mul-le, div-mul-le_self, pow-succ'}
 use native.Mathlib.Omega.{arith}
 use lib.Dec.{T, ltb, leb, eqb, ltb→lt, leb→le, eqb→eq}
-use lib.Arith.{digits_div, digits_mod}
 use lib.IntN.{ℤ, pos, negsuc}
-use lib.Pow.{pow-add, pow_pos, pow_mono, pow-lt}
-use lib.Ieee.{Float, nan, inf, fin, Format, binary64, prec, emax, low, up, down, hid, size, nearest, units, fits, is_nan, of_bits, to_bits}
+use lib.Pow.{pow-add, pow_pos, pow_mono}
+use lib.Ieee.{Float, nan, inf, fin, binary64, prec, emax, low, up, down, size, nearest, units, fits, of_bits, to_bits}
 use lib.Ieee.Digits.{size-lt, size-le, size_reaches}
 use lib.Ieee.Fits.{and_l, and_r, up_pos, down_pos, nearest-le}
 use lib.Ieee.Exact.{HasValue, units_val}
-use lib.Ieee.Positive.{num, den, positive, den_pos}
+use lib.Ieee.Positive.{num, den, positive}
 use lib.Ieee.Bits.{to_bits-of_bits, nan_bits_is}
 use lib.Ieee.Nearest.{nearest-ge}
-use Rattle.root.specs.Root.{whole_root, root_of, sqrt}
+use Rattle.root.specs.Root.{whole_root, sqrt}
 use Rattle.root.specs.Steps.{magnitude}
 use Rattle.root.specs.Nearest.{NearestRoot}
 use Rattle.root.proofs.Whole.{IsRoot, square_back, whole_root_lem}
 use Rattle.root.proofs.Rounded.{Cmp, cmp, root_of_is}
-use Rattle.root.proofs.Steps.{magnitude_low, magnitude_high}
+use Rattle.root.proofs.Steps.{magnitude_high}
 use Rattle.root.proofs.Patterns.{pattern_value, units_pattern, far_below, fin_root, number_pattern}
 
 -- ---- the digits kept, from the definition

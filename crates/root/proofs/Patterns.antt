@@ -3,14 +3,13 @@ use mathlib.Core.Path.{◌≡◌, refl, sym, ap, ◌∙◌, subst}
 use mathlib.Core.Logic.{◌⊎◌, inl, inr}
 use mathlib.Core.Bool.{Bool, true, false, not, cond}
 use Prim.Native.Nat.{ℕ, zero, suc, ◌+◌, ◌-◌, ◌*◌, ◌/◌, ◌%◌, ◌^◌, ◌≤◌, ◌<◌, compare}
-use native.Mathlib.Nat.{le_trans, le_of_eq, lt_of_lt_of_le, lt_of_le_of_lt, lt_irrefl, mul-one, mul_comm, mul_assoc, mul-pos, mul-div_cancel, mul_right_comm, zero-mul, mod-eq_of_lt, div-lt_iff_lt-mul, le_of_suc-le-suc, le-add_right, eq-or-lt_of_le, zero-lt-suc, mul-le-mul_right, mul-lt-mul_of_pos_right, pow-succ'}
+use native.Mathlib.Nat.{le_trans, le_of_eq, lt_of_lt_of_le, lt_of_le_of_lt, lt_irrefl, mul-one, mul_assoc, mul-pos, mul-div_cancel, mul_right_comm, zero-mul, mod-eq_of_lt, div-lt_iff_lt-mul, le_of_suc-le-suc, le-add_right, eq-or-lt_of_le, zero-lt-suc, mul-le-mul_right, mul-lt-mul_of_pos_right, pow-succ'}
 use native.Mathlib.Omega.{arith}
 use lib.Dec.{T, leb, ltb, eqb, lt→ltb, le→leb, not_T, eqb→eq, ltb→lt, nltb→le}
 use lib.Arith.{lt→nleb}
-use lib.IntN.{ℤ, pos}
-use lib.Pow.{pow-add, pow_pos, pow_mono, pow-lt}
+use lib.IntN.{ℤ}
+use lib.Pow.{pow-add, pow_pos, pow-lt}
 use lib.Ieee.{Float, nan, inf, fin, Format, binary32, binary64, prec, emax, low, up, down, size, odd, units, nearest, hid, ones, top, fits, is_nan, nan_bits, of_fields, of_bits, to_bits, ne}
-use lib.Ieee.Digits.{size-lt, size-le, size_reaches}
 use lib.Ieee.Fits.{two, two-le_pos, odd-fits, down_pos, eq→eqb, nearest-le}
 use lib.Ieee.Exact.{HasValue, odd_sign, units_val}
 use lib.Ieee.Bits.{is_true, is_false, cond_no, of_bits-to_bits, to_bits-lt, nan_bits_is, nan_bits_above}

@@ -1,18 +1,17 @@
 -- What `sqrt` gives for a positive number, once a whole root of its leading digits is known: the digits kept, the number dropped, and how the last one is decided.
-use mathlib.Core.Path.{◌≡◌, refl, sym, ap, ◌∙◌, subst}
-use mathlib.Core.Bool.{Bool, true, false, not}
-use Prim.Native.Nat.{ℕ, zero, suc, ◌+◌, ◌-◌, ◌*◌, ◌/◌, ◌%◌, ◌^◌, ◌≤◌, ◌<◌, compare, Ordering}
-use native.Mathlib.Nat.{le_trans, le_of_eq, le_antisymm, lt_of_lt_of_le, lt_of_le_of_lt, lt_of_not-le, not-le_of_lt, lt_irrefl, le_of_suc-le-suc, mul-le-mul, mul_comm, mul_assoc, mul-pos, mul-le-mul_right, mul-lt-mul_of_pos_right, mul-div_cancel, mul_right_comm, div-lt_iff_lt-mul, le-div_iff_mul-le, eq_of_mul-eq-mul_right, pow-succ'}
+use mathlib.Core.Path.{◌≡◌, refl, ap, ◌∙◌, subst}
+use mathlib.Core.Bool.{false, not}
+use Prim.Native.Nat.{ℕ, ◌+◌, ◌-◌, ◌*◌, ◌/◌, ◌^◌, ◌≤◌, ◌<◌, compare, Ordering}
+use native.Mathlib.Nat.{le_trans, lt_of_lt_of_le, lt_of_not-le, not-le_of_lt, mul-pos, mul-le-mul_right, mul-lt-mul_of_pos_right, mul-div_cancel, div-lt_iff_lt-mul, le-div_iff_mul-le}
 use native.Mathlib.Omega.{arith}
-use lib.Dec.{T, is_le, compare_is_eq, leb, eqb, leb→le, nleb→lt, eqb→eq, eqb_refl}
+use lib.Dec.{T, is_le, compare_is_eq, eqb, leb→le, nleb→lt, eqb→eq, eqb_refl}
 use lib.Arith.{lt_of_le-ne}
 use lib.Pow.{pow-add, pow_pos, pow_mono}
-use lib.Ieee.{Float, nan, inf, fin, Format, prec, low, up, down, hid, size, nearest, units}
-use lib.Ieee.Digits.{size-lt, size-le, size_reaches}
-use lib.Ieee.Fits.{two, down_pos}
-use lib.Ieee.Exact.{HasValue}
-use Rattle.root.specs.Root.{whole_root, root_of, sqrt}
-use Rattle.root.proofs.Whole.{IsRoot, square_back, one_root, whole_root_lem}
+use lib.Ieee.{Float, Format, prec, low, size, nearest, units}
+use lib.Ieee.Digits.{size-lt, size-le}
+use lib.Ieee.Fits.{two}
+use Rattle.root.specs.Root.{whole_root, root_of}
+use Rattle.root.proofs.Whole.{IsRoot, square_back, whole_root_lem}
 
 -- ---- comparing
 

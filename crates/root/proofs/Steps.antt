@@ -1,10 +1,10 @@
 -- Laws of the root's steps: the digit loop's turns, moving a subnormal number's digits up, and splitting an exponent into a power of four and a rest.
 use mathlib.Core.Path.{◌≡◌, refl, sym, ap, ◌∙◌, subst}
-use Prim.Native.Nat.{ℕ, zero, suc, ◌+◌, ◌-◌, ◌*◌, ◌/◌, ◌%◌, ◌^◌, ◌≤◌, ◌<◌}
-use native.Mathlib.Nat.{lt_of_lt_of_le, lt_of_not-le, not-le_of_lt, le_trans, mul_assoc, mul_comm, mul-le-mul_right, pow-succ', mod-eq_of_lt, div-eq_of_lt}
+use Prim.Native.Nat.{ℕ, suc, ◌+◌, ◌-◌, ◌*◌, ◌/◌, ◌%◌, ◌^◌, ◌≤◌, ◌<◌}
+use native.Mathlib.Nat.{lt_of_lt_of_le, lt_of_not-le, not-le_of_lt, mul_assoc, mul-le-mul_right, pow-succ', mod-eq_of_lt, div-eq_of_lt}
 use native.Mathlib.Numerals.{add-one}
 use native.Mathlib.Omega.{arith}
-use lib.Pow.{pow-add, pow_pos, pow_mono, pow-lt}
+use lib.Pow.{pow-add, pow_mono}
 use lib.Ieee.{Format, binary64, hid, low}
 use Rattle.root.specs.Steps.{magnitude_at, magnitude, Significant, Scales, Rooted}
 use Rattle.root.proofs.Whole.{square_back}

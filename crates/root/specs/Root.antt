@@ -4,7 +4,7 @@
 -- and `nearest` decides the last one by an exact comparison of squares. It says nothing of how a program finds the
 -- digits. proofs/Nearest.antt proves that every other value of the format lies farther from the root: it is never in
 -- the middle of two.
-use Rattle.std.specs.Prelude.{Bool, true, false, cond, leb, ℤ}
+use Rattle.std.specs.Prelude.{true, false, cond, leb}
 use Prim.Native.Nat.{ℕ, zero, suc, ◌+◌, ◌-◌, ◌*◌, ◌/◌, ◌^◌, compare}
 use lib.Ieee.{Float, nan, inf, fin, Format, prec, low, up, down, size, nearest, units}
 

@@ -1,6 +1,5 @@
 -- The work space's three slices together.
 use mathlib.Core.Path.{◌≡◌, ap, ◌∙◌}
-use Prim.Native.Nat.{ℕ}
 use lib.ListN.{length}
 use Rattle.space.specs.Space.{zeros, zero_floats}
 use Rattle.space.specs.Lent.{Work, Cleared}

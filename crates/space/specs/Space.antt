@@ -1,7 +1,7 @@
 -- The work space and slices that are zero. Document 01 counts work space in bytes. It is lent in units of 64 bytes:
 -- 3 f64 (`reals`), 8 u32 (`cells`) and 2 u32 (`marks`), as many units as all three slices fill. Row 3 asks for a
 -- multiple of 64 bytes, so no byte is lost by that.
-use Rattle.std.specs.Prelude.{List, ℕ, ◌+◌, ◌*◌, ◌/◌, min, length, replicate, get_or, Float}
+use Rattle.std.specs.Prelude.{List, ℕ, ◌*◌, ◌/◌, min, replicate, Float}
 use Rattle.std.specs.Float.{binary64}
 use Rattle.std.specs.Float.Ieee.{of_bits}
 

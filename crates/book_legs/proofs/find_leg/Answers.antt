@@ -18,9 +18,9 @@ overflow_cast-at c = omega (arith, (walking_row c.loop-j.invariant c.loop-j-test
 
 pub leg_at-leg-requires : goal.leg_at-leg-requires
 leg_at-leg-requires c = record {
-      sized = c.requires.sized;
-      i_lt_legs = subst (λ (n : ℕ). c.loop-j.j - 1 < n) (sym (sized_legs c.requires.sized)) (walking_row c.loop-j.invariant c.loop-j-test.true).1;
-    }
+  sized = c.requires.sized;
+  i_lt_legs = subst (λ (n : ℕ). c.loop-j.j - 1 < n) (sym (sized_legs c.requires.sized)) (walking_row c.loop-j.invariant c.loop-j-test.true).1;
+}
 
 pub returns-then-leg-link_idx : goal.returns-then-leg-link_idx
 returns-then-leg-link_idx c = walking_found c.loop-j.invariant c.loop-j-test.true (sym (leg_link_lem _ _ _ c.leg_at-leg.ensures) ∙ c.if-leg-link_idx.true)

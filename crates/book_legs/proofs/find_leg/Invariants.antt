@@ -1,5 +1,4 @@
 -- `book_legs::find_leg` meets its contract: `Walking` is the loop's invariant, and the leg's number falls.
-use Prim.Native.Nat.{◌-◌}
 use Rattle.book_legs.proofs.Walking.{Walking}
 use Rattle.book_legs.proofs.find_leg.Given as goal
 

@@ -8,9 +8,9 @@ head_patterns-h-requires c = c.requires.readable.sized
 
 pub sample_patterns-f-requires : goal.sample_patterns-f-requires
 sample_patterns-f-requires c = record {
-      sized = c.requires.readable.sized;
-      i_lt_samples = sample_within c.requires.readable _ c.requires.first_bound;
-    }
+  sized = c.requires.readable.sized;
+  i_lt_samples = sample_within c.requires.readable _ c.requires.first_bound;
+}
 
 pub returns-then-parent-eq0 : goal.returns-then-parent-eq0
 returns-then-parent-eq0 c =
@@ -22,10 +22,10 @@ overflow_sub-end c = c.requires.end_nonzero (omega arith)
 
 pub same_sample-requires : goal.same_sample-requires
 same_sample-requires c = record {
-      readable = c.requires.readable;
-      j_bound = c.requires.end_bound;
-      k_bound = c.requires.first_bound;
-    }
+  readable = c.requires.readable;
+  j_bound = c.requires.end_bound;
+  k_bound = c.requires.first_bound;
+}
 
 pub returns : goal.returns
 returns c = begins_parent _ _ _ _ _ c.if-parent-eq0.false c.same_sample.ensures

@@ -8,9 +8,9 @@ use Rattle.book_legs.proofs.leg_fails.Goals as goal
 
 pub leg_at-leg-requires : goal.leg_at-leg-requires
 leg_at-leg-requires c = record {
-      sized = c.requires.readable.sized;
-      i_lt_legs = leg_within c.requires.readable _ c.requires.i_bound;
-    }
+  sized = c.requires.readable.sized;
+  i_lt_legs = leg_within c.requires.readable _ c.requires.i_bound;
+}
 
 pub leg_begins-requires : goal.leg_begins-requires
 leg_begins-requires c =

@@ -1,6 +1,5 @@
 -- `book_legs::leg_falls` meets its contract: `Falling` is the loop's invariant.
 use mathlib.Core.Path.{sym, ◌∙◌}
-use Prim.Native.Nat.{◌-◌}
 use native.Mathlib.Omega.{arith}
 use Rattle.book_format.proofs.Places.{sized_samples}
 use Rattle.book_legs.proofs.Samples.{falling_start, falling_on, falling_found, falling_none}
@@ -17,9 +16,9 @@ overflow_add-first c = omega (arith, c.requires.count_bound, sized_samples c.req
 
 pub sample_falls-requires : goal.sample_falls-requires
 sample_falls-requires c = record {
-      readable = c.requires.readable;
-      k_bound = omega (arith, c.requires.count_bound);
-    }
+  readable = c.requires.readable;
+  k_bound = omega (arith, c.requires.count_bound);
+}
 
 pub returns-then-sample_falls : goal.returns-then-sample_falls
 returns-then-sample_falls c = falling_found _ _ _ _ c.loop-k-test.true (sym c.sample_falls.ensures ∙ c.if-sample_falls.true)

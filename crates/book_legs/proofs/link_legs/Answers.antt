@@ -1,7 +1,7 @@
 -- `book_legs::link_legs` meets its contract: `Linking` is the loop's invariant.
 use mathlib.Core.Path.{◌≡◌, refl, sym, ◌∙◌, subst}
 use mathlib.Core.Bool.{true, false}
-use Prim.Native.Nat.{ℕ, ◌-◌, ◌*◌, ◌+◌, ◌≤◌}
+use Prim.Native.Nat.{ℕ, ◌*◌, ◌+◌, ◌≤◌}
 use native.Mathlib.Omega.{arith}
 use Rattle.laws.proofs.Truth.{not_both}
 use Rattle.book_format.proofs.Places.{sized_legs}
@@ -15,9 +15,9 @@ loop-i-init c = linking_start _ _ c.requires.cells_value
 
 pub leg_at-leg-requires : goal.leg_at-leg-requires
 leg_at-leg-requires c = record {
-      sized = c.requires.readable.sized;
-      i_lt_legs = c.loop-i-test.true;
-    }
+  sized = c.requires.readable.sized;
+  i_lt_legs = c.loop-i-test.true;
+}
 
 pub overflow_mul-parent_end : goal.overflow_mul-parent_end
 overflow_mul-parent_end c =
@@ -58,9 +58,9 @@ shape_of-cells-then-leg_fails c = linking_length c.loop-i.invariant
 
 pub returns-then-leg_fails : goal.returns-then-leg_fails
 returns-then-leg_fails c = record {
-      answer = linking_found _ _ (leg_under c.requires.readable _ c.loop-i-test.true) (sym c.leg_fails.ensures ∙ c.if-leg_fails.true);
-      chains = λ (e : true ≡ false). not_both refl e;
-    }
+  answer = linking_found _ _ (leg_under c.requires.readable _ c.loop-i-test.true) (sym c.leg_fails.ensures ∙ c.if-leg_fails.true);
+  chains = λ (e : true ≡ false). not_both refl e;
+}
 
 pub overflow_add-first : goal.overflow_add-first
 overflow_add-first c =

@@ -10,11 +10,9 @@ use Rattle.book_legs.proofs.Starts.{part_length, started_in}
 use Rattle.book_legs.proofs.mark_starts.Goals as goal
 use Rattle.book_legs.proofs.mark_starts.Goals.{After-slice_known-2-1}
 
--- `book_legs::mark_starts` meets its contract.
 -- the part that is lent has as many elements as there are links
 many : (c : After-slice_known-2-1) → length c.clear_numbers.new.s ≡ links c.args.book.now
 many c =
-
     c.clear_numbers.auto.s ∙ part_length _ _ (sized_links c.requires.readable.sized) (ap (λ (n : ℕ). 2 * n) (sized_links c.requires.readable.sized)) c.requires.book_in_bounds
 
 pub overflow_mul-to : goal.overflow_mul-to
@@ -28,14 +26,13 @@ slice_bounds-starts-end c = omega (arith, sized_links c.requires.readable.sized,
 
 pub name_starts-requires : goal.name_starts-requires
 name_starts-requires c = record {
-      readable = c.requires.readable;
-      book_in_bounds = omega (arith, many (goal.at.name_starts-requires c).After-slice_known-2-1);
-      starts_value = zeros_again _ _ c.clear_numbers.ensures;
-    }
+  readable = c.requires.readable;
+  book_in_bounds = omega (arith, many (goal.at.name_starts-requires c).After-slice_known-2-1);
+  starts_value = zeros_again _ _ c.clear_numbers.ensures;
+}
 
 pub returns : goal.returns
 returns c =
-
     let n = c.name_starts in
     let all = started_in (sized_links c.requires.readable.sized) (ap (λ (n : ℕ). 2 * n) (sized_links c.requires.readable.sized)) c.requires.book_in_bounds (n.auto.starts ∙ many (goal.at.returns c).After-slice_known-2-1) n.ensures refl in
     record {

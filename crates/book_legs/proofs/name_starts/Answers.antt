@@ -1,6 +1,6 @@
 -- `book_legs::name_starts` meets its contract: `Named` is the loop's invariant.
 use mathlib.Core.Path.{◌≡◌, refl, subst}
-use Prim.Native.Nat.{ℕ, ◌-◌, ◌<◌}
+use Prim.Native.Nat.{ℕ, ◌<◌}
 use native.Mathlib.Omega.{arith}
 use lib.ListN.{length}
 use Rattle.book_format.specs.Format.{legs, links}
@@ -29,9 +29,9 @@ loop-i-init c = (omega arith, refl, named_none _ _ c.requires.starts_value)
 
 pub leg_at-leg-requires : goal.leg_at-leg-requires
 leg_at-leg-requires c = record {
-      sized = c.requires.readable.sized;
-      i_lt_legs = c.loop-i-test.true;
-    }
+  sized = c.requires.readable.sized;
+  i_lt_legs = c.loop-i-test.true;
+}
 
 pub overflow_cast-i : goal.overflow_cast-i
 overflow_cast-i c = omega (arith, (leg_in_lem c.requires.readable _ (row (goal.at.overflow_cast-i c).After-name_start-arg-1)).number)

@@ -4,15 +4,15 @@ use Rattle.book_legs.proofs.same_sample.Goals as goal
 
 pub sample_patterns-a-requires : goal.sample_patterns-a-requires
 sample_patterns-a-requires c = record {
-      sized = c.requires.readable.sized;
-      i_lt_samples = sample_within c.requires.readable _ c.requires.j_bound;
-    }
+  sized = c.requires.readable.sized;
+  i_lt_samples = sample_within c.requires.readable _ c.requires.j_bound;
+}
 
 pub sample_patterns-b-requires : goal.sample_patterns-b-requires
 sample_patterns-b-requires c = record {
-      sized = c.requires.readable.sized;
-      i_lt_samples = sample_within c.requires.readable _ c.requires.k_bound;
-    }
+  sized = c.requires.readable.sized;
+  i_lt_samples = sample_within c.requires.readable _ c.requires.k_bound;
+}
 
 pub returns-then-a-b : goal.returns-then-a-b
 returns-then-a-b c =

@@ -21,10 +21,10 @@ sized c = c.mark_origins.auto.marks ∙ c.push_destinations.auto.marks
 
 pub push_destinations-requires : goal.push_destinations-requires
 push_destinations-requires c = record {
-      sized = c.requires.sized;
-      book_in_bounds = omega (arith, c.requires.marks_len);
-      marks_value = c.requires.marks_value;
-    }
+  sized = c.requires.sized;
+  book_in_bounds = omega (arith, c.requires.marks_len);
+  marks_value = c.requires.marks_value;
+}
 
 pub shape_of-marks-then-not-push_destinations : goal.shape_of-marks-then-not-push_destinations
 shape_of-marks-then-not-push_destinations c = c.push_destinations.auto.marks
@@ -40,31 +40,30 @@ returns-then-not-push_destinations c =
 
 pub mark_origins-requires : goal.mark_origins-requires
 mark_origins-requires c = record {
-      sized = c.requires.sized;
-      book_value = c.requires.book_value;
-      book_value_2 = c.requires.book_value_2;
-      book_value_3 = c.requires.book_value_3;
-      book_in_bounds = omega (arith, c.requires.marks_len, c.push_destinations.auto.marks);
-      by_index = (real (goal.at.mark_origins-requires c).Else-not-push_destinations).blank;
-    }
+  sized = c.requires.sized;
+  book_value = c.requires.book_value;
+  book_value_2 = c.requires.book_value_2;
+  book_value_3 = c.requires.book_value_3;
+  book_in_bounds = omega (arith, c.requires.marks_len, c.push_destinations.auto.marks);
+  by_index = (real (goal.at.mark_origins-requires c).Else-not-push_destinations).blank;
+}
 
 pub loop-w-init : goal.loop-w-init
-loop-w-init c =
- (
-      refl,
-      subst (λ (n : ℕ). Walking c.args.book.now c.mark_origins.new.marks (record { top = n; kept = 0 })) (sym (sized_destinations c.requires.sized))
-          (walk_start c.requires.book_value_3 (real (goal.at.loop-w-init c).Else-not-push_destinations) c.mark_origins.ensures),
-    )
+loop-w-init c = (
+  refl,
+  subst (λ (n : ℕ). Walking c.args.book.now c.mark_origins.new.marks (record { top = n; kept = 0 })) (sym (sized_destinations c.requires.sized))
+      (walk_start c.requires.book_value_3 (real (goal.at.loop-w-init c).Else-not-push_destinations) c.mark_origins.ensures),
+)
 
 pub turn-w-requires : goal.turn-w-requires
 turn-w-requires c = record {
-      sized = c.requires.sized;
-      book_value = c.requires.book_value_2;
-      book_value_2 = c.requires.book_value_3;
-      marks_len = omega (arith, c.requires.marks_len, c.loop-w.invariant.0, sized (goal.at.turn-w-requires c).After-slice_known-3-1);
-      walking = c.loop-w.invariant.1;
-      top_nonzero = c.loop-w-test.true;
-    }
+  sized = c.requires.sized;
+  book_value = c.requires.book_value_2;
+  book_value_2 = c.requires.book_value_3;
+  marks_len = omega (arith, c.requires.marks_len, c.loop-w.invariant.0, sized (goal.at.turn-w-requires c).After-slice_known-3-1);
+  walking = c.loop-w.invariant.1;
+  top_nonzero = c.loop-w-test.true;
+}
 
 pub loop-w-smaller : goal.loop-w-smaller
 loop-w-smaller c = c.turn-w.ensures.falls

@@ -18,14 +18,12 @@ row c = omega (arith, sized_origins c.requires.sized)
 link : (c : After-struct_known-1) → c.origin_at-o.result.link_idx < links c.args.book.now
 link c =
     let row : c.loop-i.i < origins c.args.book.now = omega (arith, sized_origins c.requires.sized) in
-
     subst (λ (x : ℕ). x < links c.args.book.now) (sym (origin_link_lem c.args.book.now c.loop-i.i c.origin_at-o.ensures))
     (origin_named c.args.book.now c.requires.book_value_3 c.loop-i.i (row))
 
 few : (c : After-struct_known-1) → c.loop-i.i < 1000
 few c =
     let row : c.loop-i.i < origins c.args.book.now = omega (arith, sized_origins c.requires.sized) in
-
     omega (arith, row, (limits c.args.book.now c.requires.book_value).origins_most)
 
 room : (c : After-struct_known-1) → links c.args.book.now ≤ length c.loop-i.marks
@@ -36,10 +34,10 @@ loop-i-init c = (omega arith, refl, numbered_none c.args.book.now c.args.marks.n
 
 pub origin_at-o-requires : goal.origin_at-o-requires
 origin_at-o-requires c = record {
-      sized = c.requires.sized;
-      i_lt_origins = c.loop-i-test.true;
-      i_value = origin_float c.args.book.now c.requires.book_value_2 c.loop-i.i (row (goal.at.origin_at-o-requires c).In-loop-i);
-    }
+  sized = c.requires.sized;
+  i_lt_origins = c.loop-i-test.true;
+  i_value = origin_float c.args.book.now c.requires.book_value_2 c.loop-i.i (row (goal.at.origin_at-o-requires c).In-loop-i);
+}
 
 pub overflow_cast-l : goal.overflow_cast-l
 overflow_cast-l c = omega (arith, link (goal.at.overflow_cast-l c).After-struct_known-1, room (goal.at.overflow_cast-l c).After-struct_known-1)
@@ -74,6 +72,5 @@ shape_of-marks c = c.loop-i.invariant.1
 
 pub returns : goal.returns
 returns c =
-
     let e : c.loop-i.i ≡ origins c.args.book.now = omega (arith, sized_origins c.requires.sized) in
     subst (λ (n : ℕ). Numbered c.args.book.now n c.args.marks.now c.loop-i.marks) e c.loop-i.invariant.2

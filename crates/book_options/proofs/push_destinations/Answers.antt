@@ -14,7 +14,6 @@ use Rattle.book_options.proofs.push_destinations.Goals.{Else-l-eq0}
 -- the next cell of the stack
 cell : (c : Else-l-eq0) → c.args.s.links + c.loop-i.i < length c.loop-i.marks
 cell c =
-
     omega (arith, sized_links c.requires.sized, sized_destinations c.requires.sized)
 
 pub loop-i-init : goal.loop-i-init
@@ -22,16 +21,15 @@ loop-i-init c = (omega arith, refl, pushed_none c.args.book.now c.args.marks.now
 
 pub destination_link-l-requires : goal.destination_link-l-requires
 destination_link-l-requires c = record {
-      sized = c.requires.sized;
-      i_lt_destinations = c.loop-i-test.true;
-    }
+  sized = c.requires.sized;
+  i_lt_destinations = c.loop-i-test.true;
+}
 
 pub shape_of-marks-then-l-eq0 : goal.shape_of-marks-then-l-eq0
 shape_of-marks-then-l-eq0 c = c.loop-i.invariant.1
 
 pub returns-then-l-eq0 : goal.returns-then-l-eq0
 returns-then-l-eq0 c =
-
     let b = c.args.book.now in
     let i = c.loop-i.i in
     record {
@@ -49,20 +47,18 @@ pub bounds-marks-base : goal.bounds-marks-base
 bounds-marks-base c = cell (goal.at.bounds-marks-base c).Else-l-eq0
 
 pub loop-i-preserved : goal.loop-i-preserved
-loop-i-preserved c =
- (
-      omega arith,
-      length-set c.loop-i.marks (c.args.s.links + c.loop-i.i) c.destination_link-l.result ∙ c.loop-i.invariant.1,
-      pushed_more c.loop-i.invariant.2 (c.args.s.links + c.loop-i.i) c.destination_link-l.result c.destination_link-l.ensures c.if-l-eq0.false
-          (ap (λ (x : ℕ). x + c.loop-i.i) (sized_links c.requires.sized)) (cell (goal.at.loop-i-preserved c).Else-l-eq0),
-    )
+loop-i-preserved c = (
+  omega arith,
+  length-set c.loop-i.marks (c.args.s.links + c.loop-i.i) c.destination_link-l.result ∙ c.loop-i.invariant.1,
+  pushed_more c.loop-i.invariant.2 (c.args.s.links + c.loop-i.i) c.destination_link-l.result c.destination_link-l.ensures c.if-l-eq0.false
+      (ap (λ (x : ℕ). x + c.loop-i.i) (sized_links c.requires.sized)) (cell (goal.at.loop-i-preserved c).Else-l-eq0),
+)
 
 pub shape_of-marks : goal.shape_of-marks
 shape_of-marks c = c.loop-i.invariant.1
 
 pub returns : goal.returns
 returns c =
-
     let e : c.loop-i.i ≡ destinations c.args.book.now = omega (arith, sized_destinations c.requires.sized) in
     record {
       zero = λ e. absurd (true≢false e);

@@ -102,7 +102,6 @@ bounds-marks-l c = l-inside c.before.before.before.before.before.before.before
 
 pub returns-then-mark-eq1 : goal.returns-then-mark-eq1
 returns-then-mark-eq1 c =
-
     turn_seen (walking c.before.before.before.before.before.before.before.before) (some c.before.before.before.before.before.before.before.before) (l c.before.before.before.before.before.before.before.before) (l-is c.before.before.before.before.before.before.before.before) c.if-mark-eq1.true
 
 pub overflow_add-marks : goal.overflow_add-marks
@@ -131,7 +130,6 @@ offset_bounds-marks-end c = omega (arith, end-inside c.before.before.before.befo
 
 pub bounds-marks-end : goal.bounds-marks-end
 bounds-marks-end c =
-
     omega (arith, end-inside c.before.before.before.before.before.before.before.before.before.before.before c.if-mark-eq1.false c.if-mark-ne0.true, same_one c.before.before.before.before.before.before.before.before.before.before.before)
 
 pub overflow_add-result : goal.overflow_add-result
@@ -139,28 +137,25 @@ overflow_add-result c = omega (arith, end-inside c.before.before.before.before.b
 
 pub shape_of-marks-then-mark-ne0 : goal.shape_of-marks-then-mark-ne0
 shape_of-marks-then-mark-ne0 c =
-
     same-two c.before.before.before.before.before.before.before.before.before.before.before (end c.before.before.before.before.before.before.before.before.before.before.before) (mark c.before.before.before.before.before.before.before.before.before.before.before / 2 - 1)
 
 pub returns-then-mark-ne0 : goal.returns-then-mark-ne0
 returns-then-mark-ne0 c =
-
     turn_kept (walking c.before.before.before.before.before.before.before.before.before.before.before) (some c.before.before.before.before.before.before.before.before.before.before.before) (l c.before.before.before.before.before.before.before.before.before.before.before) (l-is c.before.before.before.before.before.before.before.before.before.before.before) c.if-mark-eq1.false (mark c.before.before.before.before.before.before.before.before.before.before.before + 1) refl (omega (arith, fits c.before.before.before.before.before.before.before.before.before.before.before))
     c.if-mark-ne0.true (end c.before.before.before.before.before.before.before.before.before.before.before) (mark c.before.before.before.before.before.before.before.before.before.before.before / 2 - 1) (end_is c.before.before.before.before.before.before.before.before.before.before.before) (end-inside c.before.before.before.before.before.before.before.before.before.before.before c.if-mark-eq1.false c.if-mark-ne0.true) refl
 
 pub link_at-link-requires : goal.link_at-link-requires
 link_at-link-requires c = record {
-      sized = c.requires.sized;
-      i_lt_links = omega (arith, l-named c.before.before.before.before.before.before.before.before.before, sized_links c.requires.sized);
-      i_value = link_float (b c.before.before.before.before.before.before.before.before.before) c.requires.book_value (l c.before.before.before.before.before.before.before.before.before) (l-named c.before.before.before.before.before.before.before.before.before);
-    }
+  sized = c.requires.sized;
+  i_lt_links = omega (arith, l-named c.before.before.before.before.before.before.before.before.before, sized_links c.requires.sized);
+  i_value = link_float (b c.before.before.before.before.before.before.before.before.before) c.requires.book_value (l c.before.before.before.before.before.before.before.before.before) (l-named c.before.before.before.before.before.before.before.before.before);
+}
 
 pub shape_of-marks-then-link-eq0 : goal.shape_of-marks-then-link-eq0
 shape_of-marks-then-link-eq0 c = same_one c.before.before.before.before.before.before.before.before.before.before.before.before
 
 pub returns-then-link-eq0 : goal.returns-then-link-eq0
 returns-then-link-eq0 c =
-
     turn_first (walking c.before.before.before.before.before.before.before.before.before.before.before.before) (some c.before.before.before.before.before.before.before.before.before.before.before.before) (l c.before.before.before.before.before.before.before.before.before.before.before.before) (l-is c.before.before.before.before.before.before.before.before.before.before.before.before) c.if-mark-eq1.false (mark c.before.before.before.before.before.before.before.before.before.before.before.before + 1) refl (omega (arith, fits c.before.before.before.before.before.before.before.before.before.before.before.before))
     c.if-mark-ne0.false (sym (link_prev_lem (b c.before.before.before.before.before.before.before.before.before.before.before.before) (l c.before.before.before.before.before.before.before.before.before.before.before.before) c.link_at-link.ensures) ∙ c.if-link-eq0.true)
 
@@ -169,7 +164,6 @@ offset_bounds-marks-at-2 c = omega (arith, at-inside c.before.before.before.befo
 
 pub bounds-marks-at-2 : goal.bounds-marks-at-2
 bounds-marks-at-2 c =
-
     omega (arith, at-inside c.before.before.before.before.before.before.before.before.before.before.before.before, same_one c.before.before.before.before.before.before.before.before.before.before.before.before)
 
 pub overflow_add-result-then-link-eq0-2 : goal.overflow_add-result-then-link-eq0-2
@@ -177,12 +171,10 @@ overflow_add-result-then-link-eq0-2 c = omega (arith, at-inside c.before.before.
 
 pub shape_of-marks-then-link-eq0-2 : goal.shape_of-marks-then-link-eq0-2
 shape_of-marks-then-link-eq0-2 c =
-
     same-two c.before.before.before.before.before.before.before.before.before.before.before.before.before.before (at c.before.before.before.before.before.before.before.before.before.before.before.before.before.before) c.link_at-link.result.idx_prev
 
 pub returns-then-link-eq0-2 : goal.returns-then-link-eq0-2
 returns-then-link-eq0-2 c =
-
     turn_one (walking c.before.before.before.before.before.before.before.before.before.before.before.before.before.before) (some c.before.before.before.before.before.before.before.before.before.before.before.before.before.before) (l c.before.before.before.before.before.before.before.before.before.before.before.before.before.before) (l-is c.before.before.before.before.before.before.before.before.before.before.before.before.before.before) c.if-mark-eq1.false (mark c.before.before.before.before.before.before.before.before.before.before.before.before.before.before + 1) refl (omega (arith, fits c.before.before.before.before.before.before.before.before.before.before.before.before.before.before))
     c.if-mark-ne0.false c.link_at-link.result.idx_prev (link_prev_lem (b c.before.before.before.before.before.before.before.before.before.before.before.before.before.before) (l c.before.before.before.before.before.before.before.before.before.before.before.before.before.before) c.link_at-link.ensures) c.if-link-eq0.false
     c.requires.book_value_2 (at c.before.before.before.before.before.before.before.before.before.before.before.before.before.before) (at_is c.before.before.before.before.before.before.before.before.before.before.before.before.before.before) (at-inside c.before.before.before.before.before.before.before.before.before.before.before.before.before.before)
@@ -196,7 +188,6 @@ offset_bounds-marks-at-3 c = omega (arith, above-inside c.before.before.before.b
 
 pub bounds-marks-at-3 : goal.bounds-marks-at-3
 bounds-marks-at-3 c =
-
     omega (arith, above-inside c.before.before.before.before.before.before.before.before.before.before.before.before.before.before c.if-mark-eq1.false, same-two c.before.before.before.before.before.before.before.before.before.before.before.before.before.before (at c.before.before.before.before.before.before.before.before.before.before.before.before.before.before) c.link_at-link.result.idx_prev)
 
 pub overflow_add-result-2 : goal.overflow_add-result-2
@@ -204,13 +195,11 @@ overflow_add-result-2 c = omega (arith, above-inside c.before.before.before.befo
 
 pub shape_of-marks : goal.shape_of-marks
 shape_of-marks c =
-
     length-set (set (m1 c.before.before.before.before.before.before.before.before.before.before.before.before.before.before) (at c.before.before.before.before.before.before.before.before.before.before.before.before.before.before) c.link_at-link.result.idx_prev) (at c.before.before.before.before.before.before.before.before.before.before.before.before.before.before + 1) c.link_at-link.result.idx_prev_alt
     ∙ same-two c.before.before.before.before.before.before.before.before.before.before.before.before.before.before (at c.before.before.before.before.before.before.before.before.before.before.before.before.before.before) c.link_at-link.result.idx_prev
 
 pub returns : goal.returns
 returns c =
-
     turn_two (walking c.before.before.before.before.before.before.before.before.before.before.before.before.before.before) (some c.before.before.before.before.before.before.before.before.before.before.before.before.before.before) (l c.before.before.before.before.before.before.before.before.before.before.before.before.before.before) (l-is c.before.before.before.before.before.before.before.before.before.before.before.before.before.before) c.if-mark-eq1.false (mark c.before.before.before.before.before.before.before.before.before.before.before.before.before.before + 1) refl (omega (arith, fits c.before.before.before.before.before.before.before.before.before.before.before.before.before.before))
     c.if-mark-ne0.false c.link_at-link.result.idx_prev (link_prev_lem (b c.before.before.before.before.before.before.before.before.before.before.before.before.before.before) (l c.before.before.before.before.before.before.before.before.before.before.before.before.before.before) c.link_at-link.ensures) c.if-link-eq0.false
     c.requires.book_value_2 (at c.before.before.before.before.before.before.before.before.before.before.before.before.before.before) (at_is c.before.before.before.before.before.before.before.before.before.before.before.before.before.before) (at-inside c.before.before.before.before.before.before.before.before.before.before.before.before.before.before)

@@ -7,9 +7,9 @@ use Rattle.book_reader.proofs.check_book.Goals as goal
 
 pub read_book-r-requires : goal.read_book-r-requires
 read_book-r-requires c = record {
-      cells_value = zeros_again _ _ c.clear_numbers.ensures;
-      marks_value = zeros_again _ _ c.clear_numbers-2.ensures;
-    }
+  cells_value = zeros_again _ _ c.clear_numbers.ensures;
+  marks_value = zeros_again _ _ c.clear_numbers-2.ensures;
+}
 
 pub returns : goal.returns
 returns c = record {

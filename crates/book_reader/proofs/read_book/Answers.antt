@@ -13,7 +13,6 @@ use Rattle.book_reader.proofs.read_book.Goals.{After-part-1, After-search_room-r
 
 pub search_room-room-requires : goal.search_room-room-requires
 search_room-room-requires c =
-
     let t = left_told _ _ _ c.test_rows-t.result c.test_rows-t.ensures c.in-Left.is in
     let all = small t.passed.sized t.passed.counted.counts in
     record {
@@ -24,9 +23,7 @@ search_room-room-requires c =
 
 pub slice_bounds-part-end : goal.slice_bounds-part-end
 slice_bounds-part-end c =
-
     let t = left_told _ _ _ c.test_rows-t.result c.test_rows-t.ensures c.in-Left.is in
-
     let fits = part_fits _ _ _ _ _ c.args.cells.now c.args.marks.now c.lent_bytes-bytes.ensures t.row3 c.units.ensures in
     omega (arith, fits, room_told _ t.passed.sized c.search_room-room.ensures)
 
@@ -35,9 +32,6 @@ slice_bounds-part-end-in-Left c = sym (length-take-le _ _ (slice_bounds-part-end
 
 pub read_rest-requires : goal.read_rest-requires
 read_rest-requires c =
-
-
-
     let t = left_told _ _ _ c.test_rows-t.result c.test_rows-t.ensures c.in-Left.is in
     record {
       rows_passed = t.passed;
@@ -47,24 +41,17 @@ read_rest-requires c =
 
 pub returns-in-Stopped : goal.returns-in-Stopped
 returns-in-Stopped c =
-
     let t = stopped_told _ _ _ _ c.test_rows-t.result c.test_rows-t.ensures c.in-Stopped.is in
     record { number = t.0 ∙ number_capped _ _ _ _ _ _ _ c.units.ensures c.lent_bytes-bytes.ensures; into = t.1; rest = refl }
 
 pub shape_of-marks : goal.shape_of-marks
 shape_of-marks c =
-
-
     length_front c.args.marks.now c.read_rest.new.marks c.search_room-room.result c.read_rest.auto.marks
 
 pub returns-in-Left : goal.returns-in-Left
 returns-in-Left c =
-
-
-
     let t = left_told _ _ _ c.test_rows-t.result c.test_rows-t.ensures c.in-Left.is in
     let r = c.read_rest.ensures in
-
     let b = c.args.book.now in
     let part = c.read_rest.new.marks in
     let behind = drop c.search_room-room.result c.args.marks.now in

@@ -28,11 +28,11 @@ test_repeats-n-requires c =
       rows_passed = p.rows_passed;
       late_value = p.late_value;
       blank = record {
-          cells_room = p.blank.cells_room;
-          marks_room = omega (arith, sized_links p.rows_passed.sized, slice_bounds-own-end-2 (goal.at.test_repeats-n-requires c).After-own-1);
-          cells_zero = p.blank.cells_zero;
-          marks_zero = zeros_front c.args.s.links p.blank.marks_zero;
-        };
+        cells_room = p.blank.cells_room;
+        marks_room = omega (arith, sized_links p.rows_passed.sized, slice_bounds-own-end-2 (goal.at.test_repeats-n-requires c).After-own-1);
+        cells_zero = p.blank.cells_zero;
+        marks_zero = zeros_front c.args.s.links p.blank.marks_zero;
+      };
     }
 
 pub returns-then-n-gt0 : goal.returns-then-n-gt0

@@ -8,10 +8,10 @@ use Rattle.book_reader.proofs.test_legs.Goals as goal
 
 pub link_legs-requires : goal.link_legs-requires
 link_legs-requires c = record {
-      readable = c.requires.readable;
-      book_in_bounds = c.requires.blank.cells_room;
-      cells_value = c.requires.blank.cells_zero;
-    }
+  readable = c.requires.readable;
+  book_in_bounds = c.requires.blank.cells_room;
+  cells_value = c.requires.blank.cells_zero;
+}
 
 pub returns-then-link_legs : goal.returns-then-link_legs
 returns-then-link_legs c = record { answer = row7_early _ _ c.link_legs.ensures.answer c.if-link_legs.true; chained = λ (e : true ≡ false). not_both refl e }

@@ -13,9 +13,9 @@ returns-then-counts_refused c = (number_3 _ _ _ _ c.requires (sym c.counts_refus
 
 pub lowest_row-n-requires : goal.lowest_row-n-requires
 lowest_row-n-requires c = record {
-      sized = c.requires;
-      links_nonzero = some_link _ _ _ _ c.requires (sym c.counts_refused.ensures ∙ c.if-counts_refused.false);
-    }
+  sized = c.requires;
+  links_nonzero = some_link _ _ _ _ c.requires (sym c.counts_refused.ensures ∙ c.if-counts_refused.false);
+}
 
 pub returns-then-n-eq0 : goal.returns-then-n-eq0
 returns-then-n-eq0 c = left_early _ _ _ _ _ c.requires (sym c.counts_refused.ensures ∙ c.if-counts_refused.false) c.lowest_row-n.ensures c.if-n-eq0.true

@@ -83,6 +83,6 @@ shape_of-marks c = c.loop-j.invariant.kept
 
 pub returns : goal.returns
 returns c = record {
-      value = walk_none c.loop-j.invariant c.loop-j-test.false;
-      under_2 = c.loop-j.invariant.under;
-    }
+  value = walk_none c.loop-j.invariant c.loop-j-test.false;
+  under_2 = c.loop-j.invariant.under;
+}

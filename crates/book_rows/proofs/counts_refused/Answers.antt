@@ -21,9 +21,9 @@ work_bytes-work-requires c =
 
 pub leg_counts-counts-requires : goal.leg_counts-counts-requires
 leg_counts-counts-requires c = record {
-      sized = c.requires;
-      legs_bound = omega (arith, sized_legs c.requires, limits c.args.book.now (within (goal.at.leg_counts-counts-requires c).Else-counts_outside));
-    }
+  sized = c.requires;
+  legs_bound = omega (arith, sized_legs c.requires, limits c.args.book.now (within (goal.at.leg_counts-counts-requires c).Else-counts_outside));
+}
 
 pub returns : goal.returns
 returns c = rw (

@@ -1,5 +1,4 @@
 -- `book_rows::leg_counts` meets its contract: `Passed` is the loop's invariant.
-use Prim.Native.Nat.{◌-◌}
 use native.Mathlib.Omega.{arith}
 use Rattle.book_format.specs.Format.{leg_at}
 use Rattle.book_format.proofs.Places.{sized_legs}
@@ -11,9 +10,9 @@ loop-i-init c = (omega arith, none_passed c.args.book.now)
 
 pub leg_at-leg-requires : goal.leg_at-leg-requires
 leg_at-leg-requires c = record {
-      sized = c.requires.sized;
-      i_lt_legs = c.loop-i-test.true;
-    }
+  sized = c.requires.sized;
+  i_lt_legs = c.loop-i-test.true;
+}
 
 pub overflow_add-sum : goal.overflow_add-sum
 overflow_add-sum c = omega (arith, c.requires.legs_bound, c.loop-i.invariant.1.least)

@@ -21,11 +21,11 @@ returns-then-not-is_book_float c = rw (← c.link_length-length.ensures, ← c.i
 
 pub bad_link-requires : goal.bad_link-requires
 bad_link-requires c = record {
-      sized = c.requires.sized;
-      i_lt_links = c.requires.i_lt_links;
-      i_value = good (goal.at.bad_link-requires c).Else-not-is_book_float;
-      length_len = c.link_length-length.ensures;
-    }
+  sized = c.requires.sized;
+  i_lt_links = c.requires.i_lt_links;
+  i_value = good (goal.at.bad_link-requires c).Else-not-is_book_float;
+  length_len = c.link_length-length.ensures;
+}
 
 pub returns : goal.returns
 unfolding link_number

@@ -20,10 +20,10 @@ returns-then-link_length-ne0 c = rw (← c.link_length.ensures, ne_eqb c.link_le
 
 pub link_at-l-requires : goal.link_at-l-requires
 link_at-l-requires c = record {
-      sized = c.requires.sized;
-      i_lt_links = c.requires.links_nonzero;
-      i_value = zero-float _ _ c.link_length.ensures c.if-link_length-ne0.false;
-    }
+  sized = c.requires.sized;
+  i_lt_links = c.requires.links_nonzero;
+  i_value = zero-float _ _ c.link_length.ensures c.if-link_length-ne0.false;
+}
 
 pub returns : goal.returns
 unfolding link_zero link_at

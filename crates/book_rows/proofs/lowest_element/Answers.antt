@@ -1,6 +1,6 @@
 -- `book_rows::lowest_element` meets its contract: the loop keeps the lowest number of the rows passed.
 use mathlib.Core.Path.{◌≡◌, refl, ap, sym, ◌∙◌}
-use Prim.Native.Nat.{ℕ, ◌-◌}
+use Prim.Native.Nat.{ℕ}
 use native.Mathlib.Omega.{arith}
 use Rattle.book_rows.specs.Elements.{lowest_below, elements, element_number}
 use Rattle.book_rows.proofs.Lowest.{lowest_more}
@@ -16,9 +16,9 @@ loop-k-init c = (omega arith, refl)
 
 pub row_number-requires : goal.row_number-requires
 row_number-requires c = record {
-      sized = c.requires;
-      k_bound = omega arith;
-    }
+  sized = c.requires;
+  k_bound = omega arith;
+}
 
 pub lower_of-lowest-requires : goal.lower_of-lowest-requires
 lower_of-lowest-requires c = tt

@@ -23,10 +23,10 @@ returns-then-not-is_book_float c = rw (← c.origin_offset-offset.ensures, ← c
 
 pub origin_at-o-requires : goal.origin_at-o-requires
 origin_at-o-requires c = record {
-      sized = c.requires.sized;
-      i_lt_origins = c.requires.i_lt_origins;
-      i_value = good (goal.at.origin_at-o-requires c).Else-not-is_book_float;
-    }
+  sized = c.requires.sized;
+  i_lt_origins = c.requires.i_lt_origins;
+  i_value = good (goal.at.origin_at-o-requires c).Else-not-is_book_float;
+}
 
 pub returns : goal.returns
 unfolding origin_number bad_origin_value bad_origin_place origin_at

@@ -24,9 +24,9 @@ returns-then-d-s c =
 
 pub leg_row-requires : goal.leg_row-requires
 leg_row-requires c = record {
-      sized = c.requires.sized;
-      i_lt_legs = omega (arith, c.requires.k_bound);
-    }
+  sized = c.requires.sized;
+  i_lt_legs = omega (arith, c.requires.k_bound);
+}
 
 pub returns : goal.returns
 returns c =

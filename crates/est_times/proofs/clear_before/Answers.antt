@@ -5,9 +5,6 @@ use Rattle.est_times.proofs.clear_before.Goals as goal
 
 pub returns : goal.returns
 returns c =
-
-
-
     record {
       floats = floats_again _ _ c.clear_floats.ensures;
       numbers = zeros_again _ _ c.clear_numbers.ensures;

@@ -10,35 +10,22 @@ build-sheet-requires c = c.clear_before.ensures
 
 pub clear_behind-requires : goal.clear_behind-requires
 clear_behind-requires c =
-
     omega (arith, c.nodes_of-n.ensures, nodes_most _ _ _ c.build-sheet.result c.build-sheet.ensures)
 
 pub shape_of-floats : goal.shape_of-floats
 shape_of-floats c =
-
-
-
     omega (arith, c.clear_behind.auto, c.build-sheet.auto, c.clear_before.auto)
 
 pub shape_of-numbers : goal.shape_of-numbers
 shape_of-numbers c =
-
-
-
     omega (arith, c.clear_behind.auto, c.build-sheet.auto, c.clear_before.auto)
 
 pub shape_of-reals : goal.shape_of-reals
 shape_of-reals c =
-
     omega (arith, c.clear_work.auto, c.build-sheet.auto)
 
 pub returns : goal.returns
 returns c =
-
-
-
-
-
     let k = c.build-sheet.auto in
     let l = c.clear_before.auto in
     sheet_made _ _ _ _ _ _ _ _ _ c.build-sheet.result c.build-sheet.ensures l.floats l.numbers refl l.cells l.marks (omega (arith, k, l)) (omega (arith, k, l)) _ c.nodes_of-n.ensures

@@ -13,8 +13,6 @@ read_book-reading-requires c = let p = c.requires in
 
 pub grow_book-requires : goal.grow_book-requires
 grow_book-requires c =
-
-
     let r = read_as c.places-places.ensures c.read_book-reading.ensures in
     let e = enough_of _ _ _ _ _ _ (passes_of _ _ _ (accepted_zero _ _ _ _ _ _ r c.in-Accepted.is)) in
     let k = c.read_book-reading.auto in
@@ -27,15 +25,10 @@ grow_book-requires c =
 
 pub returns-in-Refused : goal.returns-in-Refused
 returns-in-Refused c =
-
     let r = read_as c.places-places.ensures c.read_book-reading.ensures in
     network_refused _ _ _ (refused_number _ _ _ _ _ _ r c.in-Refused.is) (refused_some _ _ _ _ _ _ r c.in-Refused.is)
 
 pub returns-in-Accepted : goal.returns-in-Accepted
 returns-in-Accepted c =
-
-
-
-
     let p = c.requires in
     grown_network _ _ _ _ p.floats p.numbers (accepted_zero _ _ _ _ _ _ (read_as c.places-places.ensures c.read_book-reading.ensures) c.in-Accepted.is) _ _ c.grow_book.result c.grow_book.ensures

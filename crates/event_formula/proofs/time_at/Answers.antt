@@ -4,7 +4,6 @@ use Rattle.event_formula.specs.Event.{stands_at, time_by_quotient}
 use Rattle.event_formula.proofs.Laws.{own_time, quotient_time}
 use Rattle.event_formula.proofs.time_at.Goals as goal
 
--- `event_formula::time_at` meets its contract.
 -- the sample's own time
 pub returns-then-dist_diff_x2-speed_sum : goal.returns-then-dist_diff_x2-speed_sum
 unfolding stands_at

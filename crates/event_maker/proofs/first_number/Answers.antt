@@ -30,18 +30,18 @@ returns-then-not-is_book_value c = first_length _ _ c.args.m c.requires.at_value
 
 pub points_number-of_points-requires : goal.points_number-of_points-requires
 points_number-of_points-requires c = record {
-      n_nonzero = (counts c.args.samples.now c.args.offsets.now c.args.m (left (goal.at.points_number-of_points-requires c).Else-is_outside)).some_points;
-      n_in_bounds = c.requires.points_in_bounds;
-    }
+  n_nonzero = (counts c.args.samples.now c.args.offsets.now c.args.m (left (goal.at.points_number-of_points-requires c).Else-is_outside)).some_points;
+  n_in_bounds = c.requires.points_in_bounds;
+}
 
 pub returns-then-of_points-eq4 : goal.returns-then-of_points-eq4
 returns-then-of_points-eq4 c = first-points _ _ c.args.m c.requires.at_value (left (goal.at.returns-then-of_points-eq4 c).Else-is_outside) _ c.points_number-of_points.ensures c.if-of_points-eq4.true
 
 pub samples_number-of_samples-requires : goal.samples_number-of_samples-requires
 samples_number-of_samples-requires c = record {
-      n_nonzero = (counts c.args.samples.now c.args.offsets.now c.args.m (left (goal.at.samples_number-of_samples-requires c).Else-is_outside)).some;
-      sample_width_in_bounds = c.requires.sample_width_in_bounds;
-    }
+  n_nonzero = (counts c.args.samples.now c.args.offsets.now c.args.m (left (goal.at.samples_number-of_samples-requires c).Else-is_outside)).some;
+  sample_width_in_bounds = c.requires.sample_width_in_bounds;
+}
 
 pub returns-then-of_samples-ne0 : goal.returns-then-of_samples-ne0
 returns-then-of_samples-ne0 c =

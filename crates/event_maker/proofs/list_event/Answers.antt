@@ -8,9 +8,9 @@ use Rattle.event_maker.proofs.list_event.Goals as goal
 
 pub returns-then-k-places : goal.returns-then-k-places
 returns-then-k-places c = record {
-      floats = λ h. no_place _ _ c.if-k-places.true h;
-      numbers = λ h. no_place _ _ c.if-k-places.true h;
-    }
+  floats = λ h. no_place _ _ c.if-k-places.true h;
+  numbers = λ h. no_place _ _ c.if-k-places.true h;
+}
 
 pub bounds-floats-k-2 : goal.bounds-floats-k-2
 bounds-floats-k-2 c = simp length-set (omega arith)
@@ -30,6 +30,6 @@ shape_of-numbers c = simp length-set
 pub returns : goal.returns
 unfolding put_event_floats
 returns c = record {
-      floats = λ h. refl;
-      numbers = λ h. numbers_stored _ _ _ _ c.kind_number-kind.ensures;
-    }
+  floats = λ h. refl;
+  numbers = λ h. numbers_stored _ _ _ _ c.kind_number-kind.ensures;
+}

@@ -20,19 +20,19 @@ named c = let l = point_before c.loop-p.invariant _ _ (next c) c.requires.walkab
 
 pub start_heads-h-requires : goal.start_heads-h-requires
 start_heads-h-requires c = record {
-      held = c.requires.held;
-      walkable = c.requires.walkable;
-    }
+  held = c.requires.held;
+  walkable = c.requires.walkable;
+}
 
 pub loop-p-init : goal.loop-p-init
 loop-p-init c = listing_start _ _ _ _ _ _ c.requires.floats_value c.requires.numbers_value c.start_heads-h.ensures.is c.start_heads-h.ensures.within c.list_places-places.ensures
 
 pub next_event-next-requires : goal.next_event-next-requires
 next_event-next-requires c = record {
-      held = c.requires.held;
-      walkable = c.requires.walkable;
-      within = c.loop-p.invariant.within;
-    }
+  held = c.requires.held;
+  walkable = c.requires.walkable;
+  within = c.loop-p.invariant.within;
+}
 
 pub shape_of-floats-in_default : goal.shape_of-floats-in_default
 shape_of-floats-in_default c = c.loop-p.invariant.floats_size

@@ -33,10 +33,10 @@ returns-then-is_bad_sample-2 c = sweep_bad _ (bad_at c.args.samples.now) (falls_
 pub sample_falls-falls-requires : goal.sample_falls-falls-requires
 unfolding bad_at
 sample_falls-falls-requires c = record {
-      sample_width_in_bounds = omega (arith, c.requires.sample_width_in_bounds, c.loop-i-test.true);
-      i_value = sweep_here _ (bad_at c.args.samples.now) (falls_at c.args.samples.now) _ _ c.loop-i.invariant;
-      i_value_2 = sym c.is_bad_sample-in-loop-i.ensures ∙ c.if-is_bad_sample-2.false;
-    }
+  sample_width_in_bounds = omega (arith, c.requires.sample_width_in_bounds, c.loop-i-test.true);
+  i_value = sweep_here _ (bad_at c.args.samples.now) (falls_at c.args.samples.now) _ _ c.loop-i.invariant;
+  i_value_2 = sym c.is_bad_sample-in-loop-i.ensures ∙ c.if-is_bad_sample-2.false;
+}
 
 pub loop-i-preserved : goal.loop-i-preserved
 unfolding bad_at

@@ -6,7 +6,7 @@ use Rattle.event_walk.proofs.Searches.{upper_half, lower_half, between_met}
 use Rattle.event_walk.proofs.first_beyond.Goals as goal
 
 pub gallop-span-requires : goal.gallop-span-requires
-gallop-span-requires c = record { points_in_bounds = c.requires.points_in_bounds; rises = c.requires.rises; x_value = c.requires.x_value; }
+gallop-span-requires c = record { points_in_bounds = c.requires.points_in_bounds; rises = c.requires.rises; x_value = c.requires.x_value }
 
 pub loop-low-init : goal.loop-low-init
 loop-low-init c = c.gallop-span.ensures

@@ -17,9 +17,9 @@ overflow_add-m c = omega (arith, c.requires.sample_width_in_bounds)
 
 pub sample_offset-offset-requires : goal.sample_offset-offset-requires
 sample_offset-offset-requires c = record {
-      sample_width_in_bounds = omega (arith, c.requires.sample_width_in_bounds);
-      at_value = c.requires.by_index c.loop-i.i c.loop-i-test.true;
-    }
+  sample_width_in_bounds = omega (arith, c.requires.sample_width_in_bounds);
+  at_value = c.requires.by_index c.loop-i.i c.loop-i-test.true;
+}
 
 pub returns-then-x-offset : goal.returns-then-x-offset
 returns-then-x-offset c = reach_found c.loop-i.invariant (ap (le c.args.x) (sym c.sample_offset-offset.ensures) ∙ c.if-x-offset.true)

@@ -11,7 +11,6 @@ use Rattle.event_walk.proofs.Steps.{unseen_is, unseen_later, unseen_offset, next
 use Rattle.event_walk.proofs.next_event.Goals as goal
 use Rattle.event_walk.proofs.next_event.Goals.{After-first_reaching-i, After-shared_slice_known-2-1}
 
--- `event_walk::next_event` meets its contract.
 -- the front point is in the list
 front_in : (c : After-shared_slice_known-2-1) → c.args.h.pt_idx_front < length c.args.offsets.now
 unfolding course_of
@@ -28,7 +27,6 @@ there c = heads c.first_reaching-i.result 1 c.args.h.pt_idx_front
 skipped : (c : After-first_reaching-i) → (passed_from (course c) c.args.h ≡ passed_from (course c) (there c)) × Within (course c) (there c)
 unfolding course_of clears_next
 skipped c =
-
     let u = unseen_is _ _ c.args.h (sym c.is_unseen.ensures ∙ c.if-is_unseen.true) in
     next_unseen c.requires.walkable c.requires.within c.event_offset-offset_next.result (unseen_offset c.args.book.now c.args.offsets.now c.args.m c.args.h c.event_offset-offset_next.result u.1 c.event_offset-offset_next.ensures)
     c.first_reaching-i.result c.first_reaching-i.ensures u.0 u.1
@@ -51,21 +49,20 @@ bounds-offsets-0 c = omega (arith, front_in (goal.at.bounds-offsets-0 c).After-s
 
 pub first_reaching-i-requires : goal.first_reaching-i-requires
 first_reaching-i-requires c = record {
-      sample_width_in_bounds = c.requires.held.bytes;
-      by_index = c.requires.held.floats;
-    }
+  sample_width_in_bounds = c.requires.held.bytes;
+  by_index = c.requires.held.floats;
+}
 
 pub seen_event-requires : goal.seen_event-requires
 seen_event-requires c = record {
-      held = c.requires.held;
-      walkable = c.requires.walkable;
-      within = (skipped (goal.at.seen_event-requires c).After-first_reaching-i).1;
-      h_value = unseen_later _ _ (there (goal.at.seen_event-requires c).After-first_reaching-i) (λ e. omega arith);
-    }
+  held = c.requires.held;
+  walkable = c.requires.walkable;
+  within = (skipped (goal.at.seen_event-requires c).After-first_reaching-i).1;
+  h_value = unseen_later _ _ (there (goal.at.seen_event-requires c).After-first_reaching-i) (λ e. omega arith);
+}
 
 pub returns-then-is_unseen : goal.returns-then-is_unseen
 returns-then-is_unseen c =
-
     next_from _ c.args.h (there (goal.at.returns-then-is_unseen c).After-first_reaching-i) (skipped (goal.at.returns-then-is_unseen c).After-first_reaching-i).0 c.seen_event.result c.seen_event.ensures
 
 pub seen_event-requires-2 : goal.seen_event-requires-2

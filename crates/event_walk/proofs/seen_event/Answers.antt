@@ -9,7 +9,6 @@ use Rattle.event_walk.proofs.Steps.{seen_later, next_none, next_cleared, next_ar
 use Rattle.event_walk.proofs.seen_event.Goals as goal
 use Rattle.event_walk.proofs.seen_event.Goals.{After-shared_slice_known-2-1}
 
--- `event_walk::seen_event` meets its contract: one law for each answer.
 -- both points are in the list
 back_in : (c : After-shared_slice_known-2-1) → c.args.h.pt_idx_back < length c.args.offsets.now
 unfolding course_of
@@ -33,23 +32,22 @@ bounds-offsets-pt_idx_front c = front_in (goal.at.bounds-offsets-pt_idx_front c)
 
 pub first_reaching-i-requires : goal.first_reaching-i-requires
 first_reaching-i-requires c = record {
-      sample_width_in_bounds = c.requires.held.bytes;
-      by_index = c.requires.held.floats;
-    }
+  sample_width_in_bounds = c.requires.held.bytes;
+  by_index = c.requires.held.floats;
+}
 
 pub returns-then-i-m : goal.returns-then-i-m
 unfolding course_of offset_next
 returns-then-i-m c =
-
     next_none c.requires.walkable c.requires.within c.event_offset-offset_next.result c.event_offset-offset_next.ensures c.first_reaching-i.result c.first_reaching-i.ensures (λ h. omega arith)
 
 pub passed_at-p-requires : goal.passed_at-p-requires
 passed_at-p-requires c = record {
-      sample_width_in_bounds = c.requires.held.bytes;
-      by_index = c.requires.held.floats;
-      i_nonzero = omega (arith, c.requires.within.after, c.first_reaching-i.ensures.after);
-      i_lt_samples = omega arith;
-    }
+  sample_width_in_bounds = c.requires.held.bytes;
+  by_index = c.requires.held.floats;
+  i_nonzero = omega (arith, c.requires.within.after, c.first_reaching-i.ensures.after);
+  i_lt_samples = omega arith;
+}
 
 pub overflow_add-result : goal.overflow_add-result
 overflow_add-result c = omega (arith, back_in (goal.at.overflow_add-result c).After-shared_slice_known-2-1)
@@ -57,7 +55,6 @@ overflow_add-result c = omega (arith, back_in (goal.at.overflow_add-result c).Af
 pub returns-then-is_clear : goal.returns-then-is_clear
 unfolding course_of offset_next clears_next
 returns-then-is_clear c =
-
     let q = sym c.is_clear.ensures ∙ c.if-is_clear.true in
     next_cleared c.requires.walkable c.requires.within c.event_offset-offset_next.result c.event_offset-offset_next.ensures
     c.first_reaching-i.result c.first_reaching-i.ensures c.passed_at-p.result (omega arith)
@@ -65,11 +62,11 @@ returns-then-is_clear c =
 
 pub passed_at-p-requires-2 : goal.passed_at-p-requires-2
 passed_at-p-requires-2 c = record {
-      sample_width_in_bounds = c.requires.held.bytes;
-      by_index = c.requires.held.floats;
-      i_nonzero = omega (arith, c.requires.within.after, c.first_reaching-i.ensures.after);
-      i_lt_samples = omega arith;
-    }
+  sample_width_in_bounds = c.requires.held.bytes;
+  by_index = c.requires.held.floats;
+  i_nonzero = omega (arith, c.requires.within.after, c.first_reaching-i.ensures.after);
+  i_lt_samples = omega arith;
+}
 
 pub overflow_add-result-2 : goal.overflow_add-result-2
 overflow_add-result-2 c = omega (arith, front_in (goal.at.overflow_add-result-2 c).After-shared_slice_known-2-1)
@@ -77,7 +74,6 @@ overflow_add-result-2 c = omega (arith, front_in (goal.at.overflow_add-result-2 
 pub returns : goal.returns
 unfolding course_of offset_next clears_next
 returns c =
-
     next_arrived c.requires.walkable c.requires.within c.event_offset-offset_next.result c.event_offset-offset_next.ensures
     c.first_reaching-i.result c.first_reaching-i.ensures c.passed_at-p-2.result (omega arith)
     (sym c.is_clear.ensures ∙ c.if-is_clear.false) c.passed_at-p-2.ensures

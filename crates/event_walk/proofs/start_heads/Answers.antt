@@ -14,18 +14,18 @@ sample_from-first-requires c =
 pub first_beyond-pt_idx_back-requires : goal.first_beyond-pt_idx_back-requires
 unfolding course_of
 first_beyond-pt_idx_back-requires c = record {
-      points_in_bounds = c.requires.held.points;
-      rises = c.requires.walkable.rises;
-      x_value = end_number c.args.book.now c.args.offsets.now c.args.m c.requires.walkable c.sample_from-first.result c.sample_from-first.ensures;
-    }
+  points_in_bounds = c.requires.held.points;
+  rises = c.requires.walkable.rises;
+  x_value = end_number c.args.book.now c.args.offsets.now c.args.m c.requires.walkable c.sample_from-first.result c.sample_from-first.ensures;
+}
 
 pub first_beyond-pt_idx_front-requires : goal.first_beyond-pt_idx_front-requires
 unfolding course_of
 first_beyond-pt_idx_front-requires c = record {
-      points_in_bounds = c.requires.held.points;
-      rises = c.requires.walkable.rises;
-      x_value = first_number_lem c.args.book.now c.args.offsets.now c.args.m c.requires.walkable c.sample_from-first.result c.sample_from-first.ensures;
-    }
+  points_in_bounds = c.requires.held.points;
+  rises = c.requires.walkable.rises;
+  x_value = first_number_lem c.args.book.now c.args.offsets.now c.args.m c.requires.walkable c.sample_from-first.result c.sample_from-first.ensures;
+}
 
 pub returns : goal.returns
 returns c =

@@ -1,6 +1,5 @@
 -- `fields::u64_at` meets its contract: the two words are what `u64_at` says.
 use borrow.Author.Rules.{rules}
-use mathlib.Core.Path.{◌≡◌}
 use Rattle.fields.specs.Fields.{u64_at}
 use Rattle.fields.proofs.u64_at.Statement.{statement}
 use Rattle.fields.proofs.u64_at.Tie as tie

@@ -4,17 +4,17 @@ use Rattle.grow_book.proofs.to_front.Goals as goal
 
 pub returns-then-front : goal.returns-then-front
 returns-then-front c = record {
-      moves = c.if-front.true;
-      held = λ b fs us path net runs d. d;
-    }
+  moves = c.if-front.true;
+  held = λ b fs us path net runs d. d;
+}
 
 pub take_up-requires : goal.take_up-requires
 take_up-requires c = record {
-      some_drive = c.requires.some_drive;
-      moves_value = c.if-front.false;
-      top_nonzero = some_top _ _ c.if-front.false c.requires.top_value;
-      in_bounds = c.requires.in_bounds;
-    }
+  some_drive = c.requires.some_drive;
+  moves_value = c.if-front.false;
+  top_nonzero = some_top _ _ c.if-front.false c.requires.top_value;
+  in_bounds = c.requires.in_bounds;
+}
 
 pub returns : goal.returns
-returns c = record { moves = c.take_up.ensures.moves; held = c.take_up.ensures.held; }
+returns c = record { moves = c.take_up.ensures.moves; held = c.take_up.ensures.held }

@@ -24,9 +24,9 @@ overflow_add-k c = omega (arith, c.requires.room.most, c.if-places-k.false)
 
 pub store-requires : goal.store-requires
 store-requires c = record {
-      float_width_in_bounds = omega (arith, c.requires.room.floats, c.loop-i.invariant.floats_kept_lem, c.if-places-k.false);
-      number_width_in_bounds = omega (arith, c.requires.room.numbers, c.loop-i.invariant.numbers_kept_lem, c.if-places-k.false);
-    }
+  float_width_in_bounds = omega (arith, c.requires.room.floats, c.loop-i.invariant.floats_kept_lem, c.if-places-k.false);
+  number_width_in_bounds = omega (arith, c.requires.room.numbers, c.loop-i.invariant.numbers_kept_lem, c.if-places-k.false);
+}
 
 pub overflow_cast-i : goal.overflow_cast-i
 overflow_cast-i c = omega (arith, c.requires.room.most, faking_inside c.loop-i.invariant c.loop-i-test.true, c.loop-i.invariant.counted, c.if-places-k.false)

@@ -6,21 +6,21 @@ use Rattle.grow_ends.proofs.finish.Goals as goal
 
 pub returns-then-place-last : goal.returns-then-place-last
 returns-then-place-last c = record {
-      answer = finish_elsewhere _ _ _ _ _ _ c.if-place-last.true;
-      cells = refl;
-    }
+  answer = finish_elsewhere _ _ _ _ _ _ c.if-place-last.true;
+  cells = refl;
+}
 
 pub returns-then-node-ne0 : goal.returns-then-node-ne0
 returns-then-node-ne0 c = record {
-      answer = finish_with_next _ _ _ _ _ _ c.if-place-last.false _ c.load-node.ensures c.if-node-ne0.true;
-      cells = refl;
-    }
+  answer = finish_with_next _ _ _ _ _ _ c.if-place-last.false _ c.load-node.ensures c.if-node-ne0.true;
+  cells = refl;
+}
 
 pub returns-then-cells-at-gt0 : goal.returns-then-cells-at-gt0
 returns-then-cells-at-gt0 c = record {
-      answer = finish_ended _ _ _ _ _ _ c.if-place-last.false _ c.load-node.ensures c.if-node-ne0.false c.requires.n_nonzero c.if-cells-at-gt0.true;
-      cells = refl;
-    }
+  answer = finish_ended _ _ _ _ _ _ c.if-place-last.false _ c.load-node.ensures c.if-node-ne0.false c.requires.n_nonzero c.if-cells-at-gt0.true;
+  cells = refl;
+}
 
 pub returns : goal.returns
 returns c =

@@ -87,9 +87,9 @@ shape_of-stack-then-is_bad_point c = c.loop-p.invariant.0.stack_long
 -- it is bad
 pub returns-then-is_bad_point : goal.returns-then-is_bad_point
 returns-then-is_bad_point c = record {
-      outcome = λ start path leg net run n r a. going-bad _ _ _ _ _ _ _ _ _ _ _ c.loop-p.invariant.1 _ _ (next (goal.at.returns-then-is_bad_point c).In-Passed).0 (sym c.is_bad_point.ensures ∙ c.if-is_bad_point.true) _;
-      more = tt;
-    }
+  outcome = λ start path leg net run n r a. going-bad _ _ _ _ _ _ _ _ _ _ _ c.loop-p.invariant.1 _ _ (next (goal.at.returns-then-is_bad_point c).In-Passed).0 (sym c.is_bad_point.ensures ∙ c.if-is_bad_point.true) _;
+  more = tt;
+}
 
 pub event_at-e-requires : goal.event_at-e-requires
 event_at-e-requires c = let r = c.requires in next_inside _ _ _ _ _ _ _ _ _ _ _ c.loop-p.invariant.1 _ _ (next (goal.at.event_at-e-requires c).In-Passed).0 r.some_path r.moving
@@ -110,10 +110,10 @@ run_event-became-requires c =
 
 pub stopped-requires : goal.stopped-requires
 stopped-requires c = record {
-      held = c.requires.held;
-      walkable = c.requires.walkable;
-      within = (next (goal.at.stopped-requires c).In-Passed).1;
-    }
+  held = c.requires.held;
+  walkable = c.requires.walkable;
+  within = (next (goal.at.stopped-requires c).In-Passed).1;
+}
 
 pub shape_of-floats-in_default-became : goal.shape_of-floats-in_default-became
 shape_of-floats-in_default-became c = omega (arith, c.run_event-became.auto, c.loop-p.invariant.0.floats)

@@ -9,8 +9,8 @@ use Rattle.grow_events.proofs.with_added.Goals.{Joined-split, then-split, else-s
 splits_are : (c : Joined-split) → c.if-split.splits ≡ count_if c.args.split c.args.c.splits
 splits_are c =
     elim c.if-split.branch [
-      then-split w ↦ w.splits-is ∙ count_more _ _ w.if-split.true
-    | else-split w ↦ w.splits-is ∙ count_same _ _ w.if-split.false
+      | then-split w ↦ w.splits-is ∙ count_more _ _ w.if-split.true
+      | else-split w ↦ w.splits-is ∙ count_same _ _ w.if-split.false
     ]
 
 pub returns : goal.returns

@@ -10,35 +10,22 @@ read_and_grow-grown-requires c = c.clear_before.ensures
 
 pub clear_behind-requires : goal.clear_behind-requires
 clear_behind-requires c =
-
     omega (arith, c.nodes_of-n.ensures, nodes_most _ _ _ _ c.read_and_grow-grown.result c.read_and_grow-grown.ensures)
 
 pub shape_of-floats : goal.shape_of-floats
 shape_of-floats c =
-
-
-
     omega (arith, c.clear_behind.auto, c.read_and_grow-grown.auto, c.clear_before.auto)
 
 pub shape_of-numbers : goal.shape_of-numbers
 shape_of-numbers c =
-
-
-
     omega (arith, c.clear_behind.auto, c.read_and_grow-grown.auto, c.clear_before.auto)
 
 pub shape_of-reals : goal.shape_of-reals
 shape_of-reals c =
-
     omega (arith, c.clear_work.auto, c.read_and_grow-grown.auto)
 
 pub returns : goal.returns
 returns c =
-
-
-
-
-
     let k = c.read_and_grow-grown.auto in
     let l = c.clear_before.auto in
     network_grown _ _ _ _ _ _ _ _ _ _ c.read_and_grow-grown.result c.read_and_grow-grown.ensures l.floats l.numbers refl l.cells l.marks (omega (arith, k, l)) (omega (arith, k, l)) _ c.nodes_of-n.ensures

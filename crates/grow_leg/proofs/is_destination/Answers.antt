@@ -10,9 +10,9 @@ loop-i-init c = (omega arith, none_yet _ _)
 
 pub destination_link-requires : goal.destination_link-requires
 destination_link-requires c = record {
-      sized = c.requires;
-      i_lt_destinations = c.loop-i-test.true;
-    }
+  sized = c.requires;
+  i_lt_destinations = c.loop-i-test.true;
+}
 
 pub returns-then-destination_link-link_idx : goal.returns-then-destination_link-link_idx
 returns-then-destination_link-link_idx c = one_there _ _ c.loop-i.i (omega (arith, c.loop-i-test.true, sized_destinations c.requires)) _ c.destination_link.ensures c.if-destination_link-link_idx.true

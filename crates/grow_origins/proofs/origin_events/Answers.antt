@@ -13,10 +13,10 @@ use Rattle.grow_origins.proofs.origin_events.Goals as goal
 
 pub insert_event-first-requires : goal.insert_event-first-requires
 insert_event-first-requires c = record {
-      growing = c.requires.growing;
-      idx_prev_bound = first_there _ _ _ c.origin_run-run.ensures _ c.requires.leads_from.within;
-      real = real_event _ _ _ _ _ _ c.origin_event-arrive.ensures tt c.requires.link_idx_lt_links;
-    }
+  growing = c.requires.growing;
+  idx_prev_bound = first_there _ _ _ c.origin_run-run.ensures _ c.requires.leads_from.within;
+  real = real_event _ _ _ _ _ _ c.origin_event-arrive.ensures tt c.requires.link_idx_lt_links;
+}
 
 pub returns-in_default : goal.returns-in_default
 returns-in_default c =

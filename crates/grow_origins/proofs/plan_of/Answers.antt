@@ -28,7 +28,7 @@ float_from_bits-result-3 c = length_number _ _ c.requires.readable _ c.head_patt
 
 pub returns : goal.returns
 returns c = record {
-      plan = λ reals h. plan_holds _ _ c.requires.readable _ c.head_patterns-head.ensures c.requires.book_value _ reals h;
-      places = refl;
-      links = omega (arith, sized_legs c.requires.readable.sized);
-    }
+  plan = λ reals h. plan_holds _ _ c.requires.readable _ c.head_patterns-head.ensures c.requires.book_value _ reals h;
+  places = refl;
+  links = omega (arith, sized_legs c.requires.readable.sized);
+}

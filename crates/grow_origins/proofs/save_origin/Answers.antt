@@ -5,12 +5,12 @@ use Rattle.grow_origins.proofs.save_origin.Goals as goal
 
 pub take_start-taken-requires : goal.take_start-taken-requires
 take_start-taken-requires c = record {
-      sized = c.requires.plan_in.readable.sized;
-      chained = c.requires.some_origin_inserted.inserted_origin.origins.holds.chained;
-      started = c.requires.started;
-      book_in_bounds = c.requires.book_in_bounds;
-      link_idx_bound = c.requires.link_idx_bound;
-    }
+  sized = c.requires.plan_in.readable.sized;
+  chained = c.requires.some_origin_inserted.inserted_origin.origins.holds.chained;
+  started = c.requires.started;
+  book_in_bounds = c.requires.book_in_bounds;
+  link_idx_bound = c.requires.link_idx_bound;
+}
 
 pub returns-in_default : goal.returns-in_default
 returns-in_default c = λ fs us idxs net run runs v. origin_no_leg _ _ _ _ _ _ _ _ _ _ _ _ _ _ _ c.requires.plan_in v _ c.take_start-taken.ensures _ c.in_default.is

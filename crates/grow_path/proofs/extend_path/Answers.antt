@@ -10,13 +10,13 @@ use Rattle.grow_path.proofs.extend_path.Goals as goal
 
 pub link_at-link-requires : goal.link_at-link-requires
 link_at-link-requires c = record {
-      sized = c.requires.readable.sized;
-      i_lt_links = omega (arith, c.requires.link_idx_bound, sized_links c.requires.readable.sized);
-      i_value = link_float _ c.requires.readable.floats c.args.link_idx c.requires.link_idx_bound;
-    }
+  sized = c.requires.readable.sized;
+  i_lt_links = omega (arith, c.requires.link_idx_bound, sized_links c.requires.readable.sized);
+  i_value = link_float _ c.requires.readable.floats c.args.link_idx c.requires.link_idx_bound;
+}
 
 pub returns : goal.returns
 returns c = record {
-      reals = ap (λ (x : Float). set c.args.reals.now (c.args.depth + 1) (add binary64 (get_or c.args.reals.now c.args.depth nan) x)) (link_length_lem _ c.args.link_idx c.link_at-link.ensures);
-      cells = refl;
-    }
+  reals = ap (λ (x : Float). set c.args.reals.now (c.args.depth + 1) (add binary64 (get_or c.args.reals.now c.args.depth nan) x)) (link_length_lem _ c.args.link_idx c.link_at-link.ensures);
+  cells = refl;
+}

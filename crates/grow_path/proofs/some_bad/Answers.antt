@@ -16,10 +16,10 @@ loop-p-init c = test_start _ _ c.requires.within
 
 pub next_event-next-requires : goal.next_event-next-requires
 next_event-next-requires c = record {
-      held = c.requires.held;
-      walkable = c.requires.walkable;
-      within = c.loop-p.invariant.within;
-    }
+  held = c.requires.held;
+  walkable = c.requires.walkable;
+  within = c.loop-p.invariant.within;
+}
 
 pub returns-in_default : goal.returns-in_default
 returns-in_default c = test_end _ _ c.loop-p.invariant (subst (NextOf _ _) c.in_default.is c.next_event-next.ensures)

@@ -6,7 +6,6 @@ use Rattle.grow_state.proofs.take_up.Goals as goal
 
 pub pop-popped-requires : goal.pop-popped-requires
 pop-popped-requires c =
-
     let s = c.requires.some_drive in
     record {
       places_in_bounds = omega (arith, s.driving.holds.grown.apart.nodes_inside, s.plan.same_nodes, s.plan.same_places);
@@ -18,11 +17,10 @@ pop-popped-requires c =
 
 pub overflow_sub-result : goal.overflow_sub-result
 overflow_sub-result c =
-
     drive_few c.requires.some_drive c.requires.moves_value c.requires.top_nonzero _ _ c.pop-popped.ensures.popped
 
 pub returns : goal.returns
 returns c = record {
-      moves = refl;
-      held = λ b fs us path net runs d. taken_up_lem d c.requires.moves_value c.requires.top_nonzero _ _ c.pop-popped.ensures.popped;
-    }
+  moves = refl;
+  held = λ b fs us path net runs d. taken_up_lem d c.requires.moves_value c.requires.top_nonzero _ _ c.pop-popped.ensures.popped;
+}

@@ -11,13 +11,11 @@ loop-k-init c = (refl, omega arith, copied_none _ _ _ _)
 
 pub bounds-joins-k-in-loop-k : goal.bounds-joins-k-in-loop-k
 bounds-joins-k-in-loop-k c =
-
     let v = c.loop-k in
     simp length-set (omega (arith, c.requires.count_in_bounds, c.loop-k-test.true, v.invariant.0))
 
 pub loop-k-preserved : goal.loop-k-preserved
 loop-k-preserved c =
-
     let v = c.loop-k in (
       simp length-set v.invariant.0,
       omega (arith, c.loop-k-test.true),

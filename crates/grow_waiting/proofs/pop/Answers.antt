@@ -12,7 +12,6 @@ overflow_sub-used c = omega (arith, (some_readily c.requires.some_waits).there)
 
 pub copy_entries-requires : goal.copy_entries-requires
 copy_entries-requires c =
-
     let s = some_readily c.requires.some_waits in
     record {
       places_in_bounds = c.requires.places_in_bounds;

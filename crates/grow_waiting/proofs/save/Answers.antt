@@ -29,17 +29,16 @@ bounds-reals-pair-2 c = simp length-set (omega (arith, c.requires.legs_in_bounds
 
 pub push_entries-requires : goal.push_entries-requires
 push_entries-requires c = record {
-      places_in_bounds = simp length-set c.requires.places_in_bounds;
-      count_bound = c.requires.count_bound;
-      count_in_bounds = c.requires.count_in_bounds;
-    }
+  places_in_bounds = simp length-set c.requires.places_in_bounds;
+  count_bound = c.requires.count_bound;
+  count_in_bounds = c.requires.count_in_bounds;
+}
 
 pub shape_of-cells : goal.shape_of-cells
 shape_of-cells c = simp length-set at c.push_entries.auto.cells
 
 pub returns : goal.returns
 returns c =
-
     let p = c.push_entries.ensures in
     record {
       elsewhere = save_elsewhere (room c.before.before.before.before.before.before.before.before.before) p;

@@ -14,6 +14,4 @@ put_lines-end-requires c = omega (arith, c.nodes_filled-filled.ensures, c.if-fil
 pub returns : goal.returns
 unfolding sheet_text at
 returns c =
-
-
     filled_listed _ _ c.nodes_filled-filled.ensures c.if-filled-n.false (text_listed (then_put c.put_head-to.ensures c.put_lines-end.ensures) c.finish.ensures)

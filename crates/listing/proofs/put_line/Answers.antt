@@ -6,24 +6,10 @@ use Rattle.listing.specs.Listing.{line}
 use Rattle.listing.proofs.Texts.{then_put, put_as}
 use Rattle.listing.proofs.put_line.Goals as goal
 
--- `listing::put_line` meets its contract.
 -- each call, from the last one back
 pub returns : goal.returns
 unfolding line
 returns c =
-
-
-
-
-
-
-
-
-
-
-
-
-
     let kind = put_as c.put_byte-to-2.ensures (ap (λ (b : ℕ). b ∷ []) c.letter.ensures) in
     then_put
     c.put_decimal-to.ensures

@@ -8,7 +8,6 @@ use Rattle.net_event_map.proofs.append_arrive.Goals.{After-open_cell-open}
 
 inside : (c : After-open_cell-open) → c.open_cell-open.result < length c.args.cells.now
 inside c =
-
     open_inside c.args.link_idx c.open_cell-open.result c.requires.cells_apart c.requires.link_idx_lt_links c.requires.link_idx_bound c.open_cell-open.ensures.first c.open_cell-open.ensures.behind
 
 pub offset_bounds-cells-open : goal.offset_bounds-cells-open
@@ -22,6 +21,6 @@ bounds-cells-at c = simp length-set (omega (arith, c.requires.cells_apart.links_
 
 pub returns : goal.returns
 returns c = record {
-      mapped = λ node e v. arrived_open c.args.link_idx c.open_cell-open.result c.requires.cells_apart c.requires.link_idx_lt_links c.requires.i_lt_places e v c.open_cell-open.ensures.first c.open_cell-open.ensures.behind;
-      elsewhere = arrived_only c.args.link_idx c.requires.link_idx_lt_links c.open_cell-open.result c.args.i c.requires.link_idx_bound c.open_cell-open.ensures.first c.open_cell-open.ensures.behind;
-    }
+  mapped = λ node e v. arrived_open c.args.link_idx c.open_cell-open.result c.requires.cells_apart c.requires.link_idx_lt_links c.requires.i_lt_places e v c.open_cell-open.ensures.first c.open_cell-open.ensures.behind;
+  elsewhere = arrived_only c.args.link_idx c.requires.link_idx_lt_links c.open_cell-open.result c.args.i c.requires.link_idx_bound c.open_cell-open.ensures.first c.open_cell-open.ensures.behind;
+}

@@ -5,15 +5,15 @@ use Rattle.net_event_map.proofs.insert.Goals as goal
 
 pub returns-in-Arrive : goal.returns-in-Arrive
 returns-in-Arrive c = record {
-      mapped = λ node e v. c.append_arrive.ensures.mapped node (e ∙ arrive_is c.args.event c.in-Arrive.is) v;
-      elsewhere = c.append_arrive.ensures.elsewhere;
-    }
+  mapped = λ node e v. c.append_arrive.ensures.mapped node (e ∙ arrive_is c.args.event c.in-Arrive.is) v;
+  elsewhere = c.append_arrive.ensures.elsewhere;
+}
 
 pub returns-in-Clear : goal.returns-in-Clear
 returns-in-Clear c = record {
-      mapped = λ node e v. c.mark_clear.ensures.mapped node c.args.i c.requires.i_lt_places (e ∙ clear_is c.args.event c.in-Clear.is) v;
-      elsewhere = c.mark_clear.ensures.elsewhere;
-    }
+  mapped = λ node e v. c.mark_clear.ensures.mapped node c.args.i c.requires.i_lt_places (e ∙ clear_is c.args.event c.in-Clear.is) v;
+  elsewhere = c.mark_clear.ensures.elsewhere;
+}
 
 pub returns-in-Fake : goal.returns-in-Fake
 returns-in-Fake c =

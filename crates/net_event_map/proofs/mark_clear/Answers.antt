@@ -4,6 +4,6 @@ use Rattle.net_event_map.proofs.mark_clear.Goals as goal
 
 pub returns : goal.returns
 returns c = record {
-      mapped = λ node i h e v. cleared_one c.args.link_idx c.requires.cells_apart c.requires.link_idx_lt_links h e v;
-      elsewhere = cleared_only c.args.link_idx c.requires.link_idx_lt_links;
-    }
+  mapped = λ node i h e v. cleared_one c.args.link_idx c.requires.cells_apart c.requires.link_idx_lt_links h e v;
+  elsewhere = cleared_only c.args.link_idx c.requires.link_idx_lt_links;
+}

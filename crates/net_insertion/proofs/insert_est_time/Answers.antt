@@ -7,9 +7,9 @@ use Rattle.net_insertion.proofs.insert_est_time.Goals as goal
 
 pub returns-then-places-n : goal.returns-then-places-n
 returns-then-places-n c = record {
-      answer = open_full _ _ (record { is = sym c.in-Open.is ∙ c.seek_place-found.ensures }) c.if-places-n.true;
-      table = (refl, refl);
-    }
+  answer = open_full _ _ (record { is = sym c.in-Open.is ∙ c.seek_place-found.ensures }) c.if-places-n.true;
+  table = (refl, refl);
+}
 
 pub bounds-cells-ends_at : goal.bounds-cells-ends_at
 bounds-cells-ends_at c =
@@ -18,9 +18,9 @@ bounds-cells-ends_at c =
 
 pub returns-then-cells-ends_at-gt0 : goal.returns-then-cells-ends_at-gt0
 returns-then-cells-ends_at-gt0 c = record {
-      answer = open_ended _ _ (record { is = sym c.in-Open.is ∙ c.seek_place-found.ensures }) (omega arith) (flagged_set _ _ _ c.if-cells-ends_at-gt0.true);
-      table = (refl, refl);
-    }
+  answer = open_ended _ _ (record { is = sym c.in-Open.is ∙ c.seek_place-found.ensures }) (omega arith) (flagged_set _ _ _ c.if-cells-ends_at-gt0.true);
+  table = (refl, refl);
+}
 
 pub add_behind-requires : goal.add_behind-requires
 add_behind-requires c =
@@ -33,9 +33,9 @@ add_behind-requires c =
 
 pub returns-then-places-n-2 : goal.returns-then-places-n-2
 returns-then-places-n-2 c = record {
-      answer = split_full _ _ (record { is = sym c.in-Split.is ∙ c.seek_place-found.ensures }) c.if-places-n-2.true;
-      table = (refl, refl);
-    }
+  answer = split_full _ _ (record { is = sym c.in-Split.is ∙ c.seek_place-found.ensures }) c.if-places-n-2.true;
+  table = (refl, refl);
+}
 
 pub split_at-requires : goal.split_at-requires
 split_at-requires c =
@@ -48,10 +48,10 @@ split_at-requires c =
 
 pub add_behind-requires-in-Split : goal.add_behind-requires-in-Split
 add_behind-requires-in-Split c = record {
-      i_lt_k = omega arith;
-      float_width_in_bounds = omega (arith, c.requires.room.floats, c.split_at.auto, c.if-places-n-2.false);
-      number_width_in_bounds = omega (arith, c.requires.room.numbers, c.split_at.auto, c.if-places-n-2.false);
-    }
+  i_lt_k = omega arith;
+  float_width_in_bounds = omega (arith, c.requires.room.floats, c.split_at.auto, c.if-places-n-2.false);
+  number_width_in_bounds = omega (arith, c.requires.room.numbers, c.split_at.auto, c.if-places-n-2.false);
+}
 
 pub returns-in-Match : goal.returns-in-Match
 returns-in-Match c =

@@ -1,6 +1,5 @@
 -- `net_insertion::seek_place` meets its contract: `Seeking` is the loop's invariant, and each alternative is later.
 use mathlib.Core.Path.{sym, ◌∙◌}
-use Prim.Native.Nat.{◌-◌}
 use native.Mathlib.Omega.{arith}
 use Rattle.net_insertion.proofs.Seeking.{seeking_start, next_within, seeking_open, seeking_match, seeking_split, alternative_later, seeking_on}
 use Rattle.net_insertion.proofs.seek_place.Goals as goal

@@ -5,9 +5,9 @@ use Rattle.net_insertion.proofs.split_at.Goals as goal
 
 pub store-requires-2 : goal.store-requires-2
 store-requires-2 c = record {
-      float_width_in_bounds = omega (arith, c.requires, c.store.auto);
-      number_width_in_bounds = omega (arith, c.requires, c.store.auto);
-    }
+  float_width_in_bounds = omega (arith, c.requires, c.store.auto);
+  number_width_in_bounds = omega (arith, c.requires, c.store.auto);
+}
 
 pub returns : goal.returns
 returns c =

@@ -10,7 +10,6 @@ returns-then-n-eq1024 c = push_full c.args.list.now c.args.n c.args.x c.if-n-eq1
 
 pub bounds-list-n-2 : goal.bounds-list-n-2
 bounds-list-n-2 c =
-
     omega (arith, c.requires.in_bounds, c.requires.n_bound, c.if-n-eq1024.false, length-set c.args.list.now (c.args.n * 2) c.args.x.link_idx_match)
 
 pub returns : goal.returns

@@ -23,9 +23,9 @@ bounds-list-k c = let r = c.requires in omega (arith, c.loop-k-test.true, c.loop
 
 pub push_entry-requires : goal.push_entry-requires
 push_entry-requires c = record {
-      in_bounds = omega (arith, c.loop-k.invariant.0, c.requires.in_bounds);
-      n_bound = c.loop-k.invariant.1.few;
-    }
+  in_bounds = omega (arith, c.loop-k.invariant.0, c.requires.in_bounds);
+  n_bound = c.loop-k.invariant.1.few;
+}
 
 pub shape_of-list-in_default : goal.shape_of-list-in_default
 shape_of-list-in_default c = c.push_entry.auto.list ∙ c.loop-k.invariant.0

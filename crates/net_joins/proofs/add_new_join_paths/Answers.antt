@@ -12,9 +12,9 @@ use Rattle.net_joins.proofs.add_new_join_paths.Goals as goal
 
 pub returns-then-not-arrive : goal.returns-then-not-arrive
 returns-then-not-arrive c = record {
-      list = λ node n h v. append_none node n _ _ c.is_arrive-arrive.ensures _ _ (ap not c.if-not-arrive.true) c.requires.count_bound;
-      cells = λ node n v. refl;
-    }
+  list = λ node n h v. append_none node n _ _ c.is_arrive-arrive.ensures _ _ (ap not c.if-not-arrive.true) c.requires.count_bound;
+  cells = λ node n v. refl;
+}
 
 pub append_unmarked-appended-requires : goal.append_unmarked-appended-requires
 append_unmarked-appended-requires c =

@@ -27,9 +27,9 @@ bounds-cells-w c = let h = link_here c.loop-i.invariant.1 c.loop-i-test.true in 
 
 pub append_unless-requires : goal.append_unless-requires
 append_unless-requires c = record {
-      in_bounds = omega (arith, c.loop-i.invariant.0, c.requires.in_bounds);
-      n_bound = c.loop-i.invariant.1.few;
-    }
+  in_bounds = omega (arith, c.loop-i.invariant.0, c.requires.in_bounds);
+  n_bound = c.loop-i.invariant.1.few;
+}
 
 pub shape_of-list-in_default : goal.shape_of-list-in_default
 shape_of-list-in_default c = omega (arith, c.append_unless.auto, c.loop-i.invariant.0)

@@ -6,9 +6,9 @@ use Rattle.net_joins.proofs.join_target.Goals as goal
 
 pub returns-then-places-n : goal.returns-then-places-n
 returns-then-places-n c = record {
-      answer = join_full _ _ _ c.if-places-n.true;
-      table = (refl, refl);
-    }
+  answer = join_full _ _ _ c.if-places-n.true;
+  table = (refl, refl);
+}
 
 pub returns : goal.returns
 returns c = let a = c.args in

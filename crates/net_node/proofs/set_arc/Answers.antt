@@ -11,6 +11,6 @@ bounds-floats-f-2 c = simp length-set (omega arith)
 pub returns : goal.returns
 unfolding set_arc
 returns c = record {
-      floats = refl;
-      numbers = refl;
-    }
+  floats = refl;
+  numbers = refl;
+}

@@ -6,6 +6,6 @@ use Rattle.net_node.proofs.set_next.Goals as goal
 pub returns : goal.returns
 unfolding set_next
 returns c = record {
-      floats = refl;
-      numbers = refl;
-    }
+  floats = refl;
+  numbers = refl;
+}

@@ -6,6 +6,6 @@ use Rattle.net_node.proofs.set_prev.Goals as goal
 pub returns : goal.returns
 unfolding set_prev
 returns c = record {
-      floats = refl;
-      numbers = refl;
-    }
+  floats = refl;
+  numbers = refl;
+}

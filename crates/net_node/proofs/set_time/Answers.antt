@@ -6,6 +6,6 @@ use Rattle.net_node.proofs.set_time.Goals as goal
 pub returns : goal.returns
 unfolding set_time
 returns c = record {
-      floats = refl;
-      numbers = refl;
-    }
+  floats = refl;
+  numbers = refl;
+}

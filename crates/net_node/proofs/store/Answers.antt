@@ -39,6 +39,6 @@ shape_of-numbers c = simp length-set
 pub returns : goal.returns
 unfolding put_floats
 returns c = record {
-      floats = refl;
-      numbers = numbers_put _ _ _ _ c.kind_number.ensures;
-    }
+  floats = refl;
+  numbers = numbers_put _ _ _ _ c.kind_number.ensures;
+}

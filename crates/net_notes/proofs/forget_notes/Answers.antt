@@ -1,5 +1,5 @@
 -- `net_notes::forget_notes` meets its contract: `Forgetting` is the loop's invariant.
-use Prim.Native.Nat.{◌+◌, ◌-◌, ◌*◌}
+use Prim.Native.Nat.{◌+◌, ◌*◌}
 use native.Mathlib.Omega.{arith}
 use lib.ListN.{length-set}
 use Rattle.net_notes.proofs.Log.{noted, forgetting_start, head_inside, name_inside, notes_inside, forgetting_on, forgetting_all}

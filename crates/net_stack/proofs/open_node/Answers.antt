@@ -21,15 +21,15 @@ bounds-stack-top-then-wanted-top c = omega (arith, fits (goal.at.bounds-stack-to
 pub returns-then-wanted-top : goal.returns-then-wanted-top
 unfolding opens
 returns-then-wanted-top c = record {
-      holds = stack_opened c.args.stack.now c.args.top _ c.args.here _ (omega (arith, fits (goal.at.returns-then-wanted-top c).Then-wanted-top, c.requires.stack_length_in_bounds)) c.if-wanted-top.true;
-      room = omega (arith, fits (goal.at.returns-then-wanted-top c).Then-wanted-top);
-      top = omega arith;
-    }
+  holds = stack_opened c.args.stack.now c.args.top _ c.args.here _ (omega (arith, fits (goal.at.returns-then-wanted-top c).Then-wanted-top, c.requires.stack_length_in_bounds)) c.if-wanted-top.true;
+  room = omega (arith, fits (goal.at.returns-then-wanted-top c).Then-wanted-top);
+  top = omega arith;
+}
 
 pub returns : goal.returns
 unfolding opens
 returns c = record {
-      holds = stack_unopened c.args.stack.now c.args.top _ c.args.here _ c.if-wanted-top.false;
-      room = c.requires.left_bound;
-      top = omega arith;
-    }
+  holds = stack_unopened c.args.stack.now c.args.top _ c.args.here _ c.if-wanted-top.false;
+  room = c.requires.left_bound;
+  top = omega arith;
+}

@@ -143,17 +143,17 @@ load-node-requires c =
 
 pub known_span-known-requires : goal.known_span-known-requires
 known_span-known-requires c = record {
-      cells_apart = apart-outer (goal.at.known_span-known-requires c).At-strands;
-      i_lt_places = omega (arith, c.loop-left.invariant.1.within, c.requires.walk_room.within);
-      column_bound = omega arith;
-    }
+  cells_apart = apart-outer (goal.at.known_span-known-requires c).At-strands;
+  i_lt_places = omega (arith, c.loop-left.invariant.1.within, c.requires.walk_room.within);
+  column_bound = omega arith;
+}
 
 pub noted-nexts-requires : goal.noted-nexts-requires
 noted-nexts-requires c = record {
-      cells_apart = apart-outer (goal.at.noted-nexts-requires c).At-strands;
-      i_lt_places = omega (arith, c.loop-left.invariant.1.within, c.requires.walk_room.within);
-      column_bound = omega arith;
-    }
+  cells_apart = apart-outer (goal.at.noted-nexts-requires c).At-strands;
+  i_lt_places = omega (arith, c.loop-left.invariant.1.within, c.requires.walk_room.within);
+  column_bound = omega arith;
+}
 
 pub push_known-copied-requires : goal.push_known-copied-requires
 push_known-copied-requires c =
@@ -202,12 +202,12 @@ strands-preserved-then-known-ne0 c =
 
 pub stack_node-top-requires : goal.stack_node-top-requires
 stack_node-top-requires c = record {
-      stack_length_in_bounds = omega (arith, stack-inner (goal.at.stack_node-top-requires c).At-loop-left, c.requires.walk_room.stack_room);
-      left_bound = c.loop-left.invariant.1.room;
-      left_nonzero = c.loop-left-test.true;
-      left_bound_2 = c.loop-left.invariant.1.most;
-      at_bound = c.loop-left.invariant.1.few;
-    }
+  stack_length_in_bounds = omega (arith, stack-inner (goal.at.stack_node-top-requires c).At-loop-left, c.requires.walk_room.stack_room);
+  left_bound = c.loop-left.invariant.1.room;
+  left_nonzero = c.loop-left-test.true;
+  left_bound_2 = c.loop-left.invariant.1.most;
+  at_bound = c.loop-left.invariant.1.few;
+}
 
 pub load-there-requires : goal.load-there-requires
 load-there-requires c =
@@ -220,9 +220,9 @@ load-there-requires c =
 
 pub push_if-requires : goal.push_if-requires
 push_if-requires c = record {
-      in_bounds = omega (arith, list-inner (goal.at.push_if-requires c).At-loop-left, c.requires.walk_room.list_room);
-      n_bound = c.loop-left.invariant.1.few;
-    }
+  in_bounds = omega (arith, list-inner (goal.at.push_if-requires c).At-loop-left, c.requires.walk_room.list_room);
+  n_bound = c.loop-left.invariant.1.few;
+}
 
 pub shape_of-cells-in_default-push_if : goal.shape_of-cells-in_default-push_if
 shape_of-cells-in_default-push_if c = c.strands.invariant.1

@@ -6,7 +6,6 @@ use Rattle.options_for_tests.proofs.search_after.Goals as goal
 
 pub search_part-requires : goal.search_part-requires
 search_part-requires c =
-
     let p = c.requires in
     let r = subst (ReadInto _ p.read_once.cells p.read_once.marks) c.in-Accepted.is p.read_once.into in
     record {
@@ -18,11 +17,9 @@ search_part-requires c =
 
 pub returns-in-Refused : goal.returns-in-Refused
 returns-in-Refused c =
-
     let p = c.requires in
     read_refused c.in-Refused.is (subst (ReadInto _ p.read_once.cells p.read_once.marks) c.in-Refused.is p.read_once.into)
 
 pub returns-in-Accepted : goal.returns-in-Accepted
 returns-in-Accepted c =
-
     read_accepted c.in-Accepted.is c.search_part.ensures

@@ -21,15 +21,12 @@ search_room-requires c = let p = c.requires.readable in
 
 pub returns-then-part-search_room : goal.returns-then-part-search_room
 returns-then-part-search_room c =
-
-
     let told = room_told _ c.requires.readable.sized c.search_room.ensures in
     let wrong = part_wrong c.args.book.now (length c.args.part.now) (λ (e : length c.args.part.now ≡ search_room c.args.book.now). omega (arith, c.if-part-search_room.true, told, e)) in
     record { number = sym wrong; into = (λ (e : ◌≡◌ {A = ℕ} 3 0). absurd (omega arith), refl) }
 
 pub get_link_idx_options-options-requires : goal.get_link_idx_options-options-requires
 get_link_idx_options-options-requires c =
-
     let p = c.requires in
     let told = room_told _ p.readable.sized c.search_room.ensures in
     record {
@@ -44,15 +41,11 @@ get_link_idx_options-options-requires c =
 
 pub returns-in-NoPath : goal.returns-in-NoPath
 returns-in-NoPath c =
-
     let p = c.requires in
     absurd (not_both (no_path _ (sym c.get_link_idx_options-options.ensures.answer ∙ c.in-NoPath.is)) p.book_value_2)
 
 pub returns-in-Kept : goal.returns-in-Kept
 returns-in-Kept c =
-
-
-
     let told = room_told _ c.requires.readable.sized c.search_room.ensures in
     let k = some_path _ _ (sym c.get_link_idx_options-options.ensures.answer ∙ c.in-Kept.is) in
     record {

@@ -32,9 +32,4 @@ all_zero-requires c = let k = c.update_times_backward.auto in room_kept _ _ _ _ 
 
 pub returns : goal.returns
 returns c =
-
-
-
-
-
     told_times _ _ _ (ended _ _ _ _ _ _ c.update_times_backward.result c.update_times_backward.ensures (ap not c.if-not-update_times_backward.false)) _ c.some_left.ensures c.if-some_left.false _ c.all_zero.ensures _ c.sixteen_if.ensures

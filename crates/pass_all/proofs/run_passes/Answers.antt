@@ -23,9 +23,6 @@ update_times_forward-requires c =
 
 pub returns-then-not-update_times_forward : goal.returns-then-not-update_times_forward
 returns-then-not-update_times_forward c =
-
-
-
     told_forward _ _ _ _ c.checks_fail.ensures c.if-checks_fail.false _ (failed _ _ _ _ _ _ c.update_times_forward.result c.update_times_forward.ensures (ap not c.if-not-update_times_forward.true))
 
 pub some_left-requires : goal.some_left-requires
@@ -33,18 +30,10 @@ some_left-requires c = omega (arith, c.requires.n_in_bounds_2, c.update_times_fo
 
 pub returns-then-some_left : goal.returns-then-some_left
 returns-then-some_left c =
-
-
-
-
-
     told_untimed _ _ _ _ c.checks_fail.ensures c.if-checks_fail.false _ (ended _ _ _ _ _ _ c.update_times_forward.result c.update_times_forward.ensures (ap not c.if-not-update_times_forward.false)) _ c.some_left.ensures c.if-some_left.true
 
 pub pass_backward-requires : goal.pass_backward-requires
 pass_backward-requires c =
-
-
-
     let p = c.requires in
     let k = c.update_times_forward.auto in
     let q = ended _ _ _ _ _ _ c.update_times_forward.result c.update_times_forward.ensures (ap not c.if-not-update_times_forward.false) in
@@ -60,11 +49,4 @@ pass_backward-requires c =
 
 pub returns : goal.returns
 returns c =
-
-
-
-
-
-
-
     told_whole _ _ _ _ c.checks_fail.ensures c.if-checks_fail.false _ (ended _ _ _ _ _ _ c.update_times_forward.result c.update_times_forward.ensures (ap not c.if-not-update_times_forward.false)) _ c.some_left.ensures c.if-some_left.false _ _ c.pass_backward.ensures

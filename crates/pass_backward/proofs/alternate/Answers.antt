@@ -9,8 +9,6 @@ returns-then-alt-eq0 c = λ p start v. prev_alt_none v _ _ c.load-node.ensures c
 
 pub load-other-requires : goal.load-other-requires
 load-other-requires c =
-
-
     let v = c.requires.working.holds in
     let m = (names_in _ _ v.inside _ c.requires.curr_lt_n _ c.load-node.ensures).prev_alt in
     record {
@@ -20,8 +18,6 @@ load-other-requires c =
 
 pub set_done-requires : goal.set_done-requires
 set_done-requires c =
-
-
     let v = c.requires.working.holds in
     let m = (names_in _ _ v.inside _ c.requires.curr_lt_n _ c.load-node.ensures).prev_alt in
     record {
@@ -32,7 +28,6 @@ set_done-requires c =
 
 pub enqueue-requires : goal.enqueue-requires
 enqueue-requires c =
-
     let v = c.requires.working.holds in
     let h = c.requires.curr_lt_n in
     record {
@@ -42,12 +37,6 @@ enqueue-requires c =
 
 pub returns : goal.returns
 returns c =
-
-
-
-
-
-
     λ p start v.
     let m = (names_in _ _ v.inside _ c.requires.curr_lt_n _ c.load-node.ensures).prev_alt in
     prev_alt_some v _ _ c.load-node.ensures c.if-alt-eq0.false m _ c.load-other.ensures (c.set_done.ensures.floats, (c.set_done.ensures.numbers, c.set_done.ensures.cells)) c.enqueue.ensures (omega (arith, c.enqueue.auto)) (omega (arith, c.enqueue.auto))

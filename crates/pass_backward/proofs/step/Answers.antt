@@ -6,22 +6,14 @@ use Rattle.pass_backward.proofs.step.Goals as goal
 
 pub returns-in_default : goal.returns-in_default
 returns-in_default c =
-
-
     λ p start v. step_unqueued (stepper c.args.n c.args.less) p _ _ _ (c.alternate.ensures p start v) c.in_default.is
 
 pub returns-then-is_done : goal.returns-then-is_done
 returns-then-is_done c =
-
-
-
-
     λ p start v. step_over (stepper c.args.n c.args.less) p _ _ _ (c.alternate.ensures p start v) _ c.in-Queued.is _ c.is_done.ensures c.if-is_done.true
 
 pub load-node-requires : goal.load-node-requires
 load-node-requires c =
-
-
     let v = c.requires.working.holds in
     let h = c.requires.prev_lt_n in
     let k = c.alternate.auto in
@@ -32,8 +24,6 @@ load-node-requires c =
 
 pub set_done-requires : goal.set_done-requires
 set_done-requires c =
-
-
     let v = c.requires.working.holds in
     let h = c.requires.prev_lt_n in
     let k = c.alternate.auto in
@@ -45,9 +35,6 @@ set_done-requires c =
 
 pub load-here-requires : goal.load-here-requires
 load-here-requires c =
-
-
-
     let v = c.requires.working.holds in
     let h = c.requires.prev_lt_n in
     let k = c.alternate.auto in
@@ -74,11 +61,4 @@ shape_of-nodes c = omega (arith, c.alternate.auto, c.set_done.auto)
 
 pub returns : goal.returns
 returns c =
-
-
-
-
-
-
-
     λ p start v. step_on_lem (stepper c.args.n c.args.less) p _ _ _ (c.alternate.ensures p start v) _ c.in-Queued.is _ c.is_done.ensures c.if-is_done.false c.requires.prev_lt_n _ (time_less _ _ _ _ _ c.load-node.ensures) (c.set_done.ensures.floats, (c.set_done.ensures.numbers, c.set_done.ensures.cells)) _ c.load-here.ensures

@@ -6,7 +6,6 @@ use Rattle.pass_backward.proofs.turn.Goals as goal
 
 pub relink-requires : goal.relink-requires
 relink-requires c =
-
     let v = c.requires.working.holds in
     record {
       room = v.room;
@@ -17,52 +16,34 @@ relink-requires c =
 
 pub returns-in_default : goal.returns-in_default
 returns-in_default c =
-
-
     turn_endless (parts c.args.n c.args.curr c.args.less) c.requires.working _ _ _ _ (c.relink.ensures c.args.less) c.in_default.is
 
 pub strand-requires : goal.strand-requires
 strand-requires c = record {
-      working = relinked_works (parts c.args.n c.args.curr c.args.less) c.requires.working _ _ _ _ (c.relink.ensures c.args.less) _ c.in-Found.is;
-      curr_lt_n = c.requires.curr_lt_n;
-      prev_lt_n = relinked_within (parts c.args.n c.args.curr c.args.less) c.requires.working _ _ _ _ (c.relink.ensures c.args.less) _ c.in-Found.is;
-    }
+  working = relinked_works (parts c.args.n c.args.curr c.args.less) c.requires.working _ _ _ _ (c.relink.ensures c.args.less) _ c.in-Found.is;
+  curr_lt_n = c.requires.curr_lt_n;
+  prev_lt_n = relinked_within (parts c.args.n c.args.curr c.args.less) c.requires.working _ _ _ _ (c.relink.ensures c.args.less) _ c.in-Found.is;
+}
 
 pub returns-in_default-strand : goal.returns-in_default-strand
 returns-in_default-strand c =
-
-
-
-
     turn_falls (parts c.args.n c.args.curr c.args.less) c.requires.working _ _ _ _ (c.relink.ensures c.args.less) _ c.in-Found.is _ c.strand.ensures c.in_default-strand.is
 
 pub settle-requires : goal.settle-requires
 settle-requires c = record {
-      working = stood-works (parts c.args.n c.args.curr c.args.less) c.requires.working _ _ _ _ (c.relink.ensures c.args.less) _ c.in-Found.is _ c.strand.ensures _ _ _ c.in-On.is;
-      curr_lt_n = stood-here (parts c.args.n c.args.curr c.args.less) c.requires.working _ _ _ _ (c.relink.ensures c.args.less) _ c.in-Found.is _ c.strand.ensures _ _ _ c.in-On.is;
-      prev_lt_n = stood-ahead (parts c.args.n c.args.curr c.args.less) c.requires.working _ _ _ _ (c.relink.ensures c.args.less) _ c.in-Found.is _ c.strand.ensures _ _ _ c.in-On.is;
-    }
+  working = stood-works (parts c.args.n c.args.curr c.args.less) c.requires.working _ _ _ _ (c.relink.ensures c.args.less) _ c.in-Found.is _ c.strand.ensures _ _ _ c.in-On.is;
+  curr_lt_n = stood-here (parts c.args.n c.args.curr c.args.less) c.requires.working _ _ _ _ (c.relink.ensures c.args.less) _ c.in-Found.is _ c.strand.ensures _ _ _ c.in-On.is;
+  prev_lt_n = stood-ahead (parts c.args.n c.args.curr c.args.less) c.requires.working _ _ _ _ (c.relink.ensures c.args.less) _ c.in-Found.is _ c.strand.ensures _ _ _ c.in-On.is;
+}
 
 pub shape_of-floats : goal.shape_of-floats
 shape_of-floats c =
-
-
-
     omega (arith, c.relink.auto, c.strand.auto, c.settle.auto)
 
 pub shape_of-numbers : goal.shape_of-numbers
 shape_of-numbers c =
-
-
-
     omega (arith, c.relink.auto, c.strand.auto, c.settle.auto)
 
 pub returns : goal.returns
 returns c =
-
-
-
-
-
-
     turn-ends (parts c.args.n c.args.curr c.args.less) c.requires.working _ _ _ _ (c.relink.ensures c.args.less) _ c.in-Found.is _ c.strand.ensures _ _ _ c.in-On.is _ c.settle.ensures

@@ -9,8 +9,6 @@ returns-then-alt-eq0 c = λ p start v. next_alt_none v _ _ c.load-node.ensures c
 
 pub set_done-requires : goal.set_done-requires
 set_done-requires c =
-
-
     let v = c.requires.working.holds in
     let m = (names_in _ _ v.inside _ c.requires.curr_lt_n _ c.load-node.ensures).next_alt in
     record {
@@ -21,9 +19,6 @@ set_done-requires c =
 
 pub enqueue_node-requires : goal.enqueue_node-requires
 enqueue_node-requires c =
-
-
-
     let v = c.requires.working.holds in
     let m = (names_in _ _ v.inside _ c.requires.curr_lt_n _ c.load-node.ensures).next_alt in
     let k = c.set_done.auto in
@@ -36,11 +31,6 @@ enqueue_node-requires c =
 
 pub returns : goal.returns
 returns c =
-
-
-
-
-
     λ p start v.
     let m = (names_in _ _ v.inside _ c.requires.curr_lt_n _ c.load-node.ensures).next_alt in
     next_alt_some v _ _ c.load-node.ensures c.if-alt-eq0.false m (c.set_done.ensures.floats, (c.set_done.ensures.numbers, c.set_done.ensures.cells)) c.enqueue_node.ensures (omega (arith, c.enqueue_node.auto)) (omega (arith, c.enqueue_node.auto))

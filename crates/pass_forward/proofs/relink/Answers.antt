@@ -13,8 +13,6 @@ returns-then-not-is_done c = λ p start ts ns count most v. relink_undone (relin
 
 pub is_done-requires-2 : goal.is_done-requires-2
 is_done-requires-2 c =
-
-
     let m = (names_in _ _ c.requires.inside _ c.requires.curr_lt_n _ c.load-node.ensures).next in
     omega (arith, m, c.requires.n_in_bounds)
 
@@ -23,8 +21,6 @@ returns-then-is_done c = λ p start ts ns count most v. relink_done (relinker c.
 
 pub relink_walk-requires : goal.relink_walk-requires
 relink_walk-requires c =
-
-
     let m = (names_in _ _ c.requires.inside _ c.requires.curr_lt_n _ c.load-node.ensures).next in
     record {
       room = c.requires.room;
@@ -35,33 +31,14 @@ relink_walk-requires c =
 
 pub returns-in_default : goal.returns-in_default
 returns-in_default c =
-
-
-
-
-
-
-
     λ p start ts ns count most v. relink_endless (relinker c.args.n) v _ _ c.load-node.ensures _ c.is_done.ensures (c.if-not-is_done.false) _ c.is_done-2.ensures c.if-is_done.false _ c.relink_walk.ensures c.in_default.is
 
 pub returns-then-next-found : goal.returns-then-next-found
 returns-then-next-found c =
-
-
-
-
-
-
-
-
     λ p start ts ns count most v. relink-same (relinker c.args.n) v _ _ c.load-node.ensures _ c.is_done.ensures (c.if-not-is_done.false) _ c.is_done-2.ensures c.if-is_done.false _ c.relink_walk.ensures _ c.in-Found.is c.if-next-found.true
 
 pub swap_join-requires : goal.swap_join-requires
 swap_join-requires c =
-
-
-
-
     let m = (names_in _ _ c.requires.inside _ c.requires.curr_lt_n _ c.load-node.ensures).next in
     let f = subst (RelinkWalk false _ _ _ _) c.in-Found.is c.relink_walk.ensures in
     record {
@@ -74,14 +51,4 @@ swap_join-requires c =
 
 pub returns : goal.returns
 returns c =
-
-
-
-
-
-
-
-
-
-
     λ p start ts ns count most v. relink-swapped (relinker c.args.n) v _ _ c.load-node.ensures _ c.is_done.ensures (c.if-not-is_done.false) _ c.is_done-2.ensures c.if-is_done.false _ c.relink_walk.ensures _ c.in-Found.is c.if-next-found.false c.requires.curr_lt_n (c.swap_join.ensures.floats, c.swap_join.ensures.numbers)

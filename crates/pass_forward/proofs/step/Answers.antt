@@ -13,8 +13,6 @@ returns-then-is_done c = λ p start v. step_over (stepper c.args.n) p _ _ _ (c.a
 
 pub load-node-requires : goal.load-node-requires
 load-node-requires c =
-
-
     let v = c.requires.working.holds in
     let h = c.requires.curr_lt_n in
     let k = c.alternate.auto in
@@ -25,8 +23,6 @@ load-node-requires c =
 
 pub set_done-requires : goal.set_done-requires
 set_done-requires c =
-
-
     let v = c.requires.working.holds in
     let h = c.requires.next_lt_n in
     let k = c.alternate.auto in
@@ -38,9 +34,6 @@ set_done-requires c =
 
 pub load-ahead-requires : goal.load-ahead-requires
 load-ahead-requires c =
-
-
-
     let v = c.requires.working.holds in
     let h = c.requires.next_lt_n in
     let k = c.alternate.auto in
@@ -67,11 +60,4 @@ shape_of-nodes c = omega (arith, c.alternate.auto, c.set_done.auto)
 
 pub returns : goal.returns
 returns c =
-
-
-
-
-
-
-
     λ p start v. step_on_lem (stepper c.args.n) p _ _ _ (c.alternate.ensures p start v) _ c.in-Queued.is _ c.is_done.ensures c.if-is_done.false c.requires.next_lt_n _ (time_reached _ _ _ _ c.load-node.ensures) (c.set_done.ensures.floats, (c.set_done.ensures.numbers, c.set_done.ensures.cells)) _ c.load-ahead.ensures

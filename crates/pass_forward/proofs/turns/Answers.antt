@@ -6,7 +6,6 @@ use Rattle.pass_forward.proofs.turns.Goals as goal
 
 pub loop-queued-init : goal.loop-queued-init
 loop-queued-init c =
-
     turning_start (turner c.args.n) c.requires.n_nonzero c.requires.working
 
 pub pop-e-requires : goal.pop-e-requires
@@ -23,72 +22,40 @@ overflow_sub-queued c = c.loop-queued-test.true
 
 pub turn-requires : goal.turn-requires
 turn-requires c = record {
-      working = turning_works (turner c.args.n) c.loop-queued.invariant c.loop-queued-test.true _ c.pop-e.ensures (omega (arith, c.pop-e.auto)) (omega (arith, c.pop-e.auto));
-      curr_lt_n = turning_within (turner c.args.n) c.loop-queued.invariant c.loop-queued-test.true _ c.pop-e.ensures (omega (arith, c.pop-e.auto)) (omega (arith, c.pop-e.auto));
-    }
+  working = turning_works (turner c.args.n) c.loop-queued.invariant c.loop-queued-test.true _ c.pop-e.ensures (omega (arith, c.pop-e.auto)) (omega (arith, c.pop-e.auto));
+  curr_lt_n = turning_within (turner c.args.n) c.loop-queued.invariant c.loop-queued-test.true _ c.pop-e.ensures (omega (arith, c.pop-e.auto)) (omega (arith, c.pop-e.auto));
+}
 
 pub shape_of-floats-in_default : goal.shape_of-floats-in_default
 shape_of-floats-in_default c =
-
-
-
     omega (arith, c.loop-queued.invariant.lengths.floats, c.pop-e.auto, c.turn.auto)
 
 pub shape_of-numbers-in_default : goal.shape_of-numbers-in_default
 shape_of-numbers-in_default c =
-
-
-
     omega (arith, c.loop-queued.invariant.lengths.numbers, c.pop-e.auto, c.turn.auto)
 
 pub shape_of-cells-in_default : goal.shape_of-cells-in_default
 shape_of-cells-in_default c =
-
-
-
     omega (arith, c.loop-queued.invariant.lengths.cells, c.pop-e.auto, c.turn.auto)
 
 pub shape_of-times-in_default : goal.shape_of-times-in_default
 shape_of-times-in_default c =
-
-
-
     omega (arith, c.loop-queued.invariant.lengths.times, c.pop-e.auto, c.turn.auto)
 
 pub shape_of-nodes-in_default : goal.shape_of-nodes-in_default
 shape_of-nodes-in_default c =
-
-
-
     omega (arith, c.loop-queued.invariant.lengths.nodes, c.pop-e.auto, c.turn.auto)
 
 pub returns-in_default : goal.returns-in_default
 returns-in_default c =
-
-
-
-
-
     turning_falls (turner c.args.n) c.loop-queued.invariant c.loop-queued-test.true _ c.pop-e.ensures (omega (arith, c.pop-e.auto)) (omega (arith, c.pop-e.auto)) _ c.turn.ensures c.in_default.is
 
 pub loop-queued-smaller : goal.loop-queued-smaller
 loop-queued-smaller c =
-
-
-
-
-
-
     turning-less (turner c.args.n) c.loop-queued.invariant c.loop-queued-test.true _ c.pop-e.ensures (omega (arith, c.pop-e.auto)) (omega (arith, c.pop-e.auto)) _ c.turn.ensures _ c.in-Queued.is
 
 pub loop-queued-preserved : goal.loop-queued-preserved
 loop-queued-preserved c =
-
-
-
-
-
-
     let j = c.pop-e.auto in
     let k = c.turn.auto in
     turning-goes (turner c.args.n) c.loop-queued.invariant c.loop-queued-test.true _ c.pop-e.ensures (omega (arith, c.pop-e.auto)) (omega (arith, c.pop-e.auto)) _ c.turn.ensures _ c.in-Queued.is

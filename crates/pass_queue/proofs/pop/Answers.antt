@@ -19,8 +19,4 @@ sink-i-requires c =
 
 pub returns : goal.returns
 returns c =
-
-
-
-
     popped _ _ _ _ _ c.entry_at-top.ensures c.requires.n_nonzero _ _ _ _ _ _ c.sink-i.ensures.held c.put_entry.ensures.times c.put_entry.ensures.nodes

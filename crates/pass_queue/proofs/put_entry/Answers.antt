@@ -11,6 +11,6 @@ bounds-times-at-2 c = simp length-set (omega arith)
 pub returns : goal.returns
 unfolding put_times put_nodes
 returns c = record {
-      times = refl;
-      nodes = refl;
-    }
+  times = refl;
+  nodes = refl;
+}

@@ -1,7 +1,6 @@
 -- `pass_queue::rise` meets its contract: `Rising` is the loop's invariant, and the hole rises.
 use mathlib.Core.Path.{refl, sym, ◌∙◌}
 use native.Mathlib.Omega.{arith}
-use borrow.Author.Tests.{not-true, not-false}
 use Rattle.pass_queue.proofs.Sifts.{rising_start, rising_top, rising_stop, rising_on}
 use Rattle.pass_queue.proofs.rise.Goals as goal
 
@@ -46,13 +45,6 @@ loop-i-smaller c = omega (arith, c.loop-i-test.true)
 
 pub loop-i-preserved : goal.loop-i-preserved
 loop-i-preserved c =
-
-
-
-
-
-
-
     let r = c.requires in
     rising_on _ _ _ _ _ c.loop-i.invariant r.n_in_bounds r.n_in_bounds_2 (omega (arith, c.loop-i-test.true)) _ refl _ c.entry_at-x.ensures (sym c.is_before.ensures ∙ c.if-not-is_before.false) _ _
     c.put_entry.ensures.times c.put_entry.ensures.nodes

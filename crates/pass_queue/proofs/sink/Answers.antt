@@ -1,8 +1,6 @@
 -- `pass_queue::sink` meets its contract: `Sinking` is the loop's invariant, and the hole sinks.
 use mathlib.Core.Path.{sym, ◌∙◌}
-use Prim.Native.Nat.{◌-◌}
 use native.Mathlib.Omega.{arith}
-use borrow.Author.Tests.{not-true, not-false}
 use Rattle.pass_queue.proofs.Sifts.{sinking_start, sinking_end, sinking_stop, sinking_on}
 use Rattle.pass_queue.proofs.sink.Goals as goal
 
@@ -60,13 +58,6 @@ loop-i-smaller c =
 
 pub loop-i-preserved : goal.loop-i-preserved
 loop-i-preserved c =
-
-
-
-
-
-
-
     let r = c.requires in
     sinking_on _ _ _ _ _ c.loop-i.invariant r.n_in_bounds r.n_in_bounds_2 _ c.best_child-k.ensures _ c.entry_at-x.ensures (sym c.is_before.ensures ∙ c.if-not-is_before.false) _ _
     c.put_entry.ensures.times c.put_entry.ensures.nodes

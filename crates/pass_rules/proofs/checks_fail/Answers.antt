@@ -9,10 +9,10 @@ loop-i-init c = checked_start _ _
 
 pub node_holds-requires : goal.node_holds-requires
 node_holds-requires c = record {
-      room = c.requires.room;
-      inside = c.requires.inside;
-      i_lt_n = c.loop-i-test.true;
-    }
+  room = c.requires.room;
+  inside = c.requires.inside;
+  i_lt_n = c.loop-i-test.true;
+}
 
 pub returns-then-not-node_holds : goal.returns-then-not-node_holds
 returns-then-not-node_holds c = checked_fails _ _ _ c.loop-i.invariant _ c.loop-i-test.true c.node_holds.ensures (c.if-not-node_holds.true)

@@ -6,8 +6,6 @@ use Rattle.pass_rules.proofs.node_holds.Goals as goal
 
 pub load-before-requires : goal.load-before-requires
 load-before-requires c =
-
-
     let h = prev_inside _ _ c.requires.inside _ c.requires.i_lt_n _ c.load-here.ensures in
     record {
       float_width_in_bounds = omega (arith, h, c.requires.room.floats);
@@ -16,8 +14,6 @@ load-before-requires c =
 
 pub load-after-requires : goal.load-after-requires
 load-after-requires c =
-
-
     let h = next_inside _ _ c.requires.inside _ c.requires.i_lt_n _ c.load-here.ensures in
     record {
       float_width_in_bounds = omega (arith, h, c.requires.room.floats);

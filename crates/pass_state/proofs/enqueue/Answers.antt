@@ -21,5 +21,4 @@ push-requires c =
 
 pub returns : goal.returns
 returns c =
-
     record { told = (both_numbers c.args.e c.if-e.false c.if-e-2.false, (refl, c.push.ensures)) }

@@ -35,11 +35,6 @@ slice_bounds-flags-end-2 c =
 
 pub run_passes-requires : goal.run_passes-requires
 run_passes-requires c =
-
-
-
-
-
     let r = ready _ _ _ _ _ _ _ _ _ c.requires c.units-units.ensures c.first_number-number.ensures c.if-number-ne0.false in
     record {
       room = r.room;
@@ -53,9 +48,4 @@ run_passes-requires c =
 
 pub returns : goal.returns
 returns c =
-
-
-
-
-
     told_passes _ _ _ _ _ _ _ _ c.requires c.units-units.ensures c.first_number-number.ensures _ _ c.if-number-ne0.false c.run_passes.ensures

@@ -20,13 +20,6 @@ shape_of-cells c = omega (arith, c.time_nodes-number.auto, c.clear_numbers.auto)
 pub returns : goal.returns
 unfolding nodes_in
 returns c =
-
-
-
-
-
-
-
     let k = c.time_nodes-number.auto in
     let both = c.clear_behind.ensures in
     updated _ _ _ _ _ c.nodes_filled-n.ensures _ c.time_nodes-number.ensures k.floats k.numbers c.nodes_kept-kept.ensures _ both.floats both.numbers

@@ -1,6 +1,4 @@
 -- `root::digits` meets its contract: `Turned` is the loop's invariant, and each way through a turn is one law of Steps.
-use Prim.Native.Nat.{◌-◌}
-use mathlib.Core.Logic.{⊎_elim}
 use native.Mathlib.Omega.{arith}
 use Rattle.root.proofs.Steps.{none_turned, turned_small, turned_up, turned_same, turned_at, turned_all}
 use Rattle.root.proofs.digits.Goals as goal
@@ -30,8 +28,8 @@ overflow_add-q c = omega (arith, turned_small c.loop-i.invariant)
 pub loop-i-preserved : goal.loop-i-preserved
 loop-i-preserved c =
     elim c.if-step-r.branch [
-      then-step-r w ↦ turned_at w.q-is w.r-is (turned_up c.loop-i.invariant c.loop-i-test.true w.if-step-r.true)
-    | else-step-r w ↦ turned_at w.q-is w.r-is (turned_same c.loop-i.invariant c.loop-i-test.true w.if-step-r.false)
+      | then-step-r w ↦ turned_at w.q-is w.r-is (turned_up c.loop-i.invariant c.loop-i-test.true w.if-step-r.true)
+      | else-step-r w ↦ turned_at w.q-is w.r-is (turned_same c.loop-i.invariant c.loop-i-test.true w.if-step-r.false)
     ]
 
 pub returns : goal.returns

@@ -8,7 +8,6 @@ use lib.Ieee.{nearest}
 use Rattle.root.proofs.Rounded.{decided}
 use Rattle.root.proofs.nearest_even.Goals as goal
 
--- `root::nearest_even` meets its contract: each branch knows what `compare` answers.
 -- r is q, or one more where q is odd
 tied : (r q part half : ℕ) → half ≤ part → part ≤ half → r ≡ q + q % 2 → r ≡ nearest q (compare part half)
 tied r q part half a b e = e ∙ decided Ordering.eq q part half (omega arith)

@@ -5,7 +5,6 @@ use Rattle.root.proofs.Patterns.{root_positive, number_pattern, decided_most}
 use Rattle.root.proofs.positive_root.Goals as goal
 use Rattle.root.proofs.positive_root.Goals.{After-struct_known-1}
 
--- `root::positive_root` meets its contract: the steps' results are what `root_positive` asks for.
 -- the root, rounded
 most : (c : After-struct_known-1) → c.rounded_root-n.result ≤ 9007199254740992
 most c = let w = c.rounded_root-n.ensures in decided_most w.q w.r c.rounded_root-n.result w.root.most w.last

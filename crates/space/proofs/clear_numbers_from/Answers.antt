@@ -1,5 +1,4 @@
 -- `space::clear_numbers_from` meets its contract: `Filled` is the loop's invariant.
-use Prim.Native.Nat.{◌-◌}
 use native.Mathlib.Omega.{arith}
 use lib.ListN.{length-set}
 use Rattle.space.specs.Space.{zeros}
