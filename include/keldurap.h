@@ -1,4 +1,4 @@
-/* Keldurap: estimated-time sheets for railways. The functions of libkeldurap.a, which `rt staticlib keldurap` makes. Link with libm too (-lm).
+/* Keldurap: estimated-time sheets for railways. The functions of libkeldurap.a, which `rt lib` in crates/keldurap makes. Link with libm too (-lm).
  * Whatever floating-point mode the caller is in (rounding, flushing of small numbers to zero, exceptions that trap), each function computes in the default mode,
  * in which it is proved, and gives the caller its mode and its exception flags back, also on a refusal. */
 #ifndef KELDURAP_H
