@@ -1,8 +1,7 @@
 -- What the program prints for one pattern, before the line's end.
-use Rattle.std.specs.Prelude.{ℕ, ◌+◌, ◌*◌, List, [], ◌∷◌}
+use Rattle.std.specs.Prelude.{ℕ, zero, suc, ◌+◌, ◌*◌, ◌/◌, ◌%◌, cond, nat_lt, List, [], ◌∷◌, ◌++◌}
 use Rattle.std.specs.Float.{binary64}
 use Rattle.std.specs.Float.Ieee.{of_bits, to_bits}
-use Rattle.io.specs.Digits.{last_digits}
 use Rattle.root.specs.Root.{sqrt}
 
 -- The number that bytes stand for, the least significant byte first.
@@ -16,7 +15,16 @@ unfoldable pub root_bits : ℕ → ℕ
 unfolding sqrt of_bits to_bits
 root_bits n = to_bits binary64 (sqrt binary64 (of_bits binary64 n))
 
+-- The ASCII code of a digit below 16: `0` to `9`, then `a` to `f`.
+abbrev pub digit : ℕ → ℕ
+digit d = cond (nat_lt d 10) (48 + d) (87 + d)
+
+-- The last k digits of n in base b, the most significant first.
+unfoldable pub last_digits : ℕ → ℕ → ℕ → List ℕ
+last_digits b zero n = []
+last_digits b (suc k) n = last_digits b k (n / b) ++ (digit (n % b) ∷ [])
+
 -- Sixteen hexadecimal digits in ASCII, `a` to `f` in lower case.
 unfoldable pub answer : List ℕ → List ℕ
-unfolding little_endian root_bits
+unfolding little_endian root_bits last_digits
 answer bytes = last_digits 16 16 (root_bits (little_endian bytes))

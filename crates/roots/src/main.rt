@@ -1,11 +1,11 @@
 // Reads bit patterns of eight bytes, the least significant byte first, and prints the pattern of each one's root.
 #![tactic(auto)]
 
-ghost use Rattle.std.specs.Prelude.{◌≡◌, take};
-ghost use Rattle.roots.specs.Roots.{little_endian, root_bits};
+ghost use Rattle.std.specs.Prelude.{◌≡◌, ◌<◌, take};
+ghost use Rattle.roots.specs.Roots.{digit, little_endian, root_bits};
 ghost use Rattle.roots.specs.Roots.{answer as Roots·answer};
 
-use libc::{STDIN_FILENO, STDOUT_FILENO};
+use std::io::{Read, Result, Write};
 
 const SIGN: u64 = 0x8000_0000_0000_0000;
 
@@ -40,38 +40,57 @@ fn root_bits(bits: u64) -> u64
     f64::to_bits(x)
 }
 
+// A hexadecimal digit in ASCII.
+fn digit(d: u64) -> u8
+    requires { d < 16 }
+    ensures { result ≡ digit d }
+{
+    if d < 10 {
+        b'0' + d as u8
+    } else {
+        b'a' - 10 + d as u8
+    }
+}
+
 // The digits that are printed for eight bytes: the 16 bytes of the result.
 fn answer(bytes: [u8; 8]) -> [u8; 16]
     ensures { take 16 result ≡ Roots·answer bytes }
 {
+    let mut rest = root_bits(pattern(bytes));
     let mut text = [0u8; 16];
-    io::hex(root_bits(pattern(bytes)), 16, &mut text);
+    let mut at = 16;
+    while at > 0 {
+        at -= 1;
+        text[at] = digit(rest % 16);
+        rest /= 16;
+    }
     text
 }
 
-// Reads one pattern and prints its line. Answers whether there may be another: false where the input has ended or a
-// call failed.
-fn print_one() -> bool {
+// Reads one pattern and prints its line. Answers whether there may be another: false where the input has ended.
+fn print_one<R: Read, W: Write>(from: &mut R, to: &mut W) -> Result<bool> {
     let mut bytes = [0u8; 8];
-    let n = io::read_full(STDIN_FILENO, &mut bytes);
+    let n = streams::read_full(from, &mut bytes)?;
     if n == 0 {
-        return false;
+        return Ok(false);
     }
     if n < 8 {
-        io::write_all(STDOUT_FILENO, b"cut off\n");
-        return false;
+        to.write_all(b"cut off\n")?;
+        return Ok(false);
     }
-    if !io::write_all(STDOUT_FILENO, &answer(bytes)) {
-        return false;
-    }
-    io::write_all(STDOUT_FILENO, b"\n")
+    to.write_all(&answer(bytes))?;
+    to.write_all(b"\n")?;
+    Ok(true)
 }
 
-// A proved loop has to end, and nothing says that the input does: the turns are counted down from a number that no run
-// uses up.
-fn main() {
-    let mut turns = u64::MAX;
-    while turns > 0 && print_one() {
-        turns -= 1;
+// A proved loop has to end, and nothing says that the input does: the turns go up to a number that no run reaches.
+fn main(rt: HostRuntime) -> Result<()> {
+    let mut from = rt.stdin();
+    let mut to = rt.stdout();
+    for _ in 0..u64::MAX {
+        if !print_one(&mut from, &mut to)? {
+            break;
+        }
     }
+    Ok(())
 }

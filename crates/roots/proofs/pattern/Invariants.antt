@@ -1,5 +1,4 @@
 -- `roots::pattern` meets its contract. The invariant: n is what the bytes from i on stand for. The measure is i. Assumes nothing.
-use Prim.Native.Nat.{◌-◌}
 use Rattle.roots.proofs.Laws.{Held}
 use Rattle.roots.proofs.pattern.Given as goal
 

@@ -1,0 +1,44 @@
+// Reading a stream into a lent slice: until the slice is full, or whole.
+#![tactic(auto)]
+
+ghost use Rattle.std.specs.Prelude.{ℕ, ◌<◌, ◌≤◌, IfOk, IfSome, IfNone, OnErr, length, take};
+ghost use Rattle.std.specs.Io.{ReadsAtMost};
+ghost use Rattle.std.specs.Io.KnownBytes.{Consumes, IsAtEnd};
+ghost use Rattle.streams.specs.Streams.{IsInput, IsLonger};
+
+use std::io::{Read, Result};
+
+// Reads until the slice is full or the input ends, and answers how many bytes it put at the slice's start. Where a read
+// fails, the slice begins with what was read before it.
+pub fn read_full<R: Read>(from: &mut R, buf: &mut [u8]) -> Result<usize>
+    ensures bound { ReadsAtMost result buf.new }
+    ensures bytes { IfOk result (λ n. Consumes (R.remaining from.old) (R.remaining from.new) (take n buf.new)) }
+    ensures end { IfOk result (λ n. n < length buf.new → IsAtEnd (R.remaining from.new)) }
+    ensures err { OnErr result ((n : ℕ) × (n ≤ length buf.new)
+        × Consumes (R.remaining from.old) (R.remaining from.new) (take n buf.new)) }
+{
+    let mut done = 0;
+    while done < buf.len() {
+        let n = from.read(&mut buf[done..])?;
+        if n == 0 {
+            break;
+        }
+        done += n;
+    }
+    Ok(done)
+}
+
+// Reads the whole input and answers how many bytes it has, which stand at the slice's start, or `None` where the slice is
+// too short for it. One byte behind those that fill the slice is read and lost.
+pub fn read_whole<R: Read>(from: &mut R, buf: &mut [u8]) -> Result<Option<usize>>
+    ensures bound { IfOk result (λ r. IfSome r (λ n. n ≤ length buf.new)) }
+    ensures whole { IfOk result (λ r. IfSome r (λ n. IsInput (R.remaining from.old) (take n buf.new))) }
+    ensures longer { IfOk result (λ r. IfNone r (IsLonger (R.remaining from.old) (length buf.new))) }
+{
+    let n = read_full(from, buf)?;
+    let mut more = [0u8; 1];
+    if read_full(from, &mut more)? != 0 {
+        return Ok(None);
+    }
+    Ok(Some(n))
+}
