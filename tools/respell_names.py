@@ -3,7 +3,7 @@
 
 usage: python3 tools/respell_names.py [--list] [REPOSITORY]
 
-It is run once, right after /opt/rattle/port/port.py, and goes by spelling alone: `unitsOf` and `filled-all` become
+It is run once, right after the kit's port.py, and goes by spelling alone: `unitsOf` and `filled-all` become
 `units_of` and `filled_all`. It turns each name that a file of specs/ or proofs/ declares, in these files, in the clauses
 of src/ and in the texts of must-fail/. Types, modules and constructors in upper camel case stay, and so do names of the
 libraries, of functions and of what Rattle generates. KEEP and OTHERWISE say what is spelled in another way, and why.
