@@ -1,11 +1,14 @@
 // Reads a book from standard input and prints the number that it gets by rows 1 to 8, or that it is readable.
 // The limits are those of the program `sheet`: books of 65,536 bytes, 192 nodes, 65,536 bytes of work space.
+// Where standard input can't be read or standard output takes no more, standard error says so and the exit status is 1.
 #![tactic(auto)]
 
-ghost use Rattle.std.specs.Prelude.{◌≡◌};
+ghost use Rattle.std.specs.Prelude.{◌≡◌, IfSome, OnOk};
+ghost use Rattle.std.specs.Io.KnownBytes.{Appends};
 ghost use Rattle.book_reader.specs.Reader.{read_number};
+ghost use Rattle.readable.specs.Readable.{input_text, number_text};
 
-use libc::{STDERR_FILENO, STDIN_FILENO, STDOUT_FILENO};
+use std::io::{Read, Result, Write};
 
 // The number of a book for a table of 192 nodes and 65,536 bytes of work space.
 fn number(book: &[u8]) -> u32
@@ -17,37 +20,39 @@ fn number(book: &[u8]) -> u32
     book_reader::check_book(book, 192, &mut reals, &mut cells, &mut marks)
 }
 
-// Prints the answer; false if not all of it could be written.
-fn print_number(n: u32) -> bool {
+// Prints the answer.
+fn print_number<W: Write>(n: u32, to: &mut W) -> Result<()>
+    ensures { OnOk result (Appends (W.contents to.old) (W.contents to.new) (number_text n)) }
+{
     if n == 0 {
-        return io::write_all(STDOUT_FILENO, b"readable\n");
+        return to.write_all(b"readable\n");
     }
-    if !io::write_all(STDOUT_FILENO, b"refused ") {
-        return false;
-    }
-    if !io::print_decimal(STDOUT_FILENO, n as u64) {
-        return false;
-    }
-    io::write_all(STDOUT_FILENO, b"\n")
+    writeln!(to, "refused {n}")
 }
 
-// Says on standard error if not all was written.
-fn say_unless(written: bool) {
-    if !written {
-        io::write_all(
-            STDERR_FILENO,
-            b"readable: standard output: not all was written\n",
-        );
+// Says on standard error if not all was written, and hands the failure on.
+fn say_unless(rt: &impl Eprint, written: Result<()>) -> Result<()>
+    ensures { result ≡ written }
+{
+    if written.is_err() {
+        let _ = eprintln!(rt; "readable: standard output: not all was written");
     }
+    written
 }
 
-fn main() {
-    let mut space = io::large_buffer();
-    let n = io::read_full(STDIN_FILENO, &mut space);
-    let mut more = [0u8; 1];
-    if io::read_full(STDIN_FILENO, &mut more) != 0 {
-        say_unless(io::write_all(STDOUT_FILENO, b"too long\n"));
-        return;
-    }
-    say_unless(print_number(number(&space[..n])));
+// Reads the whole input and prints the answer to it.
+fn answer<R: Read, W: Write>(rt: &impl Eprint, from: &mut R, to: &mut W) -> Result<()>
+    ensures { OnOk result (IfSome (R.remaining from.old)
+        (λ input. Appends (W.contents to.old) (W.contents to.new) (input_text input))) }
+{
+    let mut space = [0u8; 65536];
+    let written = match streams::read_whole(from, &mut space)? {
+        Some(n) => print_number(number(&space[..n]), to),
+        None => to.write_all(b"too long\n"),
+    };
+    say_unless(rt, written)
+}
+
+fn main(rt: HostRuntime) -> Result<()> {
+    answer(&rt, &mut rt.stdin(), &mut rt.stdout())
 }

@@ -1,29 +1,40 @@
 // Reads a book from standard input and prints the listing of its sheet, or `refused N`: books to 65,536 bytes (longer
 // ones print `too long`), 192 nodes, 65,536 bytes of work space.
-// A program of this language has no exit status to give. Where standard output takes no more, as on a full disk or
-// where it is closed, a line on standard error says so; a write to a pipe that nobody reads ends the program by
-// SIGPIPE.
+// Where standard input can't be read or standard output takes no more, as on a full disk, where it is closed or where
+// nobody reads the pipe that it is, standard error says so and the exit status is 1.
 #![tactic(auto)]
 
-use libc::{STDERR_FILENO, STDIN_FILENO, STDOUT_FILENO};
+ghost use Rattle.std.specs.Prelude.{◌≡◌, ◌<◌, ◌≤◌, ◌++◌, ◌∷◌, [], IfSome, OnOk, codes, length};
+ghost use Rattle.std.specs.Io.KnownBytes.{Appends};
+ghost use Rattle.sheets.specs.Sheets.{SheetPrinted};
 
-// Says on standard error if not all was written.
-fn say_unless(written: bool) {
-    if !written {
-        io::write_all(
-            STDERR_FILENO,
-            b"sheet: standard output: not all was written\n",
-        );
+use std::io::{Read, Result, Write};
+
+// Says on standard error if not all was written, and hands the failure on.
+fn say_unless(rt: &impl Eprint, written: Result<()>) -> Result<()>
+    ensures { result ≡ written }
+{
+    if written.is_err() {
+        let _ = eprintln!(rt; "sheet: standard output: not all was written");
     }
+    written
 }
 
-fn main() {
-    let mut space = io::large_buffer();
-    let n = io::read_full(STDIN_FILENO, &mut space);
-    let mut more = [0u8; 1];
-    if io::read_full(STDIN_FILENO, &mut more) != 0 {
-        say_unless(io::write_all(STDOUT_FILENO, b"too long\n"));
-        return;
-    }
-    say_unless(sheets::print_sheet(&space[..n]));
+// Reads the whole input and prints the answer to it.
+fn answer<R: Read, W: Write>(rt: &impl Eprint, from: &mut R, to: &mut W) -> Result<()>
+    ensures book { OnOk result (IfSome (R.remaining from.old) (λ input.
+        length input ≤ 65536 → SheetPrinted input (W.contents to.old) (W.contents to.new))) }
+    ensures longer { OnOk result (IfSome (R.remaining from.old) (λ input.
+        65536 < length input → Appends (W.contents to.old) (W.contents to.new) (codes "too long" ++ 10 ∷ []))) }
+{
+    let mut space = [0u8; 65536];
+    let written = match streams::read_whole(from, &mut space)? {
+        Some(n) => sheets::print_sheet(&space[..n], to),
+        None => to.write_all(b"too long\n"),
+    };
+    say_unless(rt, written)
+}
+
+fn main(rt: HostRuntime) -> Result<()> {
+    answer(&rt, &mut rt.stdin(), &mut rt.stdout())
 }

@@ -8,11 +8,10 @@ use Prim.Native.Nat.{ℕ, ◌-◌, ◌≤◌}
 use native.Mathlib.Omega.{arith}
 use borrow.Author.Tests.{le-leb}
 use lib.Dec.{leb}
-use lib.ListN.{length, length-append}
+use lib.ListN.{length}
 use Rattle.laws.specs.Answer.{Answer, refused, given}
 use Rattle.report.specs.declared.Report.{Report}
 use Rattle.space.specs.Space.{zeros}
-use Rattle.space.proofs.Zeros.{zeros_length}
 use Rattle.net_node.specs.Table.{Table, at}
 use Rattle.net_node.specs.Left.{nodes_in, places_of}
 use Rattle.net_node.specs.Lent.{Slices, Sizes, sizes_of, places_in}
@@ -101,7 +100,3 @@ module _ {b : List ℕ} {lent left : Slices} {out array : List ℕ} {r : Listed}
 
   pub never_unfilled : {n : ℕ} → r ≡ Unfilled → SheetText b array n
   never_unfilled e = let d : ◌≡◌ {A = ℕ} 0 102 = ap listed_number (sym answer_is ∙ e) in absurd (omega arith)
-
--- the text's bytes lie in the array
-pub text_inside : {b array : List ℕ} {n : ℕ} → SheetText b array n → n ≤ length array
-text_inside {b} {array} {n} t = let s = t.size in let d = ap length t.bytes ∙ length-append t.text (zeros (65536 - n)) in omega (arith, zeros_length (65536 - n))

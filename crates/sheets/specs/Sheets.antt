@@ -1,6 +1,8 @@
 -- A book's listing in a lent slice: its sheet's, or `refused N`.
 use Rattle.std.specs.Prelude.{◌≡◌, List, ◌++◌, ℕ, ◌-◌, ◌*◌, length}
 use Rattle.std.proofs.Math.Option.{Option, some}
+use Rattle.std.specs.declared.option.Option.{Option as Known}
+use Rattle.std.specs.Io.KnownBytes.{Appends}
 use Rattle.space.specs.Space.{zeros}
 use Rattle.net_node.specs.Table.{float_width, number_width, Table}
 use Rattle.net_node.specs.Left.{floats_left, numbers_left}
@@ -44,3 +46,9 @@ pub record SheetText (b array : List ℕ) (n : ℕ) : Type 0 where
   pub is : book_text b program_sizes ≡ some text
   pub size : n ≡ length text
   pub bytes : array ≡ text ++ zeros (65536 - n)
+
+-- What is printed for a book: its text, behind the bytes that a writer held.
+pub record SheetPrinted (b : List ℕ) (held holds : Known (List ℕ)) : Type 0 where
+  pub text : List ℕ
+  pub is : book_text b program_sizes ≡ some text
+  pub bytes : Appends held holds text

@@ -1,12 +1,13 @@
 // A book to its listing, for programs. Contracts: specs/Sheets.antt.
 #![tactic(auto)]
 
+ghost use Rattle.std.specs.Prelude.{OnOk};
 ghost use Rattle.net_node.specs.Lent.{lent_at_entry, lent_at_exit};
-ghost use Rattle.sheets.specs.Sheets.{BookListed, SheetText};
+ghost use Rattle.sheets.specs.Sheets.{BookListed, SheetPrinted, SheetText};
 
 use est_times::Sheet;
-use libc::STDOUT_FILENO;
 use listing::Listed;
+use std::io::{Result, Write};
 
 // The floats and numbers of 192 nodes.
 const FLOATS: usize = 192 * net_node::FLOAT_WIDTH;
@@ -61,10 +62,11 @@ pub fn sheet_text(book: &[u8], text: &mut [u8; 65536]) -> usize
     }
 }
 
-// Prints the listing of a book's sheet, or of its refusal: the bytes of `sheet_text`. False if not all of them could be
-// written.
-pub fn print_sheet(book: &[u8]) -> bool {
-    let mut text = io::large_buffer();
+// Prints the listing of a book's sheet, or of its refusal: the bytes of `sheet_text`.
+pub fn print_sheet<W: Write>(book: &[u8], to: &mut W) -> Result<()>
+    ensures { OnOk result (SheetPrinted book.now (W.contents to.old) (W.contents to.new)) }
+{
+    let mut text = [0u8; 65536];
     let n = sheet_text(book, &mut text);
-    io::write_all(STDOUT_FILENO, &text[..n])
+    to.write_all(&text[..n])
 }
