@@ -1,5 +1,5 @@
--- What the program prints for one pattern, before the line's end.
-use Rattle.std.specs.Prelude.{ℕ, zero, suc, ◌+◌, ◌*◌, ◌/◌, ◌%◌, cond, nat_lt, List, [], ◌∷◌, ◌++◌}
+-- What the program prints.
+use Rattle.std.specs.Prelude.{ℕ, zero, suc, ◌+◌, ◌*◌, ◌/◌, ◌%◌, cond, nat_lt, List, [], ◌∷◌, ◌++◌, codes, length, take, if◌then◌else◌}
 use Rattle.std.specs.Float.{binary64}
 use Rattle.std.specs.Float.Ieee.{of_bits, to_bits}
 use Rattle.root.specs.Root.{sqrt}
@@ -28,3 +28,7 @@ last_digits b (suc k) n = last_digits b k (n / b) ++ (digit (n % b) ∷ [])
 unfoldable pub answer : List ℕ → List ℕ
 unfolding little_endian root_bits last_digits
 answer bytes = last_digits 16 16 (root_bits (little_endian bytes))
+
+-- The line that is printed for what is left of the input: none at its end.
+abbrev pub line : List ℕ → List ℕ
+line input = if nat_lt (length input) 1 then [] else (if nat_lt (length input) 8 then codes "cut off" else answer (take 8 input)) ++ 10 ∷ []

@@ -1,8 +1,9 @@
 // Reads bit patterns of eight bytes, the least significant byte first, and prints the pattern of each one's root.
 #![tactic(auto)]
 
-ghost use Rattle.std.specs.Prelude.{◌≡◌, ◌<◌, take};
-ghost use Rattle.roots.specs.Roots.{digit, little_endian, root_bits};
+ghost use Rattle.std.specs.Prelude.{◌≡◌, ◌<◌, ◌≤◌, ◌↔◌, IfOk, IfSome, IsTrue, OnOk, length, take};
+ghost use Rattle.std.specs.Io.KnownBytes.{Appends, Consumes};
+ghost use Rattle.roots.specs.Roots.{digit, line, little_endian, root_bits};
 ghost use Rattle.roots.specs.Roots.{answer as Roots·answer};
 
 use std::io::{Read, Result, Write};
@@ -68,7 +69,14 @@ fn answer(bytes: [u8; 8]) -> [u8; 16]
 }
 
 // Reads one pattern and prints its line. Answers whether there may be another: false where the input has ended.
-fn print_one<R: Read, W: Write>(from: &mut R, to: &mut W) -> Result<bool> {
+fn print_one<R: Read, W: Write>(from: &mut R, to: &mut W) -> Result<bool>
+    ensures line { OnOk result (IfSome (R.remaining from.old) (λ input.
+        Appends (W.contents to.old) (W.contents to.new) (line input))) }
+    ensures rest { OnOk result (IfSome (R.remaining from.old) (λ input.
+        Consumes (R.remaining from.old) (R.remaining from.new) (take 8 input))) }
+    ensures more { IfOk result (λ r. IfSome (R.remaining from.old) (λ input.
+        IsTrue r ↔ (8 ≤ length input))) }
+{
     let mut bytes = [0u8; 8];
     let n = streams::read_full(from, &mut bytes)?;
     if n == 0 {

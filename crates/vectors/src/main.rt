@@ -2,41 +2,42 @@
 // program `sheet` does, each behind a line `== K`, K from 0.
 #![tactic(auto)]
 
-use libc::{STDIN_FILENO, STDOUT_FILENO};
+use std::io::{Read, Result, Write};
 
-// Answers the book of so many bytes that comes next, which is read into a slice; false if it is longer than that, or if
-// the answer could not be written.
-fn answer_book(space: &mut [u8], size: usize) -> bool {
+// Answers the book of so many bytes that comes next, which is read into a slice; false if it is longer than that.
+fn answer_book<R: Read, W: Write>(
+    space: &mut [u8],
+    size: usize,
+    from: &mut R,
+    to: &mut W,
+) -> Result<bool> {
     if space.len() < size {
-        return false;
+        return Ok(false);
     }
-    let n = io::read_full(STDIN_FILENO, &mut space[..size]);
-    if space.len() < n {
-        return false;
-    }
-    sheets::print_sheet(&space[..n])
+    let n = streams::read_full(from, &mut space[..size])?;
+    sheets::print_sheet(&space[..n], to)?;
+    Ok(true)
 }
 
 // Whether a book was there and was answered.
-fn answer_next(k: u64) -> bool {
+fn answer_next<R: Read, W: Write>(k: u64, from: &mut R, to: &mut W) -> Result<bool> {
     let mut head = [0u8; 4];
-    if io::read_full(STDIN_FILENO, &mut head) != 4 {
-        return false;
+    if streams::read_full(from, &mut head)? != 4 {
+        return Ok(false);
     }
     let size = fields::u32_at(&head, 0) as usize;
-    let mut space = io::large_buffer();
-    io::write_all(STDOUT_FILENO, b"== ");
-    io::print_decimal(STDOUT_FILENO, k);
-    io::write_all(STDOUT_FILENO, b"\n");
-    answer_book(&mut space, size)
+    let mut space = [0u8; 65536];
+    writeln!(to, "== {k}")?;
+    answer_book(&mut space, size, from, to)
 }
 
-fn main() {
-    let mut k: u64 = 0;
-    while k < 1000000 {
-        if !answer_next(k) {
-            return;
+fn main(rt: HostRuntime) -> Result<()> {
+    let mut from = rt.stdin();
+    let mut to = rt.stdout();
+    for k in 0..1000000 {
+        if !answer_next(k, &mut from, &mut to)? {
+            break;
         }
-        k += 1;
     }
+    Ok(())
 }
