@@ -1,9 +1,9 @@
 // Reads bit patterns of eight bytes, the least significant byte first, and prints the pattern of each one's root.
 #![tactic(auto)]
 
-ghost use Rattle.std.specs.Prelude.{◌≡◌, ◌<◌, ◌≤◌, ◌↔◌, IfOk, IfSome, IsTrue, OnOk, length, take};
+ghost use Rattle.std.specs.Prelude.{◌≡◌, ◌<◌, ◌≤◌, ◌^◌, ◌↔◌, IfOk, IfSome, IsTrue, OnOk, length, take};
 ghost use Rattle.std.specs.Io.KnownBytes.{Appends, Consumes};
-ghost use Rattle.roots.specs.Roots.{digit, line, little_endian, root_bits};
+ghost use Rattle.roots.specs.Roots.{digit, line, little_endian, root_bits, text};
 ghost use Rattle.roots.specs.Roots.{answer as Roots·answer};
 
 use std::io::{Read, Result, Write};
@@ -91,14 +91,21 @@ fn print_one<R: Read, W: Write>(from: &mut R, to: &mut W) -> Result<bool>
     Ok(true)
 }
 
-// A proved loop has to end, and nothing says that the input does: the turns go up to a number that no run reaches.
-fn main(rt: HostRuntime) -> Result<()> {
-    let mut from = rt.stdin();
-    let mut to = rt.stdout();
-    for _ in 0..u64::MAX {
-        if !print_one(&mut from, &mut to)? {
+// Prints the line of each pattern. A proved loop has to end, and nothing says that the input does: the turns go up to a
+// number that no run reaches.
+fn print_all<R: Read, W: Write>(from: &mut R, to: &mut W) -> Result<()>
+    ensures { OnOk result (IfSome (R.remaining from.old) (λ input. length input < 2 ^ 64 →
+        Appends (W.contents to.old) (W.contents to.new) (text input))) }
+{
+    for _turn in 0..u64::MAX {
+        let more = print_one(from, to)?;
+        if !more {
             break;
         }
     }
     Ok(())
+}
+
+fn main(rt: HostRuntime) -> Result<()> {
+    print_all(&mut rt.stdin(), &mut rt.stdout())
 }

@@ -2,6 +2,9 @@
 // program `sheet` does, each behind a line `== K`, K from 0.
 #![tactic(auto)]
 
+ghost use Rattle.std.specs.Prelude.{◌≤◌, ◌↔◌, IfOk, IsTrue, length};
+ghost use Rattle.vectors.specs.Vectors.{BookAnswered};
+
 use std::io::{Read, Result, Write};
 
 // Answers the book of so many bytes that comes next, which is read into a slice; false if it is longer than that.
@@ -10,7 +13,11 @@ fn answer_book<R: Read, W: Write>(
     size: usize,
     from: &mut R,
     to: &mut W,
-) -> Result<bool> {
+) -> Result<bool>
+    ensures room { IfOk result (λ r. IsTrue r ↔ (size ≤ length space.old)) }
+    ensures answered { IfOk result (λ r. IsTrue r → BookAnswered size
+        (R.remaining from.old) (R.remaining from.new) (W.contents to.old) (W.contents to.new)) }
+{
     if space.len() < size {
         return Ok(false);
     }
