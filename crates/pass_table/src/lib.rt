@@ -111,7 +111,7 @@ fn time_nodes(
     cells: &mut [u32],
     marks: &mut [u32],
 ) -> u32
-    requires { n ≡ nodes_in (record { floats = floats.now; numbers = numbers.old }) }
+    requires { n ≡ nodes_in (record { floats = floats.old; numbers = numbers.old }) }
     ensures { TimedAs (table_times (table_at_entry floats numbers) departure
         (bytes_in (work_at_entry reals cells marks))) result (table_at_exit floats numbers) }
 {

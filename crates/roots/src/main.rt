@@ -3,8 +3,7 @@
 
 ghost use Rattle.std.specs.Prelude.{◌≡◌, ◌<◌, ◌≤◌, ◌^◌, ◌↔◌, IfOk, IfSome, IsTrue, OnOk, length, take};
 ghost use Rattle.std.specs.Io.KnownBytes.{Appends, Consumes};
-ghost use Rattle.roots.specs.Roots.{digit, line, little_endian, root_bits, text};
-ghost use Rattle.roots.specs.Roots.{answer as Roots·answer};
+ghost use Rattle.roots.specs.Roots.{answer, digit, line, little_endian, root_bits, text};
 
 use std::io::{Read, Result, Write};
 
@@ -55,7 +54,7 @@ fn digit(d: u64) -> u8
 
 // The digits that are printed for eight bytes: the 16 bytes of the result.
 fn answer(bytes: [u8; 8]) -> [u8; 16]
-    ensures { take 16 result ≡ Roots·answer bytes }
+    ensures { take 16 result ≡ answer bytes }
 {
     let mut rest = root_bits(pattern(bytes));
     let mut text = [0u8; 16];
