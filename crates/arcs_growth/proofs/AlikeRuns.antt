@@ -15,7 +15,6 @@ use Rattle.net_node.specs.declared.TimedEvent.{TimedEvent}
 use Rattle.net_node.specs.Table.{Indexed, Table, at}
 use Rattle.net_join_paths.specs.declared.EstJoinPath.{EstJoinPath}
 use Rattle.net_joins.specs.declared.SpeedJoin.{SpeedJoin}
-use Rattle.net_joins.specs.Joins as Joins
 use Rattle.net_joins.specs.Joins.{chain_end_as, chain_end, join_at, joined_table, closest, closest_of, appended, rebuilt, chosen_as, chosen, join_step}
 use Rattle.grow_rules.specs.Growth.{join_gap}
 use Rattle.grow_rules.specs.Run.{Net, Run, After, insert_event, joined_to, Outcome, Ended, On, goes_on, with_joins, joined_as, event_as, run_event, next_event, run_events}

@@ -3,14 +3,13 @@ use mathlib.Core.Path.{◌≡◌, refl, sym, ap, ◌∙◌, subst}
 use mathlib.Core.Logic.{◌⊎◌, inl, inr}
 use mathlib.Core.List.{List, [], ◌∷◌, ◌++◌, append_assoc}
 use Prim.Native.Nat.{ℕ, ◌<◌, ◌≤◌}
-use native.Mathlib.Omega.{arith}
 use lib.Ieee.{binary64, sub}
 use Rattle.net_node.specs.Table.{at}
 use Rattle.net_node.specs.declared.EstTime.{EstTime}
 use Rattle.net_node.specs.declared.TimedEvent.{TimedEvent}
 use Rattle.grow_path.specs.Path.{leg_events}
 use Rattle.grow_rules.specs.Run.{Arc, EndedRun, Net, Run, arc_to, nodes_to}
-use Rattle.arcs_growth.specs.Runs.{Taken, run_events_to, HasEvent, Visits, AllTaken, LastAt, BetweenEvents, LeadsOn}
+use Rattle.arcs_growth.specs.Runs.{Taken, run_events_to, HasEvent, Visits, AllTaken, LastAt, LeadsOn}
 use Rattle.arcs_growth.specs.Noted.{LeadsOut, Starts, Follows, ArcEnds}
 use Rattle.laws.proofs.Members.{All, all_so}
 use Rattle.arcs_growth.proofs.Labels.{Labels, Extends}

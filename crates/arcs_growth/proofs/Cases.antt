@@ -1,21 +1,19 @@
 -- What the definitions of arcs, runs and ends tell apart, in small cases: networks of a few nodes, and one arc or run each that is right or wrong in one thing.
-use mathlib.Core.Path.{◌≡◌, refl, sym, ap, ◌∙◌}
+use mathlib.Core.Path.{◌≡◌, refl, ap}
 use mathlib.Core.Logic.{◌⊎◌, inl, inr}
-use mathlib.Core.Bool.{Bool, true, false}
 use mathlib.Core.List.{List, [], ◌∷◌}
 use Prim.Native.Nat.{ℕ, zero, suc}
 use native.Mathlib.Omega.{arith}
 use lib.Ieee.{binary64, of_bits, to_bits, sub}
 use Rattle.laws.proofs.Truth.{not_both}
-use Rattle.net_node.specs.declared.EstType.TheVariants.{Arrive, Clear}
+use Rattle.net_node.specs.declared.EstType.TheVariants.{Arrive}
 use Rattle.net_node.specs.declared.EstTime.{EstTime}
 use Rattle.net_node.specs.declared.LinkEvent.{LinkEvent}
 use Rattle.net_node.specs.declared.TimedEvent.{TimedEvent}
-use Rattle.net_node.specs.Table.{blank, is_fake, with_next, with_next_alt, with_event}
-use Rattle.net_node.specs.Table as TableOf
+use Rattle.net_node.specs.Table.{blank, with_next, with_next_alt, with_event}
 use Rattle.grow_rules.specs.Run.{Arc, EndedRun}
 use Rattle.arcs_growth.specs.Arcs.{alternative_of, owners, is_owned, source_of, goal_of}
-use Rattle.arcs_growth.specs.Runs.{HasEvent, Visits, FirstAt, LastAt, BetweenEvents, LeadsOn}
+use Rattle.arcs_growth.specs.Runs.{HasEvent, Visits, FirstAt, LastAt, LeadsOn}
 use Rattle.arcs_growth.specs.Noted.{LeadsOut, EventAt, ArcEnds}
 
 -- ---- walks

@@ -22,7 +22,7 @@ use Rattle.grow_path.specs.Path.{leg_events}
 use Rattle.grow_rules.specs.Run.{Arc, EndedRun, Net, Run, After, arc_to, member_of, insert_event}
 use Rattle.grow_rules.specs.Growth.{Growth, join_gap, departure, first_nodes, origin_event, origin_run, on_leg, takes, seek_leg, saves, grow_origin, grow_origins}
 use Rattle.arcs_growth.specs.Arcs.{one}
-use Rattle.arcs_growth.specs.Runs.{Taken, first, run_events_to, HasEvent, AllTaken, SomeRun, FirstAt, LeadsOn}
+use Rattle.arcs_growth.specs.Runs.{first, run_events_to, HasEvent, AllTaken, FirstAt, LeadsOn}
 use Rattle.arcs_growth.specs.Read.{SomeKept, Read}
 use Rattle.laws.proofs.Below.{or_right}
 use Rattle.laws.proofs.Members.{All, Some, all_so}

@@ -1,16 +1,13 @@
 -- A run's path and its events: a leg more, and that every event is an Arrive or a Clear.
 use mathlib.Core.Path.{◌≡◌, refl, sym, ap, ◌∙◌}
-use mathlib.Core.Bool.{Bool, true, false, ◌&&◌, cond}
+use mathlib.Core.Bool.{Bool, true, false, cond}
 use mathlib.Core.List.{List, [], ◌∷◌, ◌++◌, append-nil, append_assoc}
-use Prim.Native.Nat.{ℕ, zero, suc, ◌-◌, ◌<◌, ◌≤◌}
+use Prim.Native.Nat.{ℕ, zero, suc, ◌-◌, ◌<◌}
 use native.Mathlib.Omega.{arith}
-use borrow.Author.Tests.{eqb-true}
-use lib.Dec.{eqb, ltb}
-use lib.Ieee.{Float, binary64, add, of_bits}
+use lib.Dec.{ltb}
+use lib.Ieee.{Float}
 use Rattle.net_node.specs.Table.{fake_kind}
-use Rattle.book_format.specs.Format.{legs, leg_link, leg_parent, length_bits, float_of}
-use Rattle.book_format.specs.Chains.{leg_below}
-use Rattle.net_node.specs.declared.EstType.TheVariants.{Arrive, Clear}
+use Rattle.book_format.specs.Format.{legs, leg_link, leg_parent}
 use Rattle.net_node.specs.declared.TimedEvent.{TimedEvent}
 use Rattle.event_formula.specs.declared.Passing.{Passing}
 use Rattle.event_formula.specs.Event.{passing_at}

@@ -7,14 +7,14 @@ use Prim.Native.Nat.{ℕ, ◌<◌, ◌≤◌}
 use native.Mathlib.Omega.{arith}
 use lib.Ieee.{Float, lt}
 use Rattle.floats.specs.Floats.{gap}
-use Rattle.net_node.specs.Table.{fake_kind, is_fake}
+use Rattle.net_node.specs.Table.{fake_kind}
 use Rattle.net_node.specs.declared.LinkEvent.{LinkEvent}
 use Rattle.net_node.specs.declared.EstTime.{EstTime}
 use Rattle.net_node.specs.declared.TimedEvent.{TimedEvent}
 use Rattle.grow_rules.specs.Run.{Arc, EndedRun, Run}
 use Rattle.grow_rules.specs.Growth.{join_gap}
-use Rattle.arcs_growth.specs.Runs.{run_events_to, HasEvent, Visits, RunTaken, AllTaken, SomeRun, FirstAt, LastAt, BetweenEvents, LeadsOn}
-use Rattle.arcs_growth.specs.Noted.{LeadsOut, Starts, Follows, EventAt, ArcEnds}
+use Rattle.arcs_growth.specs.Runs.{run_events_to, HasEvent, Visits, AllTaken, SomeRun, FirstAt, LastAt, BetweenEvents, LeadsOn}
+use Rattle.arcs_growth.specs.Noted.{Starts, Follows, EventAt, ArcEnds}
 use Rattle.laws.proofs.Members.{All, all_so}
 use Rattle.arcs_growth.proofs.NewNodes.{EventsKept}
 use Rattle.arcs_growth.proofs.Paths.{Real}

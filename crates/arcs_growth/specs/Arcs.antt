@@ -5,17 +5,16 @@
 -- next." The network is a function from index to node, of which the first n count. In an arc 0 stands for the end, and
 -- n, which no node has and no noted arc, for an end that is not there: where a walk along next or up the alternatives
 -- does not end, and where a split Fake is the next alternative of no node, of node 0, or of two.
-use Rattle.std.specs.Prelude.{◌≡◌, Bool, true, false, ◌&&◌, ◌||◌, Float}
+use Rattle.std.specs.Prelude.{◌≡◌, Bool, true, false, ◌&&◌, ◌||◌}
 use Rattle.std.proofs.Math.Bool.{not, cond}
-use mathlib.Core.List.{List, [], ◌∷◌, ◌++◌}
+use mathlib.Core.List.{List, [], ◌∷◌}
 use Prim.Native.Nat.{ℕ, zero, suc, ◌+◌, ◌-◌}
 use Rattle.std.proofs.Math.Dec.{eqb}
 use Rattle.std.specs.Float.{binary64}
-use Rattle.std.specs.Float.Ieee.{to_bits, sub}
+use Rattle.std.specs.Float.Ieee.{to_bits}
 use Rattle.laws.specs.Below.{some_below}
 use Rattle.net_node.specs.declared.EstTime.{EstTime}
 use Rattle.net_node.specs.Table.{is_fake}
-use Rattle.net_node.specs.declared.TimedEvent.{TimedEvent}
 use Rattle.grow_rules.specs.Run.{Arc}
 
 -- 1 for true

@@ -1,7 +1,7 @@
 -- The shape of a grown network, which growth makes and both passes keep. Bases are the nodes that have an arc: the
 -- start, events and split Fakes. Receivers are what an arc's next names: events, join Fakes and end Fakes. On them next
 -- and prev are inverse to each other.
-use Rattle.std.specs.Prelude.{◌≡◌, ◌⊎◌, Bool, true, false, not, ◌&&◌, ◌||◌, ℕ, zero, suc, ◌-◌, ◌≤◌, ◌<◌, eqb, ltb}
+use Rattle.std.specs.Prelude.{◌≡◌, ◌⊎◌, Bool, true, not, ◌&&◌, ℕ, ◌-◌, ◌≤◌, ◌<◌, ltb}
 use Rattle.net_node.specs.Table.{is_fake}
 use Rattle.net_node.specs.declared.EstTime.{EstTime}
 use Rattle.arcs_growth.specs.Arcs.{is_alternative, is_base, goal_of}

@@ -14,3 +14,4 @@ pub mod BackwardKeeps
 pub mod PassesKeep
 pub mod Lent
 pub mod Sheet
+pub mod Finished

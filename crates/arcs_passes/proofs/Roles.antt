@@ -1,6 +1,6 @@
 -- Roles in a network of the shape: what a base and a receiver are, where a split Fake's source and a join Fake's goal are found, and that none of it looks at more than a node's frame
 -- (its event and both alternatives), which no pass changes, and at a Fake's next.
-use mathlib.Core.Path.{◌≡◌, refl, sym, ap, ◌∙◌}
+use mathlib.Core.Path.{◌≡◌, refl, ap}
 use mathlib.Core.Logic.{◌⊎◌, inl, inr, ◌≢◌, ⊎_elim}
 use mathlib.Core.Bool.{Bool, true, false, not, ◌&&◌, ◌||◌, cond}
 use Prim.Native.Nat.{ℕ, zero, suc, ◌-◌, ◌<◌}

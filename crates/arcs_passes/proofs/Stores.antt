@@ -9,7 +9,7 @@ use lib.Ieee.{Float}
 use Rattle.laws.proofs.Truth.{equal_or_not}
 use Rattle.net_node.proofs.Sets.{Changed, time_set as set_time_lem, next_set as set_next_lem, prev_set as set_prev_lem, arc_set as set_arc_lem}
 use Rattle.net_node.proofs.Tables.{RoomIn}
-use Rattle.net_node.specs.Table.{Table, at, set_time, set_next, set_prev, set_arc, with_time, with_next, with_prev, with_arc}
+use Rattle.net_node.specs.Table.{Table, at, set_time, set_next, set_prev, set_arc}
 use Rattle.net_node.specs.declared.EstTime.{EstTime}
 use Rattle.arcs_growth.specs.Arcs.{is_base}
 use Rattle.arcs_growth.specs.Shape.{Shape}

@@ -1,14 +1,13 @@
 -- Link 0 is in the set just if it is a destination: nothing but a real previous is pushed.
-use mathlib.Core.Path.{◌≡◌, refl, sym, ap, ◌∙◌, subst}
+use mathlib.Core.Path.{◌≡◌, refl, sym, ap, ◌∙◌}
 use mathlib.Core.Logic.{◌⊎◌, inl, inr}
-use mathlib.Core.Bool.{Bool, true, false, ◌||◌, cond}
-use mathlib.Core.List.{List, [], ◌∷◌, ◌++◌}
-use Prim.Native.Nat.{ℕ, zero, suc, ◌+◌, ◌*◌, ◌≤◌, ◌<◌}
-use native.Mathlib.Omega.{arith}
+use mathlib.Core.Bool.{Bool, true, false, cond}
+use mathlib.Core.List.{List, [], ◌∷◌}
+use Prim.Native.Nat.{ℕ, zero, suc, ◌+◌, ◌*◌}
 use borrow.Author.Tests.{eq-eqb, ne_eqb, eqb-true, eqb-false}
 use lib.Dec.{eqb}
 use Rattle.laws.specs.Below.{some_below}
-use Rattle.laws.proofs.Truth.{or_left, or_right, or_is, neither, never, not_both, true_or_false}
+use Rattle.laws.proofs.Truth.{or_is, neither, never, not_both, true_or_false}
 use Rattle.laws.proofs.Below.{none_left, none_right}
 use Rattle.book_format.specs.Format.{links, origins, destinations, link_prev, link_prev_alt, destination_link}
 use Rattle.book_format.specs.Rows.{row5}

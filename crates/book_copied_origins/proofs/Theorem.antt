@@ -18,7 +18,7 @@ use Rattle.book_options.specs.Options.{Search, member, origin_below, stacked, pu
 use Rattle.book_options.proofs.Walks.{origin_is}
 use Rattle.book_options.proofs.Apart.{member_more, member_here}
 use Rattle.book_options.proofs.Empties.{options_whole}
-use Rattle.book_copied_origins.specs.Copied.{Copy, rows_below, swapped, swept, swept_all, CopySearch, enter_copy, search_copy, copy_options, kept_copies, copy_refuses}
+use Rattle.book_copied_origins.specs.Copied.{Copy, rows_below, swapped, swept_all, CopySearch, enter_copy, search_copy, copy_options, kept_copies, copy_refuses}
 use Rattle.book_copied_origins.proofs.LinkZero.{zero_in_set}
 use Rattle.book_copied_origins.proofs.Swaps.{turned, turned_n, turned_other, turned_back, turned_most, swapped_at, swapped_length, kept_next, swept_none, swept_one}
 

@@ -7,7 +7,7 @@ use native.Mathlib.Omega.{arith}
 use lib.Dec.{eqb}
 use lib.ListN.{length}
 use Rattle.laws.proofs.Members.{All}
-use Rattle.book_format.specs.Format.{links, origins, destinations, link_prev, link_prev_alt, destination_link}
+use Rattle.book_format.specs.Format.{links, origins, destinations, link_prev, link_prev_alt}
 use Rattle.book_format.specs.Rows.{row5}
 use Rattle.book_format.proofs.Given.{prev_named, prev_alt_named, destination_named}
 use Rattle.book_options.specs.Options.{member, origin_below, stacked, pushed, enter, search, options_of}

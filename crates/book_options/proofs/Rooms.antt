@@ -1,5 +1,5 @@
 -- How much the search asks for: document 02's sentence in bytes, the most that any book asks for, and the number that the sections tell.
-use mathlib.Core.Path.{◌≡◌, ap}
+use mathlib.Core.Path.{◌≡◌}
 use mathlib.Core.Bool.{false}
 use mathlib.Core.List.{List}
 use Prim.Native.Nat.{ℕ, ◌+◌, ◌*◌, ◌≤◌}

@@ -7,7 +7,7 @@ use lib.Dec.{eqb}
 use lib.ListN.{length, get_or, drop, get_or-append}
 use lib.Seq.{drop-append_seam}
 use Rattle.book_format.specs.declared.Sections.{Sections}
-use Rattle.book_format.specs.Format.{links, origins, destinations}
+use Rattle.book_format.specs.Format.{links, destinations}
 use Rattle.book_options.specs.Options.{search_room}
 use Rattle.book_options.proofs.Kept.{kept_most}
 use Rattle.book_reader.specs.declared.Reading.{Reading}

@@ -3,7 +3,7 @@
 -- The limits of counts are laws: crates/book_format/proofs/Limits.antt.
 use mathlib.Core.Path.{◌≡◌, refl}
 use mathlib.Core.List.{List, [], ◌∷◌, ◌++◌}
-use Prim.Native.Nat.{ℕ, zero, suc}
+use Prim.Native.Nat.{ℕ}
 use lib.Ieee.{of_bits, of_int, to_bits, lt, le}
 use Rattle.laws.specs.Below.{some_below, sum_below}
 use Rattle.laws.specs.Refusals.{first_of}

@@ -1,8 +1,8 @@
 -- What row 3 leaves: the counts, and room in the lent work space. More work space than is ever asked for counts as 64,000,000 bytes.
-use mathlib.Core.Path.{◌≡◌, refl, sym, ap, ◌∙◌, subst}
+use mathlib.Core.Path.{◌≡◌, refl, sym, ap, ◌∙◌}
 use mathlib.Core.Bool.{Bool, true, false, not, ◌||◌}
 use mathlib.Core.List.{List, ◌∷◌}
-use Prim.Native.Nat.{ℕ, zero, suc, ◌+◌, ◌*◌, ◌/◌, ◌≤◌, ◌<◌, min}
+use Prim.Native.Nat.{ℕ, ◌+◌, ◌*◌, ◌≤◌, ◌<◌, min}
 use native.Mathlib.Omega.{arith}
 use lib.Dec.{eqb, ltb}
 use lib.ListN.{length, take}
@@ -14,7 +14,7 @@ use Rattle.laws.proofs.Truth.{none_left, none_right}
 use Rattle.space.specs.Space.{units_of, bytes_of, zeros}
 use Rattle.space.proofs.Zeros.{zeros_front}
 use Rattle.book_format.specs.declared.Sections.{Sections}
-use Rattle.book_format.specs.Format.{Sized, links, origins, destinations, legs, samples, leg_samples}
+use Rattle.book_format.specs.Format.{Sized, legs, samples, leg_samples}
 use Rattle.book_format.specs.Rows.{bad_count, work_bytes, row1, row2, row3}
 use Rattle.book_format.specs.Chains.{Counted}
 use Rattle.book_format.proofs.Given.{limits}

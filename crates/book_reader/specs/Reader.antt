@@ -1,5 +1,5 @@
 -- The number of a book by rows 1 to 8, and what a book that passes them leaves in the work space.
-use Rattle.std.specs.Prelude.{◌≡◌, Bool, false, List, [], ◌∷◌, ℕ, ◌+◌, ◌*◌, ◌≤◌, length, get_or, drop}
+use Rattle.std.specs.Prelude.{◌≡◌, false, List, [], ◌∷◌, ℕ, ◌+◌, ◌*◌, ◌≤◌, length, get_or, drop}
 use Rattle.laws.specs.Refusals.{Row, row, first_of}
 use Rattle.space.specs.Lent.{Work, bytes_in, Cleared}
 use Rattle.book_format.specs.declared.Sections.{Sections}

@@ -1,14 +1,14 @@
 -- Laws of the walks over the legs' children: each way a turn of a walk can end, and each way a parent's walk can.
 use mathlib.Core.Path.{◌≡◌, refl, sym, ap, ◌∙◌, subst}
 use mathlib.Core.Logic.{◌⊎◌, inl, inr}
-use mathlib.Core.Bool.{Bool, true, false, ◌&&◌, cond, or-true}
+use mathlib.Core.Bool.{Bool, true, false, ◌&&◌, cond}
 use mathlib.Core.List.{List}
 use Prim.Native.Nat.{ℕ, zero, suc, ◌+◌, ◌-◌, ◌*◌, ◌≤◌, ◌<◌}
 use native.Mathlib.Nat.{not-suc-le-zero, le_of_suc-le-suc, eq-or-lt_of_le, lt_of_not-le}
 use native.Mathlib.Omega.{arith}
-use lib.Dec.{eqb, leb, ltb}
+use lib.Dec.{eqb}
 use lib.ListN.{length, get_or, set, length-set}
-use borrow.Author.Tests.{eq-eqb, eqb-true, eqb-false, leb-false, ltb-false}
+use borrow.Author.Tests.{eq-eqb, eqb-true, eqb-false}
 use Rattle.laws.specs.Below.{some_below}
 use Rattle.laws.proofs.Truth.{both, equal_or_not}
 use Rattle.laws.proofs.Below.{none_at, none_all, some_at}
@@ -16,7 +16,7 @@ use Rattle.space.specs.Space.{zeros}
 use Rattle.book_format.specs.declared.Sections.{Sections}
 use Rattle.book_format.specs.declared.Leg.{Leg}
 use Rattle.book_format.specs.Format.{links, legs, leg_link, leg_parent, leg_at}
-use Rattle.book_format.specs.Rows.{row5, bad_count, bad_leg_index, bad_leg, leg_repeats}
+use Rattle.book_format.specs.Rows.{leg_repeats}
 use Rattle.book_format.specs.Chains.{last_child, Chained, Readable}
 use Rattle.book_format.proofs.Given.{leg_named, leg_above, leg_link_lem}
 use Rattle.book_legs.proofs.Chains.{last_is}

@@ -1,21 +1,20 @@
 -- Laws of the sweep over the origins: an origin's link, and each way a turn can end.
 use mathlib.Core.Path.{◌≡◌, refl, sym, ap, ◌∙◌, subst}
 use mathlib.Core.Logic.{◌⊎◌, inl, inr}
-use mathlib.Core.Bool.{Bool, true, false, not, ◌||◌, true≢false, or-true}
+use mathlib.Core.Bool.{Bool, true, false, ◌||◌, true≢false}
 use mathlib.Core.List.{List}
 use Prim.Native.Nat.{ℕ, ◌+◌, ◌≤◌, ◌<◌}
 use native.Mathlib.Omega.{arith}
 use lib.Dec.{eqb}
 use lib.ListN.{length, get_or, set, length-set}
-use borrow.Author.Tests.{eq-eqb, eqb-true, leb-false, not-false}
+use borrow.Author.Tests.{eq-eqb, eqb-true}
 use Rattle.laws.specs.Below.{some_below}
-use Rattle.laws.proofs.Below.{some_more, none_more, none_at, some_at}
-use Rattle.floats.specs.Floats.{book_float}
+use Rattle.laws.proofs.Below.{some_more, none_more, some_at}
 use Rattle.space.specs.Space.{zeros}
 use Rattle.book_format.specs.declared.Sections.{Sections}
 use Rattle.book_format.specs.declared.Origin.{Origin}
-use Rattle.book_format.specs.Format.{Sized, links, origins, origin_link, origin_offset, origin_at}
-use Rattle.book_format.specs.Rows.{row4, row5, bad_origin_value, origin_repeats, no_such_link}
+use Rattle.book_format.specs.Format.{Sized, links, origins, origin_link, origin_at}
+use Rattle.book_format.specs.Rows.{row5, origin_repeats}
 use Rattle.book_format.proofs.Given.{origin_named, origin_link_lem}
 use Rattle.book_format.proofs.Places.{sized_origins}
 use Rattle.book_repeats.proofs.Marks.{Marked, mark_none, mark_more, zero_under}

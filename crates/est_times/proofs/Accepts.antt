@@ -1,8 +1,8 @@
 -- What a book leaves whose reading is accepted: none of rows 1 to 8 holds, and the lent work space is enough for growth and for the passes.
 use mathlib.Core.Path.{◌≡◌, refl, sym, ap, ◌∙◌, subst}
-use mathlib.Core.Bool.{Bool, true, false, not, ◌||◌}
-use mathlib.Core.List.{List, [], ◌∷◌}
-use Prim.Native.Nat.{ℕ, zero, suc, ◌+◌, ◌*◌, ◌/◌, ◌≤◌, ◌<◌, min}
+use mathlib.Core.Bool.{true, false, not, ◌||◌}
+use mathlib.Core.List.{List}
+use Prim.Native.Nat.{ℕ, ◌+◌, ◌*◌, ◌≤◌}
 use native.Mathlib.Omega.{arith}
 use borrow.Author.Tests.{not-false}
 use lib.ListN.{length}
@@ -15,7 +15,7 @@ use Rattle.floats.specs.Floats.{book_float}
 use Rattle.space.specs.Space.{units_of, bytes_of}
 use Rattle.book_format.specs.declared.Sections.{Sections}
 use Rattle.book_format.specs.Format.{links, origins, destinations, legs, samples, link_length, join_bits, departure_bits, length_bits}
-use Rattle.book_format.specs.Rows.{row1, row2, row3, row4, row5, row6, row7, work_bytes, bad_origin_value, bad_sample, bad_leg, leg_repeats, leg_falls, leg_begins}
+use Rattle.book_format.specs.Rows.{row1, row2, row3, row4, row5, row7, work_bytes, bad_origin_value, bad_sample, bad_leg, leg_repeats, leg_falls, leg_begins}
 use Rattle.book_format.proofs.Theorems.{length_by_counts}
 use Rattle.book_options.specs.Options.{row8, search_room}
 use Rattle.book_reader.specs.declared.Reading.{Reading}

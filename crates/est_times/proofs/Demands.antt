@@ -11,7 +11,8 @@ use Rattle.net_node.specs.Lent.{Sizes, places_in}
 use Rattle.net_node.proofs.Left.{kept_node}
 use Rattle.grow_rules.specs.Growth.{Grown, departure}
 use Rattle.arcs_growth.proofs.OneGrowth.{one_growth}
-use Rattle.arcs_passes.proofs.Sheet.{SheetWell, sheet_well, lent_arcs, lent_many, lent_ends, lent_taken, lent_of_runs}
+use Rattle.arcs_passes.proofs.Sheet.{SheetWell}
+use Rattle.arcs_passes.proofs.Finished.{sheet_well, lent_arcs, lent_many, lent_ends, lent_taken, lent_of_runs}
 use Rattle.est_times.specs.declared.Sheet.{Sheet}
 use Rattle.est_times.specs.Network.{zero_table, network}
 use Rattle.est_times.specs.Demand.{Noted, Demand}

@@ -1,7 +1,7 @@
 -- The answer of rows 1 to 13, and what an accepted network is: growth on a table that was zero.
 use mathlib.Core.Path.{◌≡◌, refl, sym, ap, ◌∙◌, subst}
 use mathlib.Core.List.{List}
-use Prim.Native.Nat.{ℕ, zero, suc, ◌*◌, ◌≤◌}
+use Prim.Native.Nat.{ℕ, zero, suc, ◌≤◌}
 use native.Mathlib.Omega.{arith}
 use lib.ListN.{length}
 use lib.Ieee.{Float}
@@ -10,8 +10,7 @@ use Rattle.laws.proofs.Answers.{Refuses}
 use Rattle.space.specs.Space.{zeros, zero_floats}
 use Rattle.space.proofs.Zeros.{zeros_length}
 use Rattle.book_reader.specs.Reader.{read_number}
-use Rattle.net_node.specs.Table.{Room, Table}
-use Rattle.net_node.specs.Left.{places_of}
+use Rattle.net_node.specs.Table.{Room}
 use Rattle.net_node.specs.Lent.{Sizes, places_in}
 use Rattle.grow_rules.specs.Growth.{Grown, grow}
 use Rattle.grow_book.specs.declared.GrownBook.{GrownBook}

@@ -1,7 +1,7 @@
 -- What document 01 says of every accepted book under "Arcs": the sheet in the lent table has lost, doubled, added and
 -- re-timed no arc of those that the growth rule notes.
 use Rattle.std.specs.Prelude.{◌≡◌, List, ℕ, ◌+◌, length}
-use Rattle.laws.specs.Answer.{Answer, given}
+use Rattle.laws.specs.Answer.{given}
 use Rattle.net_node.specs.Table.{Room, Table, at}
 use Rattle.grow_rules.specs.Run.{Arc, EndedRun}
 use Rattle.grow_rules.specs.Growth.{Grown, grow}

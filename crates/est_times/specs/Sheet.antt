@@ -1,6 +1,6 @@
 -- The whole job, `make_est_times`: a book is read, its network grown, checked and timed. Put together from the
 -- definitions of the crates below, with no new algorithm.
-use Rattle.std.specs.Prelude.{◌≡◌, List, ℕ, zero, suc, length}
+use Rattle.std.specs.Prelude.{◌≡◌, List, ℕ, length}
 use Rattle.laws.specs.Answer.{Answer, refused, given, and_then}
 use Rattle.report.specs.declared.Report.{Report}
 use Rattle.space.specs.Lent.{Cleared}

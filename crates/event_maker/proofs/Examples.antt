@@ -5,7 +5,6 @@ use mathlib.Core.Bool.{true}
 use mathlib.Core.List.{List, [], ◌∷◌, ◌++◌}
 use Prim.Native.Nat.{ℕ, zero, suc, ◌*◌, ◌/◌, ◌%◌}
 use lib.IntN.{pos}
-use lib.ListN.{length}
 use lib.Ieee.{Float, nan, fin, binary64, add, sub, mul, div, lt, le, is_nan, of_bits, to_bits, of_int, eq}
 use Rattle.floats.specs.Floats.{table_float, book_float, book_value, smaller}
 use Rattle.fields.specs.Fields.{u64_at, u32_at}

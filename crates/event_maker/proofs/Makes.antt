@@ -13,8 +13,8 @@ use Rattle.event_walk.specs.declared.Movement.{Movement}
 use Rattle.event_walk.specs.Course.{Course, course_of, Held, Walkable}
 use Rattle.event_walk.specs.Walk.{points_passed, row11}
 use Rattle.event_maker.specs.declared.Made.{Made}
-use Rattle.event_maker.specs.declared.Made.TheVariants.{Listed, Refused}
-use Rattle.event_maker.specs.Maker.{movement_of, lent_course, bad_counts, bad_floats, falling, rows_to11, answered, answer_of, made_number, made_count, list_places, floats_as, numbers_as, LentLeg, EventList, EventsMade, course_in, places_in}
+use Rattle.event_maker.specs.declared.Made.TheVariants.{Refused}
+use Rattle.event_maker.specs.Maker.{movement_of, lent_course, bad_counts, bad_floats, falling, rows_to11, answered, answer_of, made_count, list_places, floats_as, numbers_as, LentLeg, EventList, EventsMade, course_in, places_in}
 use Rattle.event_maker.specs.Parts.{first_number, walk_answer, FloatsListed, NumbersListed, is_refused, kept_floats, kept_numbers}
 use Rattle.event_maker.proofs.Rows.{within_counts, left_held, left_walkable, answer_refused, answer_walk}
 use Rattle.event_maker.proofs.Walks.{passed_most, floats_kept_lem, numbers_kept_lem}

@@ -2,7 +2,7 @@
 use mathlib.Core.Path.{◌≡◌, refl, sym, ap, ◌∙◌, subst}
 use mathlib.Core.Bool.{Bool, true, false, not, ◌||◌, cond, true≢false}
 use mathlib.Core.List.{List, [], ◌∷◌, ◌++◌}
-use Prim.Native.Nat.{ℕ, zero, suc, ◌+◌, ◌-◌, ◌*◌, ◌≤◌, ◌<◌}
+use Prim.Native.Nat.{ℕ, suc, ◌+◌, ◌-◌, ◌*◌, ◌≤◌, ◌<◌}
 use native.Mathlib.Omega.{arith}
 use borrow.Author.Tests.{not-false}
 use lib.Dec.{T, ltb}
@@ -28,7 +28,6 @@ use Rattle.event_walk.specs.Course.{Course, course_of, Held, Rises, Walkable}
 use Rattle.event_walk.specs.Walk.{points_passed, reaches_last, some_bad, row11}
 use Rattle.event_walk.proofs.Searches.{size_number, rises_of, samples_rise}
 use Rattle.event_walk.proofs.Steps.{reaches_is}
-use Rattle.event_maker.specs.declared.Made.{Made}
 use Rattle.event_maker.specs.declared.Made.TheVariants.{Listed, Refused}
 use Rattle.event_maker.specs.Maker.{bad_counts, bad_floats, falling, rows_to11, answered, answer_of}
 use Rattle.event_maker.specs.Parts.{number_of, first_number, sweep_number, bad_offset, offset_falls, bad_at, falls_at, count_answer, walk_answer}

@@ -1,7 +1,7 @@
 -- A walk looks at a course's samples and points below their counts alone: two courses that agree there have the same events.
 use mathlib.Core.Path.{◌≡◌, refl, sym, ap, ◌∙◌, subst}
-use mathlib.Core.Bool.{Bool, true, false, ◌||◌, cond}
-use mathlib.Core.List.{List, [], ◌∷◌}
+use mathlib.Core.Bool.{Bool, true, false, cond}
+use mathlib.Core.List.{List, ◌∷◌}
 use Prim.Native.Nat.{ℕ, zero, suc, ◌+◌, ◌-◌, ◌≤◌, ◌<◌}
 use native.Mathlib.Omega.{arith}
 use borrow.Author.Tests.{ltb-true, ltb-false}
@@ -14,7 +14,7 @@ use Rattle.book_format.specs.declared.Sample.{Sample}
 use Rattle.event_walk.specs.declared.Heads.{Heads}
 use Rattle.event_walk.specs.declared.PassedPoint.{PassedPoint}
 use Rattle.event_walk.specs.Course.{Course, Walkable}
-use Rattle.event_walk.specs.Walk.{first_beyond, start_back, start_front, start, offset_next, in_range, clears_next, emits, turn, turned, passed_next, passed_as, walk, turns_left, passed_from, points_passed, reaches_last, Within}
+use Rattle.event_walk.specs.Walk.{first_beyond, start_back, start_front, start, offset_next, in_range, clears_next, emits, turned, passed_next, passed_as, walk, turns_left, passed_from, points_passed, reaches_last, Within}
 use Rattle.event_walk.proofs.Turns.{heads, walk_past, walk_turn, turn_is, emits_is, within_on, within_clear, within_arrive}
 use Rattle.event_walk.proofs.Starts.{within_start}
 

@@ -1,11 +1,10 @@
 -- The walk of the source's `update_est_times_add`: which points are passed, in order, and when. The back point is the
 -- next that the train's end reaches, the front point the next that its front reaches; the event that comes first is
 -- emitted and its point moves on, sample by sample.
-use Rattle.std.specs.Prelude.{◌≡◌, Bool, true, false, not, ◌&&◌, ◌||◌, cond, List, [], ◌∷◌, ℕ, zero, suc, ◌+◌, ◌-◌, ◌*◌, ◌≤◌, ◌<◌, ltb, eqb, Float}
+use Rattle.std.specs.Prelude.{◌≡◌, Bool, true, false, not, ◌&&◌, ◌||◌, cond, List, [], ◌∷◌, ℕ, zero, suc, ◌+◌, ◌-◌, ◌≤◌, ◌<◌, ltb, eqb, Float}
 use Rattle.std.specs.Float.{binary64}
 use Rattle.std.specs.Float.Ieee.{sub, le}
 use Rattle.laws.specs.Below.{some_below}
-use Rattle.net_node.specs.declared.EstType.{EstType}
 use Rattle.net_node.specs.declared.EstType.TheVariants.{Arrive, Clear}
 use Rattle.event_formula.specs.declared.Passing.{Passing}
 use Rattle.event_formula.specs.Event.{event_offset, clears, passing_at, bad_passing}
@@ -13,7 +12,7 @@ use Rattle.event_walk.specs.declared.Heads.{Heads}
 use Rattle.event_walk.specs.declared.PassedPoint.{PassedPoint}
 use Rattle.event_walk.specs.declared.Next.{Next}
 use Rattle.event_walk.specs.declared.Next.TheVariants.{Passed, End}
-use Rattle.event_walk.specs.Course.{Course, Walkable}
+use Rattle.event_walk.specs.Course.{Course}
 
 -- ---- where the walk begins
 

@@ -16,7 +16,7 @@ use Rattle.book_format.proofs.Places.{sized_legs}
 use Rattle.grow_waiting.specs.Held.{Waiting, SavedIn}
 use Rattle.grow_waiting.proofs.Kept.{saved_end}
 use Rattle.grow_rules.specs.Run.{Net, Run}
-use Rattle.grow_rules.specs.Growth.{Growth, take_leg, drive}
+use Rattle.grow_rules.specs.Growth.{Growth, drive}
 use Rattle.grow_state.specs.declared.Plan.{Plan}
 use Rattle.grow_state.specs.declared.State.{State}
 use Rattle.grow_state.specs.declared.GrowthAnswer.{GrowthAnswer}

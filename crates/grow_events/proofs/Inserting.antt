@@ -14,7 +14,7 @@ use Rattle.laws.specs.Answer.{refused}
 use Rattle.net_node.specs.declared.EstType.TheVariants.{Fake}
 use Rattle.net_node.specs.declared.EstTime.{EstTime}
 use Rattle.net_node.specs.declared.TimedEvent.{TimedEvent}
-use Rattle.net_node.specs.Table.{node_at, Indexed, Table, at, with_next_alt}
+use Rattle.net_node.specs.Table.{node_at, Indexed, Table, at}
 use Rattle.net_insertion.specs.declared.Place.{Place}
 use Rattle.net_insertion.specs.declared.Inserted.{Inserted}
 use Rattle.net_insertion.specs.declared.Inserted.TheVariants.{Added, Moved, Refused}

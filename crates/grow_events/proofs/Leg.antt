@@ -8,7 +8,7 @@ use Prim.Native.Nat.{ℕ, zero, suc, ◌+◌, ◌*◌, ◌≤◌, ◌<◌, ◌-�
 use native.Mathlib.Omega.{arith}
 use lib.Dec.{ltb}
 use lib.Ieee.{Float}
-use lib.ListN.{length, get_or}
+use lib.ListN.{length}
 use Rattle.laws.specs.Answer.{Answer, refused, and_then}
 use Rattle.net_node.specs.declared.TimedEvent.{TimedEvent}
 use Rattle.event_formula.specs.declared.Passing.{Passing}

@@ -1,18 +1,17 @@
 -- Whether a link is a destination, and the links over which a run can go on behind it.
 use mathlib.Core.Path.{◌≡◌, refl, sym, ap, ◌∙◌, subst}
-use mathlib.Core.Bool.{Bool, true, false, not, ◌&&◌, ◌||◌}
+use mathlib.Core.Bool.{Bool, true, false}
 use mathlib.Core.List.{List}
-use Prim.Native.Nat.{ℕ, ◌+◌, ◌%◌, ◌≤◌, ◌<◌}
+use Prim.Native.Nat.{ℕ, ◌+◌, ◌%◌, ◌<◌}
 use native.Mathlib.Omega.{arith}
-use borrow.Author.Tests.{eq-eqb, ne_eqb, eqb-false, ltb-false, leb-false}
-use lib.Dec.{eqb, ltb}
+use borrow.Author.Tests.{eq-eqb, ne_eqb}
+use lib.Dec.{eqb}
 use lib.ListN.{get_or}
 use Rattle.laws.specs.Answer.{refused, and_then}
 use Rattle.laws.specs.Below.{some_below}
-use Rattle.laws.proofs.Below.{some_at, none_at, none_left, none_right, none_more}
+use Rattle.laws.proofs.Below.{some_at, none_more}
 use Rattle.book_format.specs.declared.Link.{Link}
-use Rattle.book_format.specs.Format.{links, origins, destinations, legs, link_at, link_length, link_next, link_next_alt, link_prev, link_prev_alt, origin_link, destination_link}
-use Rattle.book_format.specs.Rows.{no_such_link, link_zero, bad_link, bad_leg_index, row5}
+use Rattle.book_format.specs.Format.{links, destinations, link_at, link_next, link_next_alt, destination_link}
 use Rattle.book_options.specs.Options.{OptionsIn, in_set}
 use Rattle.grow_rules.specs.Run.{Net, Run}
 use Rattle.grow_rules.specs.Growth.{is_destination, on_over, save_over, on_as}

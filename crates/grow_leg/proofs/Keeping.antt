@@ -1,5 +1,5 @@
 -- Parents of the plan's legs, how many entries wait, and what a longer path leaves. What a change elsewhere leaves is in state's proofs/Keeping.antt.
-use mathlib.Core.Path.{◌≡◌, refl, ap, ◌∙◌}
+use mathlib.Core.Path.{◌≡◌, ap, ◌∙◌}
 use mathlib.Core.List.{List, [], ◌∷◌, ◌++◌, append_assoc}
 use Prim.Native.Nat.{ℕ, ◌-◌}
 use native.Mathlib.Omega.{arith}

@@ -1,7 +1,7 @@
 -- Paths of legs: what is on a path, and which links it goes over.
 use mathlib.Core.Path.{◌≡◌, refl, sym, ap, ◌∙◌, subst}
 use mathlib.Core.Logic.{◌⊎◌, inl, inr}
-use mathlib.Core.Bool.{Bool, true, false, ◌&&◌, ◌||◌, cond}
+use mathlib.Core.Bool.{Bool, true, false, ◌||◌}
 use mathlib.Core.List.{List, [], ◌∷◌, ◌++◌}
 use Prim.Native.Nat.{ℕ, zero, suc, ◌+◌, ◌-◌, ◌≤◌, ◌<◌}
 use native.Mathlib.Omega.{arith}
@@ -11,7 +11,6 @@ use lib.ListN.{length, length-append}
 use Rattle.laws.proofs.Truth.{true_or_false, not_both}
 use Rattle.laws.proofs.Below.{or_left, or_right}
 use Rattle.book_format.specs.Format.{links, legs, leg_link, leg_parent}
-use Rattle.book_format.specs.Chains.{leg_below}
 use Rattle.grow_path.specs.Path.{legs_to, path_of, link_of, point_link}
 use Rattle.grow_path.proofs.Paths.{Above, path_more}
 use Rattle.grow_rules.specs.Run.{member_of}

@@ -8,11 +8,10 @@ use Prim.Native.Nat.{ℕ, suc, ◌+◌, ◌-◌, ◌<◌}
 use native.Mathlib.Omega.{arith}
 use borrow.Author.Tests.{ltb-true}
 use lib.Dec.{ltb}
-use lib.Ieee.{Float, binary64, add, of_bits}
+use lib.Ieee.{Float}
 use Rattle.net_node.proofs.Tables.{RoomIn}
 use Rattle.laws.specs.Answer.{Answer, refused, given, and_then}
-use Rattle.book_format.specs.Format.{origin_link, length_bits, float_of}
-use Rattle.net_node.specs.declared.EstType.TheVariants.{Arrive, Clear}
+use Rattle.book_format.specs.Format.{origin_link}
 use Rattle.net_node.specs.declared.EstTime.{EstTime}
 use Rattle.net_node.specs.declared.TimedEvent.{TimedEvent}
 use Rattle.net_node.specs.Table.{Indexed, Table, at, with_next_alt}

@@ -1,6 +1,6 @@
 -- An origin's Arrive and Clear, inserted at the start one after the other.
 use mathlib.Core.Path.{◌≡◌, refl, sym, ap, ◌∙◌, subst}
-use mathlib.Core.Bool.{Bool, true, false}
+use mathlib.Core.Bool.{true, false}
 use mathlib.Core.List.{List, [], ◌∷◌}
 use Prim.{Unit, tt}
 use Prim.Native.Nat.{ℕ, ◌≤◌, ◌<◌}
@@ -8,11 +8,9 @@ use native.Mathlib.Omega.{arith}
 use lib.Ieee.{Float, binary64, add, of_bits}
 use Rattle.net_node.specs.Table.{Table}
 use Rattle.laws.specs.Answer.{Answer, refused, given, and_then}
-use Rattle.book_format.specs.Format.{length_bits, float_of}
 use Rattle.net_node.specs.declared.EstType.{EstType}
 use Rattle.net_node.specs.declared.EstType.TheVariants.{Arrive, Clear}
 use Rattle.net_node.specs.declared.TimedEvent.{TimedEvent}
-use Rattle.net_insertion.specs.declared.Place.{Place}
 use Rattle.net_insertion.specs.declared.Inserted.{Inserted}
 use Rattle.net_insertion.specs.declared.Inserted.TheVariants.{Added, Moved}
 use Rattle.net_insertion.specs.declared.Inserted.TheVariants.{Refused as NotIn}

@@ -6,11 +6,10 @@ use Rattle.std.specs.Float.Ieee.{of_bits}
 use Rattle.net_node.specs.Table.{Table}
 use Rattle.laws.specs.Answer.{Answer, refused, given, and_then}
 use Rattle.book_format.specs.Format.{leg_parent, leg_link, origin_link}
-use Rattle.net_node.specs.declared.EstType.TheVariants.{Arrive}
 use Rattle.net_node.specs.declared.EstTime.{EstTime}
 use Rattle.net_node.specs.declared.TimedEvent.{TimedEvent}
 use Rattle.net_insertion.specs.declared.Place.{Place}
-use Rattle.net_insertion.specs.Insertion.{inserted, inserted_table, table_of}
+use Rattle.net_insertion.specs.Insertion.{inserted, inserted_table}
 use Rattle.grow_rules.specs.Run.{Net, Run, After, Outcome, insert_event, goes_on}
 use Rattle.grow_rules.specs.Growth.{join_gap, origin_event, origin_run, seek_leg, Growth, origin_clear, grow_origin}
 use Rattle.grow_rules.specs.Growth.{origin_arrive}

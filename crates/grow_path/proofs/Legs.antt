@@ -1,31 +1,30 @@
 -- A leg of a book that was read, with its path in the work space: what the walk looks at is what the definition says, and it is sound.
 use mathlib.Core.Path.{◌≡◌, refl, sym, ap, ◌∙◌, subst}
-use mathlib.Core.Bool.{Bool, true, false, ◌&&◌, true≢false}
+use mathlib.Core.Bool.{Bool, true, false, ◌&&◌}
 use mathlib.Core.List.{List}
 use Prim.Native.Nat.{ℕ, zero, suc, ◌+◌, ◌-◌, ◌*◌, ◌≤◌, ◌<◌}
 use native.Mathlib.Omega.{arith}
 use borrow.Author.Tests.{eqb-false}
-use lib.Dec.{T, eqb, ltb}
+use lib.Dec.{eqb, ltb}
 use lib.ListN.{length, get_or}
-use lib.Ieee.{Float, nan, inf, fin, binary64, top, add, le, fits, of_bits}
+use lib.Ieee.{Float, nan, binary64, top, le, of_bits}
 use lib.Ieee.Fits.{add-fits}
 use lib.Ieee.Scale.{finite}
 use Rattle.laws.proofs.Truth.{and_right}
 use Rattle.fields.specs.Fields.{u64_at}
-use Rattle.laws.specs.Below.{sum_below}
 use Rattle.laws.proofs.Below.{none_at, sum_more, sum_part}
 use Rattle.floats.specs.Floats.{table_float, book_float, Size}
 use Rattle.floats.proofs.Laws.{table_finite}
 use Rattle.floats.proofs.Order.{size_of_bits, add_grows, le_trans}
 use Rattle.book_format.specs.declared.Sample.{Sample}
 use Rattle.book_format.specs.declared.Sections.{Sections}
-use Rattle.book_format.specs.Format.{links, legs, samples, samples_at_of, end_of, link_length, leg_samples, first_sample, sample_from, sample_at, length_bits, float_of}
+use Rattle.book_format.specs.Format.{legs, samples, samples_at_of, end_of, link_length, leg_samples, first_sample, sample_from, sample_at, length_bits, float_of}
 use Rattle.book_format.specs.Rows.{bad_sample_from, bad_sample, sample_falls, row7}
 use Rattle.book_format.specs.Chains.{Readable}
 use Rattle.book_format.proofs.Floats.{sample_floats}
-use Rattle.book_format.proofs.Given.{link_float, length_float, sample_good, leg_rises}
+use Rattle.book_format.proofs.Given.{length_float, sample_good, leg_rises}
 use Rattle.event_walk.specs.declared.Movement.{Movement}
-use Rattle.event_walk.specs.Course.{Course, course_of, Held, Rises}
+use Rattle.event_walk.specs.Course.{course_of, Held}
 use Rattle.event_walk.proofs.Searches.{samples_rise}
 use Rattle.event_walk.proofs.Alike.{Alike}
 use Rattle.grow_path.specs.Path.{path_of, point_link, point_offset, leg_course}

@@ -1,11 +1,11 @@
 -- Row 11 over a leg's events: the test goes from event to event, and what is left has a bad one just if the leg has.
 use mathlib.Core.Path.{◌≡◌, refl, sym, ap, ◌∙◌}
 use mathlib.Core.Bool.{Bool, true, false, ◌||◌}
-use mathlib.Core.List.{List, [], ◌∷◌}
-use Prim.Native.Nat.{ℕ, ◌-◌, ◌≤◌, ◌<◌}
+use mathlib.Core.List.{[], ◌∷◌}
+use Prim.Native.Nat.{◌-◌, ◌<◌}
 use native.Mathlib.Omega.{arith}
 use lib.ListN.{length}
-use lib.Ieee.{lt, le}
+use lib.Ieee.{le}
 use Rattle.laws.proofs.Below.{or_left, none_at}
 use Rattle.floats.proofs.Order.{not_le}
 use Rattle.event_walk.specs.declared.Heads.{Heads}

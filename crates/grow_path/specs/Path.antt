@@ -1,7 +1,7 @@
 -- A run's path and its events in one leg. Document 01 under "Arcs": "A run is an origin and the legs that the driver
 -- takes for it, from one with parent 0, each the parent of the next." Under "Events": "A path of links has points at 0
 -- and at each running sum of lengths, naming the link that starts there; the last names 0."
-use Rattle.std.specs.Prelude.{List, [], ◌∷◌, ◌++◌, ℕ, zero, suc, ◌+◌, ◌-◌, length, get_or, Float}
+use Rattle.std.specs.Prelude.{List, [], ◌∷◌, ◌++◌, ℕ, zero, suc, ◌+◌, ◌-◌, length, Float}
 use Rattle.std.specs.Float.{binary64}
 use Rattle.std.specs.Float.Ieee.{add, of_bits}
 use Rattle.book_format.specs.Format.{link_length, leg_link, leg_parent, leg_samples, first_sample, sample_at, length_bits}

@@ -5,9 +5,9 @@ use mathlib.Core.List.{List, [], ◌∷◌}
 use Prim.Native.Nat.{ℕ, zero, suc, ◌*◌}
 use Rattle.laws.specs.Answer.{Answer, refused, given}
 use Rattle.net_node.specs.declared.EstTime.{EstTime}
-use Rattle.net_node.specs.Table.{kind_number, Table, put, at, with_next_alt, with_prev_alt, float_width, number_width}
+use Rattle.net_node.specs.Table.{kind_number, Table, put, at, float_width, number_width}
 use lib.ListN.{replicate}
-use lib.Ieee.{Float, binary64, of_bits, to_bits, of_int, add, sub, mul, div, lt, le, eq, round, sum, is_nan, neg, below, level}
+use lib.Ieee.{binary64, of_bits, to_bits, of_int, add, sub, mul, div, lt, le, eq, round, sum, is_nan, neg}
 use Rattle.book_format.proofs.SmallBooks as Small
 use Rattle.grow_rules.specs.Run.{Arc}
 use Rattle.grow_rules.specs.Growth.{Grown}

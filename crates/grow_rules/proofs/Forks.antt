@@ -3,12 +3,11 @@
 use mathlib.Core.Path.{◌≡◌, refl}
 use mathlib.Core.Bool.{true, false}
 use mathlib.Core.List.{List, [], ◌∷◌, ◌++◌}
-use Prim.Native.Nat.{ℕ, zero, suc, ◌*◌}
+use Prim.Native.Nat.{ℕ, ◌*◌}
 use lib.ListN.{replicate}
-use lib.Ieee.{Float, binary64, of_bits, to_bits, of_int, add, sub, mul, div, lt, le, eq, round, sum, is_nan, neg, below, level}
+use lib.Ieee.{binary64, of_bits, to_bits, of_int, add, sub, mul, div, lt, le, eq, round, sum, is_nan, neg}
 use Rattle.laws.specs.Answer.{Answer, refused, given}
-use Rattle.net_node.specs.declared.EstTime.{EstTime}
-use Rattle.net_node.specs.Table.{Table, table_of, put, at, with_next, with_next_alt, with_prev_alt, float_width, number_width}
+use Rattle.net_node.specs.Table.{Table, table_of, put, at, with_next, float_width, number_width}
 use Rattle.grow_rules.specs.Run.{Arc, Net, Run}
 use Rattle.grow_rules.specs.Growth.{Grown}
 use Rattle.laws.specs.Below.{some_below, sum_below}

@@ -2,7 +2,7 @@
 -- before its insertions. The leg is found or the book is refused with 10; it is sought where the source extends the
 -- path: an origin's after its Clear is added, an alternative's before the run goes on. A run finishes in the leg whose
 -- link is a destination, never in its first leg. End Fakes are pushed for the ends in reverse."
-use Rattle.std.specs.Prelude.{Bool, true, false, not, ◌&&◌, ◌||◌, cond, List, [], ◌∷◌, ℕ, zero, suc, ◌+◌, ◌-◌, eqb, ltb, length, Float}
+use Rattle.std.specs.Prelude.{Bool, true, false, not, ◌&&◌, ◌||◌, List, [], ◌∷◌, ℕ, zero, suc, ◌+◌, ◌-◌, eqb, ltb, length, Float}
 use Rattle.std.specs.Float.{binary64}
 use Rattle.std.specs.Float.Ieee.{add, of_bits}
 use Rattle.laws.specs.Answer.{Answer, refused, given, and_then}
@@ -19,8 +19,6 @@ use Rattle.net_node.specs.declared.EstType.TheVariants.{Arrive, Clear}
 use Rattle.net_node.specs.declared.EstTime.{EstTime}
 use Rattle.net_node.specs.declared.TimedEvent.{TimedEvent}
 use Rattle.net_node.specs.Table.{blank, Table, put, at, with_arc, with_next, with_prev, with_prev_alt}
-use Rattle.net_insertion.specs.declared.Place.{Place}
-use Rattle.net_join_paths.specs.declared.EstJoinPath.{EstJoinPath}
 use Rattle.grow_path.specs.Path.{link_of, leg_course, leg_events}
 use Rattle.net_node.specs.Left.{Network}
 use Rattle.grow_rules.specs.Run.{Arc, EndedRun, Net, Run, After, Outcome, Ended, On, arc_to_end, member_of}

@@ -1,11 +1,10 @@
 -- One event of a run: joins, then insertion, with what the growth rule notes. Document 01 under "Arcs": "The growth
 -- rule is a definition over the book alone: the growth above on a table of its own, beside it a list, empty at first."
-use Rattle.std.specs.Prelude.{Bool, true, false, ◌||◌, List, [], ◌∷◌, ◌++◌, ℕ, zero, suc, ◌+◌, eqb, Float}
+use Rattle.std.specs.Prelude.{Bool, true, false, ◌||◌, List, [], ◌∷◌, ◌++◌, ℕ, suc, eqb, Float}
 use Rattle.std.specs.Float.{binary64}
 use Rattle.std.specs.Float.Ieee.{sub, of_bits}
 use Rattle.net_node.specs.Table.{Table, at}
 use Rattle.laws.specs.Answer.{Answer, refused, given, and_then}
-use Rattle.net_node.specs.declared.EstTime.{EstTime}
 use Rattle.net_node.specs.declared.TimedEvent.{TimedEvent}
 use Rattle.net_insertion.specs.declared.Place.{Place}
 use Rattle.net_insertion.specs.declared.Inserted.{Inserted}

@@ -9,7 +9,7 @@ use native.Mathlib.Numerals.{sub-one}
 use native.Mathlib.Omega.{arith}
 use borrow.Author.Tests.{lt-ltb, le-ltb, ltb-true, ltb-false, eqb-true, eqb-false, ne_eqb}
 use lib.Dec.{T, ltb, eqb, lit<}
-use lib.Ieee.{Float, nan, binary64, ne, to_bits}
+use lib.Ieee.{Float, binary64, to_bits}
 use Rattle.listing.specs.Listing.{glyph, digits, places, decimal, unless_zero, trimmed, one_kept, float}
 
 -- ---- digits

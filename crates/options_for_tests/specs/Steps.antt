@@ -1,6 +1,5 @@
 -- What the steps of the entry ask for and leave. Only the contracts of private functions use these words.
 use Rattle.std.specs.Prelude.{◌≡◌, List, ℕ, length}
-use Rattle.space.specs.Space.{zeros}
 use Rattle.book_options.specs.Options.{kept_origins, OptionsIn}
 use Rattle.book_reader.specs.declared.Reading.{Reading}
 use Rattle.book_reader.specs.Reader.{reading_number, ReadInto}

@@ -4,7 +4,7 @@ use mathlib.Core.Path.{◌≡◌, refl}
 use mathlib.Core.List.{List, [], ◌∷◌}
 use Prim.Native.Nat.{ℕ, zero, suc, ◌/◌}
 use lib.ListN.{length, get_or, drop}
-use lib.Ieee.{Float, binary64, of_bits, to_bits, add, sub, lt, le, eq, round, sum, is_nan, neg, below, level}
+use lib.Ieee.{Float, binary64, of_bits, to_bits, add, sub, lt, le, eq, round, sum, is_nan, neg}
 use Rattle.net_node.specs.declared.EstTime.{EstTime}
 use Rattle.net_node.specs.Table.{kind_number, kind_of, Table, table_of, at, set_time, set_next, set_prev, set_arc}
 use Rattle.net_node.specs.Table.{blank, with_time, with_arc, with_speed, with_event, with_next, with_next_alt, with_prev, with_prev_alt}

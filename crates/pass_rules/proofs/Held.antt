@@ -8,10 +8,8 @@ use borrow.Author.Tests.{ltb-true, lt-leb, ne_eqb}
 use Rattle.laws.proofs.Truth.{and_left, and_right}
 use Rattle.laws.specs.Below.{some_below}
 use Rattle.laws.proofs.Below.{some_at, none_more}
-use Rattle.net_node.specs.declared.EstType.{EstType}
-use Rattle.net_node.specs.declared.EstType.TheVariants.{Arrive, Clear, Fake}
 use Rattle.net_node.specs.declared.EstTime.{EstTime}
-use Rattle.net_node.specs.Table.{kind_number, fake_kind, is_fake}
+use Rattle.net_node.specs.Table.{fake_kind, is_fake}
 use Rattle.pass_rules.specs.Checks.{differ, prev_holds, next_holds, fake_holds, prev_leads, next_leads, not_both_alternates, node_holds, row14}
 use Rattle.pass_rules.specs.Plain.{plain}
 

@@ -6,7 +6,6 @@ use Rattle.std.specs.Float.Ieee.{add, of_bits, is_nan}
 use Rattle.net_node.specs.Table.{Table, at, is_fake, set_time, set_next, set_prev}
 use Rattle.pass_queue.specs.declared.Entry.{Entry}
 use Rattle.pass_queue.specs.Queue.{best, others}
-use Rattle.net_node.specs.declared.EstTime.{EstTime}
 use Rattle.laws.specs.Answer.{Answer, given, and_then}
 use Rattle.pass_rules.specs.Net.{failed, asserting, Pass, also_done}
 

@@ -2,7 +2,7 @@
 use mathlib.Core.Path.{◌≡◌, refl, sym, ap, subst}
 use mathlib.Core.Bool.{Bool, true, false, ◌||◌}
 use lib.Dec.{T}
-use lib.Ieee.{Float, nan, inf, fin, binary64, ne, is_nan, fits}
+use lib.Ieee.{Float, binary64, ne, is_nan, fits}
 use lib.Ieee.Compare.{differs_from_itself}
 use Rattle.floats.proofs.Laws.{no_nan}
 use Rattle.pass_queue.specs.declared.Entry.{Entry}

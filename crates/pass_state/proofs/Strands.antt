@@ -14,7 +14,7 @@ use Rattle.pass_rules.specs.Net.{Pass}
 use Rattle.pass_rules.specs.Walks.{done_in}
 use Rattle.pass_state.specs.declared.Stands.{Stands}
 use Rattle.pass_state.specs.declared.Stands.TheVariants.{On, Nowhere}
-use Rattle.pass_state.specs.Held.{PassSlices, slices, left, PassIn, Working, Gives, StandsAs}
+use Rattle.pass_state.specs.Held.{PassSlices, left, PassIn, Working, Gives, StandsAs}
 use Rattle.pass_state.specs.Promises.{stops_by}
 use Rattle.pass_state.proofs.Left.{left_most}
 use Rattle.pass_state.proofs.Kept.{works, node_in}

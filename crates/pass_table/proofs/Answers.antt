@@ -16,7 +16,7 @@ use Rattle.pass_rules.specs.Passes.{passes}
 use Rattle.pass_all.specs.Answers.{TimedAs}
 use Rattle.pass_table.specs.declared.TimedTable.{TimedTable}
 use Rattle.pass_table.specs.declared.TimedTable.TheVariants.{Whole, Refused}
-use Rattle.pass_table.specs.TableEntry.{table_times, wholly, times_of, timed_answer, table_number, table_nodes, TimesUpdated}
+use Rattle.pass_table.specs.TableEntry.{table_times, wholly, times_of, timed_answer, table_nodes, TimesUpdated}
 use Rattle.pass_table.specs.Parts.{first_number, kept_nodes, answer_as}
 use Rattle.pass_table.proofs.FirstRows.{nonzero, most_nodes}
 

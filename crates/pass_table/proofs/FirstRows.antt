@@ -2,7 +2,7 @@
 use mathlib.Core.Path.{◌≡◌, refl, sym, ap, ◌∙◌}
 use mathlib.Core.Bool.{Bool, true, false, not, ◌||◌}
 use mathlib.Core.List.{List, [], ◌∷◌}
-use Prim.Native.Nat.{ℕ, zero, suc, ◌+◌, ◌*◌, ◌/◌, ◌≤◌, ◌<◌, min}
+use Prim.Native.Nat.{ℕ, suc, ◌+◌, ◌*◌, ◌≤◌, ◌<◌, min}
 use native.Mathlib.Omega.{arith}
 use borrow.Author.Tests.{lt-ltb, le-ltb, ltb-true, ltb-false, leb-false}
 use lib.Dec.{ltb, leb}
@@ -14,15 +14,13 @@ use Rattle.laws.specs.Refusals.{row, first_of}
 use Rattle.laws.proofs.Refusals.{first_holds, first_passed, none_holds}
 use Rattle.laws.proofs.Below.{or_left, none_left, none_right, some_more, none_more, some_at, none_at}
 use Rattle.floats.specs.Floats.{table_float}
-use Rattle.space.specs.Space.{units_of, bytes_of}
+use Rattle.space.specs.Space.{units_of}
 use Rattle.net_node.specs.declared.EstTime.{EstTime}
 use Rattle.net_node.specs.Table.{float_width, number_width, node_at, Room, Table, at}
 use Rattle.net_node.specs.Left.{nodes_in, kind_at}
 use Rattle.pass_rules.specs.Walks.{Inside}
-use Rattle.pass_table.specs.declared.TimedTable.{TimedTable}
-use Rattle.pass_table.specs.declared.TimedTable.TheVariants.{Whole, Refused}
 use Rattle.pass_table.specs.TableEntry.{table_row3, table_row4, table_row5, table_rows, bad_floats, bad_node, stray_node}
-use Rattle.pass_table.specs.Parts.{nodes_number, first_number, kept_nodes, answer_as}
+use Rattle.pass_table.specs.Parts.{nodes_number, first_number}
 
 -- ---- row 3
 

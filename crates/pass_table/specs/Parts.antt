@@ -1,5 +1,5 @@
 -- Words of the table entry's parts. Only the contracts of private functions use them.
-use Rattle.std.specs.Prelude.{Bool, true, false, [], ◌∷◌, ℕ, zero, suc, Float}
+use Rattle.std.specs.Prelude.{[], ◌∷◌, ℕ, zero, suc, Float}
 use Rattle.net_node.specs.Table.{Table}
 use Rattle.laws.specs.Below.{some_below}
 use Rattle.laws.specs.Refusals.{row, first_of}

@@ -1,6 +1,5 @@
 -- `book_repeats::legs_repeat` meets its contract: `Parents` is the loop's invariant.
 use mathlib.Core.Path.{sym, ◌∙◌}
-use Prim.Native.Nat.{◌-◌}
 use native.Mathlib.Omega.{arith}
 use Rattle.book_format.proofs.Places.{sized_legs}
 use Rattle.book_repeats.proofs.Children.{parents_start, parents_found, parents_on, parents_all}

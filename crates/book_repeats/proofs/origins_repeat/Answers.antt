@@ -1,5 +1,4 @@
 -- `book_repeats::origins_repeat` meets its contract: `Swept` is the loop's invariant.
-use Prim.Native.Nat.{◌-◌}
 use native.Mathlib.Omega.{arith}
 use Rattle.book_format.proofs.Places.{sized_origins}
 use Rattle.book_format.proofs.Given.{origin_float}

@@ -1,7 +1,7 @@
 -- `event_maker::points_number` meets its contract: `Swept` is the loop's invariant.
 use mathlib.Core.Path.{sym, ap, ◌∙◌}
 use mathlib.Core.Bool.{not}
-use Prim.Native.Nat.{◌+◌, ◌-◌}
+use Prim.Native.Nat.{◌+◌}
 use native.Mathlib.Omega.{arith}
 use Rattle.event_maker.specs.Parts.{bad_offset, offset_falls}
 use Rattle.event_maker.proofs.Sweeps.{sweep_start, sweep_on, sweep_bad, sweep_end, offset_falls_lem}

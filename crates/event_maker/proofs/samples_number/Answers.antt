@@ -1,6 +1,6 @@
 -- `event_maker::samples_number` meets its contract: `Swept` is the loop's invariant.
 use mathlib.Core.Path.{sym, ◌∙◌}
-use Prim.Native.Nat.{◌+◌, ◌-◌}
+use Prim.Native.Nat.{◌+◌}
 use native.Mathlib.Omega.{arith}
 use Rattle.event_maker.specs.Parts.{bad_at, falls_at}
 use Rattle.event_maker.proofs.Sweeps.{sweep_start, sweep_on, sweep_bad, sweep_end, sweep_here}

@@ -1,5 +1,5 @@
 -- `event_walk::first_beyond` meets its contract: `Between` is the loop's invariant, and the measure is how many points are left.
-use Prim.Native.Nat.{◌+◌, ◌-◌, ◌/◌}
+use Prim.Native.Nat.{◌+◌, ◌/◌}
 use mathlib.Core.Path.{refl}
 use native.Mathlib.Omega.{arith}
 use Rattle.event_walk.proofs.Searches.{upper_half, lower_half, between_met}

@@ -1,6 +1,5 @@
 -- `event_walk::first_reaching` meets its contract: `Reaching` is the loop's invariant.
 use mathlib.Core.Path.{sym, ap, ◌∙◌}
-use Prim.Native.Nat.{◌-◌}
 use native.Mathlib.Omega.{arith}
 use lib.Ieee.{le}
 use Rattle.event_walk.proofs.Searches.{reach_start, reach_on, reach_found, reach_none}

@@ -1,7 +1,6 @@
 -- `grow_book::drive` meets its contract: `Turning` is the loop's invariant.
 use mathlib.Core.Path.{sym, ◌∙◌}
 use native.Mathlib.Omega.{arith}
-use Prim.Native.Nat.{◌-◌}
 use Rattle.grow_book.proofs.Driving.{turning_start, legs_left, legs_over, turning_plan, turning_some, turning_done, turning_over, turning_stop, turning_on}
 use Rattle.grow_book.proofs.drive.Goals as goal
 

@@ -1,5 +1,4 @@
 -- `grow_ends::end_fakes` meets its contract: `Faking` is the loop's invariant.
-use Prim.Native.Nat.{◌-◌}
 use native.Mathlib.Omega.{arith}
 use Rattle.grow_ends.proofs.Fakes.{faking_start, faking_inside, faking_cell, faking_full, faking_on, faking_end}
 use Rattle.grow_ends.proofs.end_fakes.Goals as goal

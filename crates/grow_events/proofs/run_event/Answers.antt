@@ -1,5 +1,4 @@
 -- `grow_events::run_event` meets its contract: each way to end is a law of proofs/Joining.antt.
-use mathlib.Core.Bool.{not}
 use mathlib.Core.Path.{ap}
 use native.Mathlib.Omega.{arith}
 use Rattle.grow_events.specs.declared.Counts.{Counts}

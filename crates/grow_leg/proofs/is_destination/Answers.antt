@@ -1,6 +1,5 @@
 -- `grow_leg::is_destination` meets its contract: none so far is the loop's invariant.
 use native.Mathlib.Omega.{arith}
-use Prim.Native.Nat.{◌-◌}
 use Rattle.book_format.proofs.Places.{sized_destinations}
 use Rattle.grow_leg.proofs.Choosing.{none_yet, none_next, one_there, none_there}
 use Rattle.grow_leg.proofs.is_destination.Goals as goal

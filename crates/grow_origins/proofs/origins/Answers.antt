@@ -1,6 +1,5 @@
 -- `grow_origins::origins` meets its contract: `OriginLoop` is the loop's invariant.
 use native.Mathlib.Omega.{arith}
-use Prim.Native.Nat.{◌-◌}
 use Rattle.grow_origins.proofs.OriginLoop.{idx_left, loop_start, links_fit, destinations_fit, idxs_fit, idxs_inside, idx_at, idx_small, loop_plan, loop_small, idx_named, loop_some, loop_leads, loop_stop, loop_on, loop_end}
 use Rattle.grow_origins.proofs.origins.Goals as goal
 

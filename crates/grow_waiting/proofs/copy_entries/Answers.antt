@@ -1,6 +1,5 @@
 -- `grow_waiting::copy_entries` meets its contract: as many entries as were copied stand in the slice.
 use mathlib.Core.Path.{refl}
-use Prim.Native.Nat.{◌-◌}
 use native.Mathlib.Omega.{arith}
 use lib.ListN.{length-set}
 use Rattle.grow_waiting.proofs.Runs.{copied_none, copied_on, copied_all}

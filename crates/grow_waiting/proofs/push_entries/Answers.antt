@@ -1,6 +1,5 @@
 -- `grow_waiting::push_entries` meets its contract: `EntriesPushed` is the loop's invariant.
 use mathlib.Core.Path.{refl}
-use Prim.Native.Nat.{◌-◌}
 use native.Mathlib.Omega.{arith}
 use lib.ListN.{length-set}
 use Rattle.grow_waiting.proofs.Runs.{pushed_none, pushed_on, pushed_all_lem}

@@ -1,5 +1,4 @@
 -- `listing::put_hex` meets its contract.
-use mathlib.Core.Path.{◌∙◌}
 use Rattle.listing.proofs.Texts.{nothing_put, then_put, put_as}
 use Rattle.listing.proofs.Numbers.{digits_none, digits_last}
 use Rattle.listing.proofs.+put_hex.Goals as goal

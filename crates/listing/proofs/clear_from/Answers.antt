@@ -1,5 +1,4 @@
 -- `listing::clear_from` meets its contract: `Filled` of crate space is the loop's invariant.
-use Prim.Native.Nat.{◌-◌}
 use native.Mathlib.Omega.{arith}
 use lib.ListN.{length-set}
 use Rattle.space.specs.Space.{zeros}

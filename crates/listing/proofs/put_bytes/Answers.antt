@@ -1,6 +1,5 @@
 -- `listing::put_bytes` meets its contract: `Turned` is the loop's invariant.
 use mathlib.Core.Path.{refl}
-use Prim.Native.Nat.{◌-◌}
 use lib.Seq.{take-length}
 use Rattle.listing.proofs.Texts.{turned_none, turned_more, turned_all, put_as, take_one}
 use Rattle.listing.proofs.put_bytes.Goals as goal

@@ -1,5 +1,4 @@
 -- `listing::put_lines` meets its contract: `Turned` is the loop's invariant.
-use Prim.Native.Nat.{◌-◌}
 use Rattle.listing.proofs.Texts.{turned_none, turned_more, turned_all, no_lines, line_one}
 use Rattle.listing.proofs.put_lines.Goals as goal
 

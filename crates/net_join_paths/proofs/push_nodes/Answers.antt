@@ -1,6 +1,5 @@
 -- `net_join_paths::push_nodes` meets its contract: `Copying` is the loop's invariant.
 use mathlib.Core.Path.{refl, ◌∙◌}
-use Prim.Native.Nat.{◌-◌}
 use native.Mathlib.Omega.{arith}
 use Rattle.net_join_paths.specs.Entries.{entry}
 use Rattle.net_join_paths.proofs.Spans.{copying_start, copying_whole, copying_over, copying_on}

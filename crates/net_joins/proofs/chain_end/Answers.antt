@@ -1,5 +1,4 @@
 -- `net_joins::chain_end` meets its contract: `Following` is the loop's invariant, and each alternative is later.
-use Prim.Native.Nat.{◌-◌}
 use native.Mathlib.Omega.{arith}
 use Rattle.net_joins.proofs.Chains.{following_start, following_last, alternative_later, following_on}
 use Rattle.net_joins.proofs.chain_end.Goals as goal

@@ -1,5 +1,4 @@
 -- `net_joins::closest_entry` meets its contract: `Choosing` is the loop's invariant.
-use Prim.Native.Nat.{◌-◌}
 use native.Mathlib.Omega.{arith}
 use Rattle.net_join_paths.proofs.Entries.{entry_valid}
 use Rattle.net_joins.proofs.Choosing.{choosing_start, choosing_on, choosing_whole}

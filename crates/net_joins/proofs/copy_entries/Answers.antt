@@ -1,6 +1,5 @@
 -- `net_joins::copy_entries` meets its contract: `Copying` is the loop's invariant.
 use mathlib.Core.Path.{refl}
-use Prim.Native.Nat.{◌-◌}
 use native.Mathlib.Omega.{arith}
 use Rattle.net_joins.proofs.Lists.{copying_start, copying_on, copying_whole}
 use Rattle.net_joins.proofs.copy_entries.Goals as goal

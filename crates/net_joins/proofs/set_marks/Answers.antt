@@ -1,5 +1,5 @@
 -- `net_joins::set_marks` meets its contract: `Marking` is the loop's invariant.
-use Prim.Native.Nat.{◌-◌, ◌<◌}
+use Prim.Native.Nat.{◌<◌}
 use native.Mathlib.Omega.{arith}
 use Rattle.net_join_paths.proofs.Entries.{entry_valid}
 use Rattle.net_joins.proofs.Marking.{marking_start, marking_on, marking_whole}

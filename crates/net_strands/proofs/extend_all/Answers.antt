@@ -1,6 +1,5 @@
 -- `net_strands::extend_all` meets its contract: `Building` is the loop's invariant.
 use mathlib.Core.Path.{refl, ◌∙◌}
-use Prim.Native.Nat.{◌-◌}
 use native.Mathlib.Omega.{arith}
 use Rattle.net_node.specs.Table.{node_at}
 use Rattle.net_join_paths.proofs.Entries.{entry_valid}

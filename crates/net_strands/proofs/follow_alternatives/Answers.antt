@@ -1,6 +1,5 @@
 -- `net_strands::follow_alternatives` meets its contract: `Following` is the loop's invariant, and each alternative is later.
 use mathlib.Core.Path.{refl, ◌∙◌}
-use Prim.Native.Nat.{◌-◌}
 use native.Mathlib.Omega.{arith}
 use Rattle.net_join_paths.specs.Entries.{entry}
 use Rattle.net_strands.proofs.Alternatives.{following_start, next_within, alternative_later, following_over, following_last, following_on}

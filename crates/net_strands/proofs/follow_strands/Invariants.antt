@@ -1,7 +1,7 @@
 -- `net_strands::follow_strands` meets its contract: `Popping` is what the outer loop keeps, and `Standing` what the inner one does; beside them the entries that were pushed since each loop began, and what the cells say.
 use mathlib.Core.Path.{◌≡◌}
 use mathlib.Core.List.{List}
-use Prim.Native.Nat.{ℕ, ◌+◌, ◌-◌, ◌*◌}
+use Prim.Native.Nat.{ℕ, ◌+◌, ◌*◌}
 use lib.ListN.{length}
 use Rattle.net_node.specs.Table.{node_at}
 use Rattle.net_notes.specs.Log.{Touched}

@@ -1,7 +1,6 @@
 -- `pass_all::all_zero` meets its contract: `NoneYet` is the loop's invariant.
 use mathlib.Core.Bool.{not}
 use mathlib.Core.Path.{ap}
-use Prim.Native.Nat.{◌-◌}
 use native.Mathlib.Omega.{arith}
 use Rattle.pass_all.proofs.Sweeps.{zero_start, zero_hit, zero_on, zero_end}
 use Rattle.pass_all.proofs.all_zero.Goals as goal

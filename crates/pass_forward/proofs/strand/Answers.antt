@@ -1,6 +1,5 @@
 -- `pass_forward::strand` meets its contract.
 use native.Mathlib.Omega.{arith}
-use Prim.Native.Nat.{◌-◌}
 use Rattle.pass_state.proofs.Strands.{strand_start, strand_falls, strand_looks, strand_less, strand_ends, strand_goes}
 use Rattle.pass_forward.proofs.Parts.{walker, stops_as}
 use Rattle.pass_forward.proofs.strand.Goals as goal

@@ -1,6 +1,5 @@
 -- `pass_rules::checks_fail` meets its contract: `Checked` is the loop's invariant.
 use native.Mathlib.Omega.{arith}
-use Prim.Native.Nat.{◌-◌}
 use Rattle.pass_rules.proofs.Held.{checked_start, checked_fails, checked_more, checked_all}
 use Rattle.pass_rules.proofs.checks_fail.Goals as goal
 

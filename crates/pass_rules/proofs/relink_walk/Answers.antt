@@ -1,6 +1,5 @@
 -- `pass_rules::relink_walk` meets its contract: `Walking` is the loop's invariant.
 use native.Mathlib.Omega.{arith}
-use Prim.Native.Nat.{◌-◌}
 use Rattle.pass_rules.proofs.Walking.{walking_start, walk_found, walk_endless, walk_on}
 use Rattle.pass_rules.proofs.relink_walk.Goals as goal
 

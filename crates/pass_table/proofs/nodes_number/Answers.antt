@@ -1,5 +1,4 @@
 -- `pass_table::nodes_number` meets its contract: `Swept` is the loop's invariant.
-use Prim.Native.Nat.{◌-◌}
 use native.Mathlib.Omega.{arith}
 use Rattle.pass_table.proofs.FirstRows.{sweep_start, sweep_bad, sweep_on, sweep_end}
 use Rattle.pass_table.proofs.nodes_number.Goals as goal
