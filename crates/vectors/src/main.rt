@@ -3,7 +3,7 @@
 #![tactic(auto)]
 
 ghost use Rattle.std.specs.Prelude.{◌≤◌, ◌↔◌, IfOk, IsTrue, length};
-ghost use Rattle.vectors.specs.Vectors.{BookAnswered};
+ghost use Rattle.vectors.specs.Vectors.{BookAnswered, NextAnswered};
 
 use std::io::{Read, Result, Write};
 
@@ -27,7 +27,10 @@ fn answer_book<R: Read, W: Write>(
 }
 
 // Whether a book was there and was answered.
-fn answer_next<R: Read, W: Write>(k: u64, from: &mut R, to: &mut W) -> Result<bool> {
+fn answer_next<R: Read, W: Write>(k: u64, from: &mut R, to: &mut W) -> Result<bool>
+    ensures { IfOk result (λ r. IsTrue r → NextAnswered k
+        (R.remaining from.old) (R.remaining from.new) (W.contents to.old) (W.contents to.new)) }
+{
     let mut head = [0u8; 4];
     if streams::read_full(from, &mut head)? != 4 {
         return Ok(false);
