@@ -1,5 +1,5 @@
 -- What is told of an answer's counts, and a listing by a report that was read.
-use mathlib.Core.Path.{◌≡◌, ap, subst, sym}
+use mathlib.Core.Path.{◌≡◌, ap, subst}
 use mathlib.Core.List.{List}
 use Prim.Native.Nat.{ℕ, ◌≤◌, ◌<◌}
 use native.Mathlib.Omega.{arith}
