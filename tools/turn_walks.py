@@ -3,7 +3,8 @@
 
 usage: turn_walks.py NAMES CRATE [F ..]
 
-NAMES is the names.json that `rt check --generated DIR --old-names` writes for the crate in the folder CRATE. It turns the
+NAMES is the names.json that `rt check --generated DIR --old-names` writes for the crate in the folder CRATE, and the
+environment's GEN names the folder that `rt check --generated DIR` writes. It takes Proof.antt away. It turns the
 positional answers of `tie.spec` to answers by name, paths over `.before` to names of steps, places in a tuple of clauses to
 the clauses' names, and the variables of an invariant to fields of `l`. An answer that only says `search rules` or
 `omega arith` is left out, since the check finds it. It prints what it could not turn.
@@ -766,8 +767,7 @@ def turn_file(f, folder, path, row, fns, crate, text, said):
             extra = [f"use {mod}.Goals.{{{', '.join(sorted(wants))}}}"] if wants else []
             with open(os.path.join(folder, "Answers.antt"), "w", encoding="utf-8") as out:
                 out.write("\n".join(([note] if note else []) + imports(body_text) + [goal_line] + extra + ["", body_text]) + "\n")
-    os.makedirs(os.environ.get("OLD", "/tmp/walks") + f"/{crate}/{path}", exist_ok=True)
-    os.replace(f, os.environ.get("OLD", "/tmp/walks") + f"/{crate}/{path}/Proof.antt")
+    os.remove(f)
 
 
 def renamed(text, a, b):
