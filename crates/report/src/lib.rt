@@ -2,11 +2,9 @@
 // specs/Numbers.antt.
 #![tactic(auto)]
 
-ghost use Rattle.std.specs.Prelude.{◌≡◌};
-ghost use Rattle.report.specs.Numbers.{no_report, numbers_of, report_in};
-
-// "a report of nodes, added (origins' nodes included), splits, joined, finished"
-#[derive(Clone, Copy)]
+// "a report of nodes, added (origins' nodes included), splits, joined, finished". That of a refusal is the default:
+// zeros.
+#[derive(Clone, Copy, Debug, Default, PartialEq, Eq)]
 pub struct Report {
     pub nodes: usize,
     pub added: usize,
@@ -15,35 +13,32 @@ pub struct Report {
     pub finished: usize,
 }
 
-// The report of a refusal: zeros.
-pub fn no_report() -> Report
-    ensures { result ≡ no_report }
-{
-    Report {
-        nodes: 0,
-        added: 0,
-        splits: 0,
-        joined: 0,
-        finished: 0,
+// A report's numbers, in their order.
+impl From<Report> for [usize; 5] {
+    ghost use Rattle.std.specs.Prelude.{◌≡◌};
+    ghost use Rattle.report.specs.Numbers.{numbers_of};
+
+    ghost from_gives = { λ r ns. ns ≡ numbers_of r };
+
+    fn from(r: Report) -> [usize; 5] {
+        [r.nodes, r.added, r.splits, r.joined, r.finished]
     }
 }
 
-// Writes a report's numbers, in their order.
-pub fn write_report(r: Report, out: &mut [usize; 5])
-    ensures { out.new ≡ numbers_of r }
-{
-    *out = [r.nodes, r.added, r.splits, r.joined, r.finished];
-}
-
 // The report of five numbers.
-pub fn read_report(from: &[usize; 5]) -> Report
-    ensures { result ≡ report_in from.now }
-{
-    Report {
-        nodes: from[0],
-        added: from[1],
-        splits: from[2],
-        joined: from[3],
-        finished: from[4],
+impl From<[usize; 5]> for Report {
+    ghost use Rattle.std.specs.Prelude.{◌≡◌};
+    ghost use Rattle.report.specs.Numbers.{report_in};
+
+    ghost from_gives = { λ ns r. r ≡ report_in ns };
+
+    fn from(from: [usize; 5]) -> Report {
+        Report {
+            nodes: from[0],
+            added: from[1],
+            splits: from[2],
+            joined: from[3],
+            finished: from[4],
+        }
     }
 }

@@ -97,8 +97,7 @@ fn digits(a: u64) -> WholeRoot
     let mut q: u64 = 0;
     let mut r: u64 = 0;
     let mut left = a;
-    let mut i: u64 = 0;
-    while i < 53 {
+    for _ in 0..53u64 {
         r = r * 4 + left / HID;
         left = left % HID * 4;
         let step = q * 4 + 1;
@@ -107,7 +106,6 @@ fn digits(a: u64) -> WholeRoot
             r = r - step;
             q = q + 1;
         }
-        i = i + 1;
     }
     WholeRoot { q, r }
 }
