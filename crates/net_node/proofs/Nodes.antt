@@ -5,54 +5,18 @@ use mathlib.Core.List.{List, [], ◌∷◌}
 use Prim.Native.Nat.{ℕ, zero, suc, ◌+◌, ◌*◌, ◌≤◌, ◌<◌}
 use native.Mathlib.Nat.{add-zero, not-suc-le-zero}
 use native.Mathlib.Omega.{arith}
-use lib.Dec.{eqb}
 use lib.ListN.{length, get_or, set, length-set}
 use lib.Seq.{get_or-set_same, get_or-set_other}
 use lib.Ieee.{Float, nan}
 use Rattle.net_node.specs.declared.EstType.{EstType}
 use Rattle.net_node.specs.declared.EstType.TheVariants.{Arrive, Clear, Fake}
 use Rattle.net_node.specs.declared.EstTime.{EstTime}
-use Rattle.net_node.specs.Table.{float_width, number_width, kind_of, kind_number, fake_kind, node_at, put_floats, put_numbers, floats_of, numbers_of}
-
-pub kind_other : (n : ℕ) → (n ≡ 0 → ⊥) → (n ≡ 1 → ⊥) → Fake ≡ kind_of n
-kind_other zero a b = absurd (a refl)
-kind_other (suc zero) a b = absurd (b refl)
-kind_other (suc (suc n)) a b = refl
+use Rattle.net_node.specs.Table.{float_width, number_width, kind_of, kind_number, node_at, put_floats, put_numbers, floats_of, numbers_of}
 
 pub kind_back : (k : EstType) → kind_of (kind_number k) ≡ k
 kind_back Arrive = refl
 kind_back Clear = refl
 kind_back Fake = refl
-
-pub fake_number : (k : EstType) → eqb (kind_number k) 2 ≡ fake_kind k
-fake_number Arrive = refl
-fake_number Clear = refl
-fake_number Fake = refl
-
--- ---- writing
-
-pub numbers_put : (us : List ℕ) (i : ℕ) (n : EstTime) (k : ℕ) → k ≡ kind_number n.link_event.est_type
-    → set (set (set (set (set (set us (i * number_width) n.idx_next) (i * number_width + 1) n.idx_next_alt) (i * number_width + 2) n.idx_prev) (i * number_width + 3) n.idx_prev_alt) (i * number_width + 4) n.link_event.link_idx) (i * number_width + 5) k ≡ put_numbers us i n
-unfolding put_numbers
-numbers_put us i n k e =
-    ap (λ (x : ℕ). set (set (set (set (set (set us (i * number_width) n.idx_next) (i * number_width + 1) n.idx_next_alt) (i * number_width + 2) n.idx_prev) (i * number_width + 3) n.idx_prev_alt) (i * number_width + 4) n.link_event.link_idx) (i * number_width + 5) x) e
-
--- ---- reading
-
-pub node_read : (fs : List Float) (us : List ℕ) (i : ℕ) (k : EstType) → k ≡ kind_of (get_or us (i * number_width + 5) 0)
-    → record {
-      time_sched = get_or fs (i * float_width) nan;
-      time_to_next = get_or fs (i * float_width + 1) nan;
-      dist_to_next = get_or fs (i * float_width + 2) nan;
-      speed = get_or fs (i * float_width + 3) nan;
-      idx_next = get_or us (i * number_width) 0;
-      idx_next_alt = get_or us (i * number_width + 1) 0;
-      idx_prev = get_or us (i * number_width + 2) 0;
-      idx_prev_alt = get_or us (i * number_width + 3) 0;
-      link_event = record { link_idx = get_or us (i * number_width + 4) 0; est_type = k };
-    } ≡ node_at fs us i
-unfolding node_at
-node_read fs us i k e = rw e
 
 -- ---- a row's stores, one after another
 

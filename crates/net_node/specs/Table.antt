@@ -130,112 +130,32 @@ blank = record {
   link_event = no_link_event;
 }
 
--- ---- a node with a field changed: all else stays. A field more is a line more in each, and nothing elsewhere.
+-- ---- a node with a field changed: all else stays
 
 abbrev pub with_time : EstTime → Float → EstTime
-with_time n time = record {
-  time_sched = time;
-  time_to_next = n.time_to_next;
-  dist_to_next = n.dist_to_next;
-  speed = n.speed;
-  idx_next = n.idx_next;
-  idx_next_alt = n.idx_next_alt;
-  idx_prev = n.idx_prev;
-  idx_prev_alt = n.idx_prev_alt;
-  link_event = n.link_event;
-}
+with_time n time = record n { time_sched = time }
 
 -- time and distance to next
 abbrev pub with_arc : EstTime → Float → Float → EstTime
-with_arc n time distance = record {
-  time_sched = n.time_sched;
-  time_to_next = time;
-  dist_to_next = distance;
-  speed = n.speed;
-  idx_next = n.idx_next;
-  idx_next_alt = n.idx_next_alt;
-  idx_prev = n.idx_prev;
-  idx_prev_alt = n.idx_prev_alt;
-  link_event = n.link_event;
-}
+with_arc n time distance = record n { time_to_next = time; dist_to_next = distance }
 
 abbrev pub with_speed : EstTime → Float → EstTime
-with_speed n speed = record {
-  time_sched = n.time_sched;
-  time_to_next = n.time_to_next;
-  dist_to_next = n.dist_to_next;
-  speed = speed;
-  idx_next = n.idx_next;
-  idx_next_alt = n.idx_next_alt;
-  idx_prev = n.idx_prev;
-  idx_prev_alt = n.idx_prev_alt;
-  link_event = n.link_event;
-}
+with_speed n speed = record n { speed = speed }
 
 abbrev pub with_next : EstTime → ℕ → EstTime
-with_next n next = record {
-  time_sched = n.time_sched;
-  time_to_next = n.time_to_next;
-  dist_to_next = n.dist_to_next;
-  speed = n.speed;
-  idx_next = next;
-  idx_next_alt = n.idx_next_alt;
-  idx_prev = n.idx_prev;
-  idx_prev_alt = n.idx_prev_alt;
-  link_event = n.link_event;
-}
+with_next n next = record n { idx_next = next }
 
 abbrev pub with_next_alt : EstTime → ℕ → EstTime
-with_next_alt n alt = record {
-  time_sched = n.time_sched;
-  time_to_next = n.time_to_next;
-  dist_to_next = n.dist_to_next;
-  speed = n.speed;
-  idx_next = n.idx_next;
-  idx_next_alt = alt;
-  idx_prev = n.idx_prev;
-  idx_prev_alt = n.idx_prev_alt;
-  link_event = n.link_event;
-}
+with_next_alt n alt = record n { idx_next_alt = alt }
 
 abbrev pub with_prev : EstTime → ℕ → EstTime
-with_prev n prev = record {
-  time_sched = n.time_sched;
-  time_to_next = n.time_to_next;
-  dist_to_next = n.dist_to_next;
-  speed = n.speed;
-  idx_next = n.idx_next;
-  idx_next_alt = n.idx_next_alt;
-  idx_prev = prev;
-  idx_prev_alt = n.idx_prev_alt;
-  link_event = n.link_event;
-}
+with_prev n prev = record n { idx_prev = prev }
 
 abbrev pub with_prev_alt : EstTime → ℕ → EstTime
-with_prev_alt n alt = record {
-  time_sched = n.time_sched;
-  time_to_next = n.time_to_next;
-  dist_to_next = n.dist_to_next;
-  speed = n.speed;
-  idx_next = n.idx_next;
-  idx_next_alt = n.idx_next_alt;
-  idx_prev = n.idx_prev;
-  idx_prev_alt = alt;
-  link_event = n.link_event;
-}
+with_prev_alt n alt = record n { idx_prev_alt = alt }
 
 abbrev pub with_event : EstTime → LinkEvent → EstTime
-with_event n event = record {
-  time_sched = n.time_sched;
-  time_to_next = n.time_to_next;
-  dist_to_next = n.dist_to_next;
-  speed = n.speed;
-  idx_next = n.idx_next;
-  idx_next_alt = n.idx_next_alt;
-  idx_prev = n.idx_prev;
-  idx_prev_alt = n.idx_prev_alt;
-  link_event = event;
-}
+with_event n event = record n { link_event = event }
 
 -- ---- one field of a node set in the table, and all else of both slices left as it is
 

@@ -4,10 +4,10 @@
 ghost use Rattle.std.specs.Prelude.{◌≡◌, ◌+◌, ◌*◌, ◌≤◌, length};
 ghost use Rattle.net_node.specs.Lent.{table_at_entry};
 ghost use Rattle.net_node.specs.Left.{filled, places_of, kind_at, floats_kept, numbers_kept};
-ghost use Rattle.net_node.specs.Table.{float_width, number_width, kind_of, kind_number, fake_kind, same_kind};
+ghost use Rattle.net_node.specs.Table.{float_width, number_width, kind_of, kind_number, same_kind, is_fake};
 ghost use Rattle.net_node.specs.Table.{same_event};
 ghost use Rattle.net_node.specs.Table.{node_at, put_floats, put_numbers, Table, set_time, set_arc, set_next, set_prev};
-ghost use Rattle.net_node.specs.Table.{no_link_event, blank, with_next_alt, with_prev_alt};
+ghost use Rattle.net_node.specs.Table.{no_link_event, blank};
 
 // How many floats and how many numbers a node has in the table's two slices.
 pub const FLOAT_WIDTH: usize = 4;
@@ -16,22 +16,48 @@ pub const NUMBER_WIDTH: usize = 6;
 
 // Type of an estimated time node: the train arrives at the entry point of a link, clears it, or the node only links
 // alternatives.
-#[derive(Clone, Copy)]
+#[derive(Clone, Copy, Debug, PartialEq, Eq)]
 pub enum EstType {
     Arrive,
     Clear,
     Fake,
 }
 
+// A kind's number in a table.
+impl From<EstType> for u32 {
+    ghost from_gives = { λ k n. n ≡ kind_number k };
+
+    fn from(k: EstType) -> u32 {
+        match k {
+            EstType::Arrive => 0,
+            EstType::Clear => 1,
+            EstType::Fake => 2,
+        }
+    }
+}
+
+// The kind of a number; a table with another number than 0, 1 and 2 is refused before its kinds are read.
+impl From<u32> for EstType {
+    ghost from_gives = { λ n k. k ≡ kind_of n };
+
+    fn from(n: u32) -> EstType {
+        match n {
+            0 => EstType::Arrive,
+            1 => EstType::Clear,
+            _ => EstType::Fake,
+        }
+    }
+}
+
 // A link and a type.
-#[derive(Clone, Copy)]
+#[derive(Clone, Copy, Debug, PartialEq, Eq)]
 pub struct LinkEvent {
     pub link_idx: u32,
     pub est_type: EstType,
 }
 
 // An estimated time node.
-#[derive(Clone, Copy)]
+#[derive(Clone, Copy, Debug)]
 pub struct EstTime {
     pub time_sched: f64,
     pub time_to_next: f64,
@@ -45,7 +71,7 @@ pub struct EstTime {
 }
 
 // An event of a run: when, where and how fast it happens.
-#[derive(Clone, Copy)]
+#[derive(Clone, Copy, Debug)]
 pub struct TimedEvent {
     pub time: f64,
     pub offset: f64,
@@ -72,71 +98,19 @@ impl EstTime {
         idx_next_alt: 0,
         idx_prev: 0,
         idx_prev_alt: 0,
-        link_event: LinkEvent {
-            link_idx: 0,
-            est_type: EstType::Fake,
-        },
+        link_event: LinkEvent::NO_LINK,
     };
-}
 
-// The event of a Fake.
-pub fn no_link_event() -> LinkEvent
-    ensures { result ≡ no_link_event }
-{
-    LinkEvent::NO_LINK
-}
-
-// A node with nothing in it.
-pub fn blank_node() -> EstTime
-    ensures { result ≡ blank }
-{
-    EstTime::BLANK
-}
-
-fn kind_of(n: u32) -> EstType
-    ensures { result ≡ kind_of n }
-{
-    match n {
-        0 => EstType::Arrive,
-        1 => EstType::Clear,
-        _ => EstType::Fake,
+    // Whether a node is a Fake.
+    pub fn is_fake(&self) -> bool
+        ensures { result ≡ is_fake self.now }
+    {
+        self.link_event.est_type == EstType::Fake
     }
-}
-
-pub fn kind_number(k: EstType) -> u32
-    ensures { result ≡ kind_number k }
-{
-    match k {
-        EstType::Arrive => 0,
-        EstType::Clear => 1,
-        EstType::Fake => 2,
-    }
-}
-
-// Whether a kind is Fake.
-pub fn is_fake(kind: EstType) -> bool
-    ensures { result ≡ fake_kind kind }
-{
-    kind_number(kind) == 2
-}
-
-fn same_kind(a: EstType, b: EstType) -> bool
-    ensures { result ≡ same_kind a b }
-{
-    kind_number(a) == kind_number(b)
-}
-
-// Whether two events are equal: link and kind.
-pub fn same_event(a: LinkEvent, b: LinkEvent) -> bool
-    ensures { result ≡ same_event a b }
-{
-    let kind_a = a.est_type;
-    let kind_b = b.est_type;
-    let kinds = same_kind(kind_a, kind_b);
-    (a.link_idx == b.link_idx) & kinds
 }
 
 // The node of index i.
+#[tactic(auto, unfolding(crate::specs::Table::node_at))]
 pub fn load(floats: &[f64], numbers: &[u32], i: usize) -> EstTime
     requires float_width_in_bounds { i * float_width + float_width ≤ length floats.now }
     requires number_width_in_bounds { i * number_width + number_width ≤ length numbers.now }
@@ -144,11 +118,6 @@ pub fn load(floats: &[f64], numbers: &[u32], i: usize) -> EstTime
 {
     let f = i * FLOAT_WIDTH;
     let u = i * NUMBER_WIDTH;
-    let est_type = kind_of(numbers[u + 5]);
-    let link_event = LinkEvent {
-        link_idx: numbers[u + 4],
-        est_type,
-    };
     EstTime {
         time_sched: floats[f],
         time_to_next: floats[f + 1],
@@ -158,11 +127,15 @@ pub fn load(floats: &[f64], numbers: &[u32], i: usize) -> EstTime
         idx_next_alt: numbers[u + 1],
         idx_prev: numbers[u + 2],
         idx_prev_alt: numbers[u + 3],
-        link_event,
+        link_event: LinkEvent {
+            link_idx: numbers[u + 4],
+            est_type: numbers[u + 5].into(),
+        },
     }
 }
 
 // Writes a node at index i.
+#[tactic(auto, unfolding(crate::specs::Table::put_floats, crate::specs::Table::put_numbers))]
 pub fn store(floats: &mut [f64], numbers: &mut [u32], i: usize, node: EstTime)
     requires float_width_in_bounds { i * float_width + float_width ≤ length floats.old }
     requires number_width_in_bounds { i * number_width + number_width ≤ length numbers.old }
@@ -175,35 +148,16 @@ pub fn store(floats: &mut [f64], numbers: &mut [u32], i: usize, node: EstTime)
     floats[f + 2] = node.dist_to_next;
     floats[f + 3] = node.speed;
     let u = i * NUMBER_WIDTH;
-    let event = node.link_event;
     numbers[u] = node.idx_next;
     numbers[u + 1] = node.idx_next_alt;
     numbers[u + 2] = node.idx_prev;
     numbers[u + 3] = node.idx_prev_alt;
-    numbers[u + 4] = event.link_idx;
-    let est_type = event.est_type;
-    numbers[u + 5] = kind_number(est_type);
-}
-
-// The node with another next alternative.
-pub fn with_next_alt(node: EstTime, alt: u32) -> EstTime
-    ensures { result ≡ with_next_alt node alt }
-{
-    let mut changed = node;
-    changed.idx_next_alt = alt;
-    changed
-}
-
-// The node with another previous alternative.
-pub fn with_prev_alt(node: EstTime, alt: u32) -> EstTime
-    ensures { result ≡ with_prev_alt node alt }
-{
-    let mut changed = node;
-    changed.idx_prev_alt = alt;
-    changed
+    numbers[u + 4] = node.link_event.link_idx;
+    numbers[u + 5] = node.link_event.est_type.into();
 }
 
 // Sets a node's time.
+#[tactic(auto, unfolding(crate::specs::Table::set_time))]
 pub fn set_time(floats: &mut [f64], numbers: &mut [u32], i: usize, time: f64)
     requires float_width_in_bounds { i * float_width + float_width ≤ length floats.old }
     requires number_width_in_bounds { i * number_width + number_width ≤ length numbers.old }
@@ -214,6 +168,7 @@ pub fn set_time(floats: &mut [f64], numbers: &mut [u32], i: usize, time: f64)
 }
 
 // Sets a node's time and distance to next.
+#[tactic(auto, unfolding(crate::specs::Table::set_arc))]
 pub fn set_arc(floats: &mut [f64], numbers: &mut [u32], i: usize, time: f64, distance: f64)
     requires float_width_in_bounds { i * float_width + float_width ≤ length floats.old }
     requires number_width_in_bounds { i * number_width + number_width ≤ length numbers.old }
@@ -225,7 +180,8 @@ pub fn set_arc(floats: &mut [f64], numbers: &mut [u32], i: usize, time: f64, dis
     floats[f + 2] = distance;
 }
 
-// Sets a node's next.
+// Sets a node's next. One line for each field that is set alone: a column as a parameter would tell callers the layout.
+#[tactic(auto, unfolding(crate::specs::Table::set_next))]
 pub fn set_next(floats: &mut [f64], numbers: &mut [u32], i: usize, next: u32)
     requires float_width_in_bounds { i * float_width + float_width ≤ length floats.old }
     requires number_width_in_bounds { i * number_width + number_width ≤ length numbers.old }
@@ -236,6 +192,7 @@ pub fn set_next(floats: &mut [f64], numbers: &mut [u32], i: usize, next: u32)
 }
 
 // Sets a node's previous.
+#[tactic(auto, unfolding(crate::specs::Table::set_prev))]
 pub fn set_prev(floats: &mut [f64], numbers: &mut [u32], i: usize, prev: u32)
     requires float_width_in_bounds { i * float_width + float_width ≤ length floats.old }
     requires number_width_in_bounds { i * number_width + number_width ≤ length numbers.old }
@@ -249,17 +206,19 @@ pub fn set_prev(floats: &mut [f64], numbers: &mut [u32], i: usize, prev: u32)
 pub fn nodes_filled(floats: usize, numbers: usize) -> usize
     ensures { result ≡ filled floats numbers }
 {
-    space::smaller(floats / FLOAT_WIDTH, numbers / NUMBER_WIDTH)
+    (floats / FLOAT_WIDTH).min(numbers / NUMBER_WIDTH)
 }
 
 // How many nodes both slices of a table have places for.
+#[tactic(auto, unfolding(crate::specs::Left::places_of))]
 pub fn places(floats: usize, numbers: usize) -> usize
     ensures { result ≡ places_of floats numbers }
 {
-    space::smaller(nodes_filled(floats, numbers), 65535)
+    nodes_filled(floats, numbers).min(65535)
 }
 
 // The number of a node's kind, whichever it is.
+#[tactic(auto, unfolding(crate::specs::Left::kind_at))]
 pub fn kind_at(numbers: &[u32], i: usize) -> u32
     requires { i * number_width + number_width ≤ length numbers.now }
     ensures { result ≡ kind_at numbers.now i }
@@ -274,6 +233,6 @@ pub fn clear_behind(floats: &mut [f64], numbers: &mut [u32], n: usize)
     ensures numbers { numbers.new ≡ numbers_kept n numbers.old
         (length numbers.old) }
 {
-    space::clear_floats_from(floats, n * FLOAT_WIDTH);
-    space::clear_numbers_from(numbers, n * NUMBER_WIDTH);
+    space::clear_from(floats, n * FLOAT_WIDTH);
+    space::clear_from(numbers, n * NUMBER_WIDTH);
 }
