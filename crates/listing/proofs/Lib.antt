@@ -1,4 +1,4 @@
-pub mod Texts
 pub mod Numbers
+pub mod Texts
 pub mod Lengths
-pub mod Examples
+mod Examples

@@ -3,9 +3,7 @@ use mathlib.Core.Path.{◌≡◌, refl, sym, ap, subst, ◌∙◌}
 use mathlib.Core.Bool.{Bool}
 use mathlib.Core.Option.{Option, some}
 use mathlib.Core.List.{List, [], ◌∷◌, ◌++◌, append-nil, append_assoc}
-use mathlib.Core.Logic.{⊎_elim}
-use Prim.Native.Nat.{ℕ, ◌+◌, ◌-◌, ◌≤◌, ◌<◌}
-use native.Mathlib.Nat.{eq-or-lt_of_le, sub-zero}
+use Prim.Native.Nat.{ℕ, ◌+◌, ◌≤◌, ◌<◌}
 use native.Mathlib.Numerals.{add-one}
 use native.Mathlib.Omega.{arith}
 use borrow.Author.Tests.{le-leb, lt-leb}
@@ -17,61 +15,63 @@ use Rattle.net_node.specs.Table.{Table, at}
 use Rattle.net_node.specs.Left.{filled, nodes_in}
 use Rattle.report.specs.declared.Report.{Report}
 use Rattle.space.specs.Space.{zeros}
-use Rattle.listing.specs.declared.Listed.{Listed}
-use Rattle.listing.specs.declared.Listed.TheVariants.{Bytes, Short, Unfilled}
+use Rattle.std.specs.Prelude.{Option as Place, Some, None, Result, Err}
+use Rattle.listing.specs.declared.ListingError.{ListingError}
+use Rattle.listing.specs.declared.ListingError.TheVariants.{Unfilled}
 use Rattle.listing.specs.Listing.{line, lines, sheet_text, text_if, sheet_in, listed_as, bytes_left, TextListed}
 use Rattle.listing.specs.Written.{Written, Puts, Finishes}
 
 -- ---- bytes
 
 -- there is room for a byte
-pub byte_put : (out : List ℕ) (at b : ℕ) → at < length out → Puts out at (b ∷ []) (set out at b) (at + 1)
+pub byte_put : (out : List ℕ) (at b : ℕ) → at < length out → Puts out (Some at) (b ∷ []) (set out at b) (Some (at + 1))
 byte_put out at b l = record {
   sized = length-set out at b;
   behind = λ text w. record {
-    there = λ _. ap (λ (k : ℕ). take k (set out at b)) (add-one at) ∙ take-suc-set out at b l ∙ ap (λ (t : List ℕ). t ++ b ∷ []) (w.there (omega arith));
-    over = λ h. absurd (omega (arith, h, length-set out at b));
+    to = (
+      omega (arith, length-set out at b),
+      ap (λ (k : ℕ). take k (set out at b)) (add-one at) ∙ take-suc-set out at b l ∙ ap (λ (t : List ℕ). t ++ b ∷ []) w.to.1,
+    );
   };
 }
 
--- a text that fills the slice, or does not fit
-too_long : {out : List ℕ} {at : ℕ} {text : List ℕ} → Written out at text → length out ≤ at → length out ≤ length text
-too_long {out} {at} {text} w l = ⊎_elim (λ (e : length out ≡ at). omega (arith, sym (ap length (w.there (omega arith))) ∙ length-take-le at out (omega arith))) (λ (h : length out < at). omega (arith, w.over h)) (eq-or-lt_of_le l)
-
 -- there is none
-pub byte_lost : (out : List ℕ) (at b : ℕ) → length out ≤ at → Puts out at (b ∷ []) out (length out + 1)
+pub byte_lost : (out : List ℕ) (at b : ℕ) → length out ≤ at → Puts out (Some at) (b ∷ []) out None
 byte_lost out at b l = record {
   sized = refl;
   behind = λ text w. record {
-    there = λ h. absurd (omega (arith, h));
-    over = λ _. omega (arith, too_long w l, length-append text (b ∷ []));
+    to = omega (arith, sym (ap length w.to.1) ∙ length-take-le at out w.to.0, w.to.0, length-append text (b ∷ []));
   };
 }
 
+-- the text before had not fitted
+pub still_lost : (out more : List ℕ) → Puts out None more out None
+still_lost out more = record { sized = refl; behind = λ text w. record { to = omega (arith, w.to, length-append text more) } }
+
 -- ---- one text behind another
 
-pub nothing_put : (out : List ℕ) (at : ℕ) → Puts out at [] out at
+pub nothing_put : (out : List ℕ) (at : Place ℕ) → Puts out at [] out at
 nothing_put out at = record { sized = refl; behind = λ text w. subst (Written out at) (sym (append-nil text)) w }
 
-pub then_put : {a b c : List ℕ} {i j k : ℕ} {s t : List ℕ} → Puts a i s b j → Puts b j t c k → Puts a i (s ++ t) c k
+pub then_put : {a b c : List ℕ} {i j k : Place ℕ} {s t : List ℕ} → Puts a i s b j → Puts b j t c k → Puts a i (s ++ t) c k
 then_put {c = c} {k = k} {s = s} {t = t} p q = record { sized = q.sized ∙ p.sized; behind = λ text w. subst (Written c k) (append_assoc text s t) (q.behind (text ++ s) (p.behind text w)) }
 
-pub put_as : {a b : List ℕ} {i j : ℕ} {s t : List ℕ} → Puts a i s b j → s ≡ t → Puts a i t b j
+pub put_as : {a b : List ℕ} {i j : Place ℕ} {s t : List ℕ} → Puts a i s b j → s ≡ t → Puts a i t b j
 put_as {a} {b} {i} {j} p e = subst (λ (u : List ℕ). Puts a i u b j) e p
 
 -- ---- a loop that puts the text s i before its turn i
 
-pub record Turned (a : List ℕ) (at : ℕ) (s : ℕ → List ℕ) (n : ℕ) (b : List ℕ) (to i : ℕ) : Type 0 where
+pub record Turned (a : List ℕ) (at : Place ℕ) (s : ℕ → List ℕ) (n : ℕ) (b : List ℕ) (to : Place ℕ) (i : ℕ) : Type 0 where
   pub puts : Puts a at (s i) b to
   pub most : i ≤ n
 
-pub turned_none : (a : List ℕ) (at : ℕ) (s : ℕ → List ℕ) (n : ℕ) → s 0 ≡ [] → Turned a at s n a at 0
+pub turned_none : (a : List ℕ) (at : Place ℕ) (s : ℕ → List ℕ) (n : ℕ) → s 0 ≡ [] → Turned a at s n a at 0
 turned_none a at s n e = record { puts = put_as (nothing_put a at) (sym e); most = omega arith }
 
-pub turned_more : {a b c : List ℕ} {at to k : ℕ} {s : ℕ → List ℕ} {n i : ℕ} {t : List ℕ} → Turned a at s n b to i → i < n → Puts b to t c k → s i ++ t ≡ s (i + 1) → Turned a at s n c k (i + 1)
+pub turned_more : {a b c : List ℕ} {at to k : Place ℕ} {s : ℕ → List ℕ} {n i : ℕ} {t : List ℕ} → Turned a at s n b to i → i < n → Puts b to t c k → s i ++ t ≡ s (i + 1) → Turned a at s n c k (i + 1)
 turned_more u l p e = record { puts = put_as (then_put u.puts p) e; most = omega (arith, l) }
 
-pub turned_all : {a b : List ℕ} {at to : ℕ} {s : ℕ → List ℕ} {n i : ℕ} → Turned a at s n b to i → n ≤ i → Puts a at (s n) b to
+pub turned_all : {a b : List ℕ} {at to : Place ℕ} {s : ℕ → List ℕ} {n i : ℕ} → Turned a at s n b to i → n ≤ i → Puts a at (s n) b to
 turned_all {s = s} {n = n} {i = i} u l =
     let e : i ≡ n = omega (arith, u.most) in
     put_as u.puts (ap s e)
@@ -89,36 +89,12 @@ line_one node i e = ap (λ (n : EstTime). lines node i ++ line i n) e ∙ sym (a
 
 -- ---- the slice when all has been written
 
-module _ {out : List ℕ} {at : ℕ} {text : List ℕ} (w : Written out at text) where
-  short_listed : length out < at → {end : List ℕ} → end ≡ take 0 out ++ zeros (length out - 0) → TextListed (some text) out end Short
-  short_listed h e = record {
-    answer = rw (lt-leb (length text) (length out) (w.over h)) refl;
-    bytes = rw (lt-leb (length text) (length out) (w.over h)) (e ∙ ap zeros (sub-zero (length out)));
-  }
-
-  reached : at ≤ length out → at ≡ length text
-  reached l = sym (length-take-le at out l) ∙ ap length (w.there l)
-
-  whole_listed : at ≤ length out → {end : List ℕ} → end ≡ take at out ++ zeros (length out - at) → TextListed (some text) out end (Bytes at)
-  whole_listed l e =
-      let n : at ≡ length text = reached l in
-      record {
-        answer = rw (le-leb (length text) (length out) (omega arith)) (ap Bytes n);
-        bytes = rw (le-leb (length text) (length out) (omega arith)) (e ∙ ap (λ (t : List ℕ). t ++ zeros (length out - at)) (w.there l) ∙ ap (λ (k : ℕ). text ++ zeros (length out - k)) n);
-      }
-
-pub finishes_short : {out : List ℕ} {at : ℕ} → length out < at → {end : List ℕ} → end ≡ take 0 out ++ zeros (length out - 0) → Finishes out at end Short
-finishes_short h e = record { listed = λ text w. short_listed w h e }
-
-pub finishes_whole : {out : List ℕ} {at : ℕ} → at ≤ length out → {end : List ℕ} → end ≡ take at out ++ zeros (length out - at) → Finishes out at end (Bytes at)
-finishes_whole h e = record { listed = λ text w. whole_listed w h e }
-
 -- a text that has been put at the start
-module _ {a b : List ℕ} {to : ℕ} {text : List ℕ} (p : Puts a 0 text b to) where
+module _ {a b : List ℕ} {to : Place ℕ} {text : List ℕ} (p : Puts a (Some 0) text b to) where
   whole : Written b to text
-  whole = p.behind [] (record { there = λ _. refl; over = λ h. absurd (omega (arith, h)) })
+  whole = p.behind [] (record { to = (omega arith, refl) })
 
-  pub text_listed : {end : List ℕ} {r : Listed} → Finishes b to end r → TextListed (some text) a end r
+  pub text_listed : {end : List ℕ} {r : Result ℕ ListingError} → Finishes b to end r → TextListed (some text) a end r
   text_listed {end} {r} f =
       let l = f.listed text whole in
       record {
@@ -133,13 +109,13 @@ module _ (report : Report) (t : Table) {k : ℕ} (e : k ≡ filled (length t.flo
   unfolding sheet_in
   text_is h = ap (λ (b : Bool). text_if b (sheet_text report (at t))) h
 
-  pub unfilled_listed : k < report.nodes → {out end : List ℕ} → end ≡ take 0 out ++ zeros (length out - 0) → TextListed (sheet_in report t) out end Unfilled
+  pub unfilled_listed : k < report.nodes → {out end : List ℕ} → end ≡ zeros (length out) → TextListed (sheet_in report t) out end (Err Unfilled)
   unfolding nodes_in
   unfilled_listed h {out} g = record {
     answer = sym (ap (λ (x : Option (List ℕ)). listed_as x (length out)) (text_is (lt-leb report.nodes (filled (length t.floats) (length t.numbers)) (omega (arith, e)))));
-    bytes = g ∙ ap zeros (sub-zero (length out)) ∙ sym (ap (λ (x : Option (List ℕ)). bytes_left x (length out)) (text_is (lt-leb report.nodes (filled (length t.floats) (length t.numbers)) (omega (arith, e)))));
+    bytes = g ∙ sym (ap (λ (x : Option (List ℕ)). bytes_left x (length out)) (text_is (lt-leb report.nodes (filled (length t.floats) (length t.numbers)) (omega (arith, e)))));
   }
 
-  pub filled_listed : report.nodes ≤ k → {out end : List ℕ} {r : Listed} → TextListed (some (sheet_text report (at t))) out end r → TextListed (sheet_in report t) out end r
+  pub filled_listed : report.nodes ≤ k → {out end : List ℕ} {r : Result ℕ ListingError} → TextListed (some (sheet_text report (at t))) out end r → TextListed (sheet_in report t) out end r
   unfolding nodes_in
   filled_listed h {out} {end} {r} l = subst (λ (x : Option (List ℕ)). TextListed x out end r) (sym (text_is (le-leb report.nodes (filled (length t.floats) (length t.numbers)) (omega (arith, e))))) l

@@ -1,7 +1,7 @@
 -- The listing, document 01 under "A book and its listing": "Fields: node, kind (A, C, F), link, next, its alternative,
 -- previous, its alternative, in decimal; time, time to next, distance to next, speed, each the 16 hexadecimal digits of
 -- its bits, closing zeros dropped, one digit kept. Refused: `refused N`." Text is a list of bytes (ASCII).
-use Rattle.std.specs.Prelude.{◌≡◌, Bool, true, false, cond, List, [], ◌∷◌, ◌++◌, ℕ, zero, suc, ◌+◌, ◌-◌, ◌/◌, ◌%◌, ltb, leb, eqb, length, Float}
+use Rattle.std.specs.Prelude.{◌≡◌, Bool, true, false, cond, List, [], ◌∷◌, ◌++◌, ℕ, zero, suc, ◌+◌, ◌-◌, ◌/◌, ◌%◌, ltb, leb, eqb, length, Float, Result, Ok, Err}
 use Rattle.std.proofs.Math.Option.{Option, none, some}
 use Rattle.std.specs.Float.{binary64}
 use Rattle.std.specs.Float.Ieee.{to_bits}
@@ -12,8 +12,8 @@ use Rattle.net_node.specs.declared.EstTime.{EstTime}
 use Rattle.net_node.specs.Table.{Table, at}
 use Rattle.net_node.specs.Left.{nodes_in}
 use Rattle.report.specs.declared.Report.{Report}
-use Rattle.listing.specs.declared.Listed.{Listed}
-use Rattle.listing.specs.declared.Listed.TheVariants.{Bytes, Short, Unfilled}
+use Rattle.listing.specs.declared.ListingError.{ListingError}
+use Rattle.listing.specs.declared.ListingError.TheVariants.{Short, Unfilled}
 
 -- ---- numbers
 
@@ -115,9 +115,9 @@ refused_text k = (114 ∷ 101 ∷ 102 ∷ 117 ∷ 115 ∷ 101 ∷ 100 ∷ 32 ∷
 -- ---- into a slice of so many bytes
 
 -- a slice that is too short is answered, and left zero
-abbrev pub fitted : Bool → List ℕ → Listed
-fitted true text = Bytes (length text)
-fitted false text = Short
+abbrev pub fitted : Bool → List ℕ → Result ℕ ListingError
+fitted true text = Ok (length text)
+fitted false text = Err Short
 
 abbrev pub bytes_as : Bool → List ℕ → ℕ → List ℕ
 bytes_as true text size = text ++ zeros (size - length text)
@@ -132,8 +132,8 @@ unfoldable pub sheet_in : Report → Table → Option (List ℕ)
 sheet_in r t = text_if (leb r.nodes (nodes_in t)) (sheet_text r (at t))
 
 -- how a text is answered, and what the slice holds then; of a table with too few nodes there is no text
-abbrev pub listed_as : Option (List ℕ) → ℕ → Listed
-listed_as none size = Unfilled
+abbrev pub listed_as : Option (List ℕ) → ℕ → Result ℕ ListingError
+listed_as none size = Err Unfilled
 listed_as (some text) size = fitted (leb (length text) size) text
 
 abbrev pub bytes_left : Option (List ℕ) → ℕ → List ℕ
@@ -142,19 +142,18 @@ bytes_left (some text) size = bytes_as (leb (length text) size) text size
 
 -- The promise of a function that lists into a lent slice: what it answers, and every byte of the slice, whatever that
 -- held.
-pub record TextListed (text : Option (List ℕ)) (lent left : List ℕ) (r : Listed) : Type 0 where
+pub record TextListed (text : Option (List ℕ)) (lent left : List ℕ) (r : Result ℕ ListingError) : Type 0 where
   pub answer : r ≡ listed_as text (length lent)
   pub bytes : left ≡ bytes_left text (length lent)
 
 -- what a function for other languages says of an answer: a number, 0 where the text stands in the slice, else one that
 -- no refusal has (those of documents 01 and 02 end at 24)
-abbrev pub listed_number : Listed → ℕ
-listed_number (Bytes n) = 0
-listed_number Short = 101
-listed_number Unfilled = 102
+abbrev pub listed_number : Result ℕ ListingError → ℕ
+listed_number (Ok n) = 0
+listed_number (Err Short) = 101
+listed_number (Err Unfilled) = 102
 
 -- and the text's length
-abbrev pub listed_length : Listed → ℕ
-listed_length (Bytes n) = n
-listed_length Short = 0
-listed_length Unfilled = 0
+abbrev pub listed_length : Result ℕ ListingError → ℕ
+listed_length (Ok n) = n
+listed_length (Err e) = 0

@@ -9,48 +9,52 @@ ghost use Rattle.net_node.specs.Left.{filled};
 ghost use Rattle.net_node.specs.Lent.{table_seen};
 ghost use Rattle.listing.specs.Listing.{glyph, letter, digits, decimal, float};
 ghost use Rattle.listing.specs.Listing.{line, lines, head, refused_text, sheet_in, TextListed};
+ghost use Rattle.refusals.specs.Refusals.{refusal_number};
 ghost use Rattle.listing.specs.Written.{Puts, Finishes};
 
 use net_node::{EstTime, EstType};
+use refusals::Refusal;
 use report::Report;
+use space::Zero;
 
-// How many bytes a listing has, that the slice is too short for it, or that the table has fewer nodes than the report
-// says.
-#[derive(Clone, Copy)]
-pub enum Listed {
-    Bytes(usize),
+// Why there is no listing.
+#[derive(Clone, Copy, Debug, PartialEq, Eq)]
+pub enum ListingError {
+    // the slice is too short for it
     Short,
+    // the table has fewer nodes than the report says
     Unfilled,
 }
 
-// Puts a byte behind a text that goes up to `at`, and answers where the next one goes: past the end if there was no
-// room.
-fn put_byte(out: &mut [u8], at: usize, byte: u8) -> usize
+// Where the next byte of a text goes; `None` where the text has not fitted. `write!` would tell nothing of when it fails,
+// and a listing's promise says exactly when, so fields are put by hand.
+type Place = Option<usize>;
+
+// Puts a byte behind a text that goes up to `at`, and answers where the next one goes.
+fn put_byte(out: &mut [u8], at: Place, byte: u8) -> Place
     ensures { Puts out.old at (byte ∷ []) out.new result }
 {
-    let size = out.len();
-    if at < size {
+    let at = at?;
+    if at < out.len() {
         out[at] = byte;
-        return at + 1;
+        return Some(at + 1);
     }
-    size + 1
+    None
 }
 
 // Puts bytes behind a text.
-fn put_bytes(out: &mut [u8], at: usize, bytes: &[u8]) -> usize
+fn put_bytes(out: &mut [u8], at: Place, bytes: &[u8]) -> Place
     ensures { Puts out.old at bytes.now out.new result }
 {
     let mut to = at;
-    let mut i = 0;
-    while i < bytes.len() {
-        to = put_byte(out, to, bytes[i]);
-        i += 1;
+    for byte in bytes {
+        to = put_byte(out, to, *byte);
     }
     to
 }
 
 // Puts a number in decimal behind a text.
-fn put_decimal(out: &mut [u8], at: usize, n: u64) -> usize
+fn put_decimal(out: &mut [u8], at: Place, n: u64) -> Place
     ensures { Puts out.old at (decimal n) out.new result }
 {
     if n < 10 {
@@ -61,7 +65,7 @@ fn put_decimal(out: &mut [u8], at: usize, n: u64) -> usize
 }
 
 // Puts a word and a number in decimal behind a text.
-fn put_count(out: &mut [u8], at: usize, word: &[u8], n: u64) -> usize
+fn put_count(out: &mut [u8], at: Place, word: &[u8], n: u64) -> Place
     ensures { Puts out.old at (word.now ++ decimal n) out.new result }
 {
     let to = put_bytes(out, at, word);
@@ -69,6 +73,7 @@ fn put_count(out: &mut [u8], at: usize, word: &[u8], n: u64) -> usize
 }
 
 // A hexadecimal digit.
+#[tactic(auto, unfolding(crate::specs::Listing::glyph))]
 fn glyph(d: u64) -> u8
     requires { d < 16 }
     ensures { result ≡ glyph d }
@@ -77,7 +82,7 @@ fn glyph(d: u64) -> u8
 }
 
 // Puts the last `count` hexadecimal digits of a number behind a text.
-fn put_hex(out: &mut [u8], at: usize, n: u64, count: usize) -> usize
+fn put_hex(out: &mut [u8], at: Place, n: u64, count: usize) -> Place
     ensures { Puts out.old at (digits 16 count n) out.new result }
 {
     if count == 0 {
@@ -88,7 +93,7 @@ fn put_hex(out: &mut [u8], at: usize, n: u64, count: usize) -> usize
 }
 
 // Puts a blank and the hexadecimal digits of a float's bits behind a text, without closing zeros.
-fn put_float(out: &mut [u8], at: usize, x: f64) -> usize
+fn put_float(out: &mut [u8], at: Place, x: f64) -> Place
     ensures { Puts out.old at (32 ∷ float x) out.new result }
 {
     let mut bits = floats::bits_of(x);
@@ -113,15 +118,13 @@ fn letter(kind: EstType) -> u8
 }
 
 // Puts a node's line behind a text.
-fn put_line(out: &mut [u8], at: usize, i: usize, node: EstTime) -> usize
+fn put_line(out: &mut [u8], at: Place, i: usize, node: EstTime) -> Place
     ensures { Puts out.old at (line i node) out.new result }
 {
-    let event = node.link_event;
-    let kind = event.est_type;
     let mut to = put_decimal(out, at, i as u64);
     to = put_byte(out, to, b' ');
-    to = put_byte(out, to, letter(kind));
-    to = put_count(out, to, b" ", event.link_idx as u64);
+    to = put_byte(out, to, letter(node.link_event.est_type));
+    to = put_count(out, to, b" ", node.link_event.link_idx as u64);
     to = put_count(out, to, b" ", node.idx_next as u64);
     to = put_count(out, to, b" ", node.idx_next_alt as u64);
     to = put_count(out, to, b" ", node.idx_prev as u64);
@@ -134,23 +137,20 @@ fn put_line(out: &mut [u8], at: usize, i: usize, node: EstTime) -> usize
 }
 
 // Puts the lines of the first n nodes behind a text.
-fn put_lines(out: &mut [u8], at: usize, floats: &[f64], numbers: &[u32], n: usize) -> usize
+fn put_lines(out: &mut [u8], at: Place, floats: &[f64], numbers: &[u32], n: usize) -> Place
     requires { n ≤ filled (length floats.now) (length numbers.now) }
     ensures { Puts out.old at (lines (node_at floats.now numbers.now) n)
         out.new result }
 {
     let mut to = at;
-    let mut i = 0;
-    while i < n {
-        let node = net_node::load(floats, numbers, i);
-        to = put_line(out, to, i, node);
-        i += 1;
+    for i in 0..n {
+        to = put_line(out, to, i, net_node::load(floats, numbers, i));
     }
     to
 }
 
 // Puts a report's line behind a text.
-fn put_head(out: &mut [u8], at: usize, report: Report) -> usize
+fn put_head(out: &mut [u8], at: Place, report: Report) -> Place
     ensures { Puts out.old at (head report) out.new result }
 {
     let mut to = put_count(out, at, b"nodes ", report.nodes as u64);
@@ -161,51 +161,41 @@ fn put_head(out: &mut [u8], at: usize, report: Report) -> usize
     put_byte(out, to, b'\n')
 }
 
-// Makes a slice zero from an index on.
-fn clear_from(s: &mut [u8], from: usize)
-    ensures { s.new ≡ take from s.old ++ zeros (length s.old - from) }
-{
-    let mut i = from;
-    while i < s.len() {
-        s[i] = 0;
-        i += 1;
-    }
-}
-
 // Makes zero what lies behind a text that goes up to `at`, or everything if it has not fitted.
-fn finish(s: &mut [u8], at: usize) -> Listed
+fn finish(s: &mut [u8], at: Place) -> Result<usize, ListingError>
     ensures { Finishes s.old at s.new result }
 {
-    if s.len() < at {
-        clear_from(s, 0);
-        return Listed::Short;
-    }
-    clear_from(s, at);
-    Listed::Bytes(at)
+    space::clear_from(s, at.unwrap_or(0));
+    at.ok_or(ListingError::Short)
 }
 
 // Lists a sheet: its report, then as many nodes as that says. A slice that is too short is left zero, and so is one for
 // a table that has fewer nodes.
-pub fn list_sheet(floats: &[f64], numbers: &[u32], report: Report, out: &mut [u8]) -> Listed
+pub fn list_sheet(
+    floats: &[f64],
+    numbers: &[u32],
+    report: Report,
+    out: &mut [u8],
+) -> Result<usize, ListingError>
     ensures { TextListed (sheet_in report (table_seen floats numbers)) out.old
         out.new result }
 {
     let n = report.nodes;
     let filled = net_node::nodes_filled(floats.len(), numbers.len());
     if filled < n {
-        clear_from(out, 0);
-        return Listed::Unfilled;
+        Zero::clear(out);
+        return Err(ListingError::Unfilled);
     }
-    let to = put_head(out, 0, report);
+    let to = put_head(out, Some(0), report);
     let end = put_lines(out, to, floats, numbers, n);
     finish(out, end)
 }
 
 // Lists a refusal.
-pub fn list_refused(number: u32, out: &mut [u8]) -> Listed
-    ensures { TextListed (some (refused_text number)) out.old out.new result }
+pub fn list_refused(refusal: Refusal, out: &mut [u8]) -> Result<usize, ListingError>
+    ensures { TextListed (some (refused_text (refusal_number refusal))) out.old out.new result }
 {
-    let to = put_count(out, 0, b"refused ", number as u64);
+    let to = put_count(out, Some(0), b"refused ", u32::from(refusal) as u64);
     let end = put_byte(out, to, b'\n');
     finish(out, end)
 }

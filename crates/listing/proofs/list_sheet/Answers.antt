@@ -6,7 +6,7 @@ use Rattle.listing.proofs.Texts.{then_put, text_listed, unfilled_listed, filled_
 use Rattle.listing.proofs.list_sheet.Goals as goal
 
 pub returns-then-filled-n : goal.returns-then-filled-n
-returns-then-filled-n c = unfilled_listed _ _ c.nodes_filled-filled.ensures c.if-filled-n.true c.clear_from.ensures
+returns-then-filled-n c = unfilled_listed _ _ c.nodes_filled-filled.ensures c.if-filled-n.true c.clear.ensures
 
 pub put_lines-end-requires : goal.put_lines-end-requires
 put_lines-end-requires c = omega (arith, c.nodes_filled-filled.ensures, c.if-filled-n.false)

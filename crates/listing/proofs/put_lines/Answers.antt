@@ -6,7 +6,7 @@ pub loop-i-init : goal.loop-i-init
 loop-i-init c = turned_none _ _ _ _ (no_lines _)
 
 pub loop-i-preserved : goal.loop-i-preserved
-loop-i-preserved c = turned_more c.loop-i.invariant c.loop-i-test.true c.put_line-to.ensures (line_one _ _ c.load-node.ensures)
+loop-i-preserved c = turned_more c.loop-i.invariant c.loop-i-test.true c.put_line-to.ensures (line_one _ _ c.load.ensures)
 
 pub shape_of-out : goal.shape_of-out
 shape_of-out c = c.loop-i.invariant.puts.sized

@@ -1,12 +1,8 @@
 -- `listing::put_lines` meets its contract: `Turned` is the loop's invariant.
-use Prim.Native.Nat.{◌-◌}
 use Rattle.net_node.specs.Table.{node_at}
 use Rattle.listing.specs.Listing.{lines}
 use Rattle.listing.proofs.Texts.{Turned}
 use Rattle.listing.proofs.put_lines.Given as goal
 
 abbrev pub invariant-loop-i : goal.invariant-loop-i
-invariant-loop-i l = Turned l.initial.out l.at (lines (node_at l.floats l.numbers)) l.n l.out l.to l.i
-
-abbrev pub decreases-loop-i : goal.decreases-loop-i
-decreases-loop-i l = l.n - l.i
+invariant-loop-i l = Turned l.initial.out l.fn.at (lines (node_at l.floats l.numbers)) l.n l.out l.to l.i
