@@ -30,16 +30,6 @@ fn print_number<W: Write>(n: u32, to: &mut W) -> Result<()>
     writeln!(to, "refused {n}")
 }
 
-// Says on standard error if not all was written, and hands the failure on.
-fn say_unless(rt: &impl Eprint, written: Result<()>) -> Result<()>
-    ensures { result ≡ written }
-{
-    if written.is_err() {
-        let _ = eprintln!(rt; "readable: standard output: not all was written");
-    }
-    written
-}
-
 // Reads the whole input and prints the answer to it.
 fn answer<R: Read, W: Write>(rt: &impl Eprint, from: &mut R, to: &mut W) -> Result<()>
     ensures { OnOk result (IfSome (R.remaining from.old)
@@ -50,7 +40,7 @@ fn answer<R: Read, W: Write>(rt: &impl Eprint, from: &mut R, to: &mut W) -> Resu
         Some(n) => print_number(number(&space[..n]), to),
         None => to.write_all(b"too long\n"),
     };
-    say_unless(rt, written)
+    streams::say_unless(rt, "readable", written)
 }
 
 fn main(rt: HostRuntime) -> Result<()> {

@@ -1,5 +1,6 @@
 -- Document 01's table of refusals, as the code names its rows, and answers that may be one of them.
-use Rattle.std.specs.Prelude.{ℕ, Result, Ok, Err}
+use Rattle.std.specs.Prelude.{ℕ, List, ◌++◌, codes, Result, Ok, Err}
+use Rattle.std.specs.Fmt.{decimal}
 use Rattle.laws.specs.Answer.{Answer, refused, given}
 use Rattle.refusals.specs.declared.Refusal.{Refusal}
 use Rattle.refusals.specs.declared.Refusal.TheVariants.{CutOff, LeftOver, OutOfBounds, BadValue, BadIndex, BadOrigin}
@@ -24,6 +25,10 @@ refusal_number BadEnd = 13
 refusal_number BadLinks = 14
 refusal_number NotTimed = 15
 refusal_number AllZero = 16
+
+-- `refused N`
+abbrev pub refusal_text : Refusal → List ℕ
+refusal_text r = codes "refused " ++ decimal (refusal_number r)
 
 -- what an answer of the code tells: what it gives, or the number of its refusal
 abbrev pub told : {A : Type 0} → Result A Refusal → Answer A

@@ -2,9 +2,9 @@
 // specs/Refusals.antt.
 #![tactic(auto)]
 
-ghost use Rattle.std.specs.Prelude.{◌≡◌};
+ghost use Rattle.std.specs.Prelude.{◌≡◌, Some};
 ghost use Rattle.laws.specs.Answer.{number_of};
-ghost use Rattle.refusals.specs.Refusals.{refusal_number, told};
+ghost use Rattle.refusals.specs.Refusals.{refusal_number, refusal_text, told};
 
 use std::fmt;
 
@@ -74,6 +74,8 @@ impl From<Refusal> for u32 {
 
 // As the programs print it.
 impl fmt::Display for Refusal {
+    ghost output = { λ r. Some (refusal_text r) };
+
     fn fmt<W: fmt::Write>(&self, f: &mut fmt::Formatter<W>) -> fmt::Result {
         write!(f, "refused {}", u32::from(*self))
     }

@@ -18,9 +18,7 @@ fn pattern(bytes: [u8; 8]) -> u64
     ensures { result ≡ little_endian bytes }
 {
     let mut n: u64 = 0;
-    let mut i = 8;
-    while i > 0 {
-        i -= 1;
+    for i in (0..8).rev() {
         n = n * 256 + bytes[i] as u64;
     }
     n
@@ -58,9 +56,7 @@ fn answer(bytes: [u8; 8]) -> [u8; 16]
 {
     let mut rest = root_bits(pattern(bytes));
     let mut text = [0u8; 16];
-    let mut at = 16;
-    while at > 0 {
-        at -= 1;
+    for at in (0..16).rev() {
         text[at] = digit(rest % 16);
         rest /= 16;
     }

@@ -10,16 +10,6 @@ ghost use Rattle.sheets.specs.Sheets.{SheetPrinted};
 
 use std::io::{Read, Result, Write};
 
-// Says on standard error if not all was written, and hands the failure on.
-fn say_unless(rt: &impl Eprint, written: Result<()>) -> Result<()>
-    ensures { result ≡ written }
-{
-    if written.is_err() {
-        let _ = eprintln!(rt; "sheet: standard output: not all was written");
-    }
-    written
-}
-
 // Reads the whole input and prints the answer to it.
 fn answer<R: Read, W: Write>(rt: &impl Eprint, from: &mut R, to: &mut W) -> Result<()>
     ensures book { OnOk result (IfSome (R.remaining from.old) (λ input.
@@ -32,7 +22,7 @@ fn answer<R: Read, W: Write>(rt: &impl Eprint, from: &mut R, to: &mut W) -> Resu
         Some(n) => sheets::print_sheet(&space[..n], to),
         None => to.write_all(b"too long\n"),
     };
-    say_unless(rt, written)
+    streams::say_unless(rt, "sheet", written)
 }
 
 fn main(rt: HostRuntime) -> Result<()> {

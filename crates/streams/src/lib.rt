@@ -1,7 +1,8 @@
-// Reading a stream into a lent slice: until the slice is full, or whole.
+// Reading a stream into a lent slice, until the slice is full, or whole; and what a program says where its output is not
+// taken.
 #![tactic(auto)]
 
-ghost use Rattle.std.specs.Prelude.{ℕ, ◌<◌, ◌≤◌, IfOk, IfSome, IfNone, OnErr, length, take};
+ghost use Rattle.std.specs.Prelude.{◌≡◌, ℕ, ◌<◌, ◌≤◌, IfOk, IfSome, IfNone, OnErr, length, take};
 ghost use Rattle.std.specs.Io.{ReadsAtMost};
 ghost use Rattle.std.specs.Io.KnownBytes.{Consumes, IsAtEnd};
 ghost use Rattle.streams.specs.Streams.{IsInput, IsLonger};
@@ -41,4 +42,14 @@ pub fn read_whole<R: Read>(from: &mut R, buf: &mut [u8]) -> Result<Option<usize>
         return Ok(None);
     }
     Ok(Some(n))
+}
+
+// Says on standard error if not all was written, and hands the failure on.
+pub fn say_unless(rt: &impl Eprint, program: &str, written: Result<()>) -> Result<()>
+    ensures { result ≡ written }
+{
+    if written.is_err() {
+        let _ = eprintln!(rt; "{program}: standard output: not all was written");
+    }
+    written
 }
