@@ -1,7 +1,7 @@
--- `book_format::measure` meets its contract: each test of the length is one law of Measures.
+-- `Book::measure` meets its contract: each test of the length is one law of Measures.
 use native.Mathlib.Omega.{arith}
-use Rattle.book_format.proofs.Measures.{short_head, short_links, short_origins, short_destinations, short-legs, short-samples, long-samples, whole-samples}
-use Rattle.book_format.proofs.measure.Goals as goal
+use Rattle.book_format.proofs.Measures.{short_head, short_links, short_origins, short_destinations, short-legs, short-samples, long-samples, whole-samples, sized-samples}
+use Rattle.book_format.proofs.Book.measure.Goals as goal
 
 pub returns-then-len-lt-LINKS_AT : goal.returns-then-len-lt-LINKS_AT
 returns-then-len-lt-LINKS_AT c = short_head _ (omega arith)
@@ -36,6 +36,13 @@ returns-then-end-len c =
     c.count_at-origins.ensures.value
     c.count_at-destinations.ensures.value c.count_at-legs.ensures.value
     c.count_at-samples.ensures.value (omega arith)
+
+pub invariant_of-result : goal.invariant_of-result
+invariant_of-result c =
+    sized-samples _ c.count_at-links.ensures.value
+    c.count_at-origins.ensures.value
+    c.count_at-destinations.ensures.value c.count_at-legs.ensures.value
+    c.count_at-samples.ensures.value (omega arith) (omega arith)
 
 pub returns : goal.returns
 returns c =
