@@ -7,7 +7,7 @@ use native.Mathlib.Omega.{arith}
 use lib.ListN.{length}
 use Rattle.book_format.specs.declared.Sections.{Sections}
 use Rattle.book_format.specs.declared.Sample.{Sample}
-use Rattle.book_format.specs.Format.{Sized, sections_of, link_width, origin_width, destination_width, leg_width, sample_width, links, origins, destinations, legs, samples, links_at_of, origins_at_of, destinations_at_of, legs_at_of, samples_at_of, end_of, sample_from, sample_at}
+use Rattle.book_format.specs.Format.{Sized, sections_of, link_width, origin_width, destination_width, leg_width, sample_width, links, origins, destinations, legs, samples, rows, links_at_of, origins_at_of, destinations_at_of, legs_at_of, samples_at_of, end_of, sample_from, sample_at}
 
 -- ---- the fields of s
 
@@ -98,6 +98,14 @@ module _ {b c : List ℕ} {s : Sections} (z : Sized b s) (e : b ≡ c) (i : ℕ)
 
   pub sample_stands : i < samples c → s.samples_at + i * sample_width + sample_width ≤ length b
   sample_stands h = omega (arith, sized_samples_at z, sample_inside b z.whole i (rw e h))
+
+-- all rows; each has bytes of its own, so there are no more rows than bytes
+module _ {b : List ℕ} {s : Sections} (z : Sized b s) where
+  pub sized_rows : s.legs + s.destinations + s.origins + s.links + s.samples ≡ rows b
+  sized_rows = omega (arith, sized_links z, sized_origins z, sized_destinations z, sized_legs z, sized_samples z)
+
+  pub rows_fit : s.legs + s.destinations + s.origins + s.links + s.samples ≤ length b
+  rows_fit = omega (arith, z.whole, follow b, sized_rows)
 
 -- a row's place, by where the definition has its section
 pub from_section : {at start defined : ℕ} (rows : ℕ) → at ≡ start + rows → start ≡ defined → at ≡ defined + rows

@@ -6,7 +6,7 @@ ghost use Rattle.std.specs.Prelude.{◌≡◌, true, false, ◌+◌, ◌*◌, �
 ghost use Rattle.fields.specs.Fields.{u32_at};
 ghost use Rattle.floats.specs.Floats.{book_float};
 ghost use Rattle.refusals.specs.Refusals.{told};
-ghost use Rattle.book_format.specs.Format.{links, origins, destinations, legs, samples, samples_at_of};
+ghost use Rattle.book_format.specs.Format.{links, origins, destinations, legs, samples, rows, samples_at_of};
 ghost use Rattle.book_format.specs.Format.{link_length, origin_offset, destination_link, link_at, origin_at, leg_at};
 ghost use Rattle.book_format.specs.Format.{sample_from, sample_at, sample_patterns, head_patterns, float_of};
 ghost use Rattle.book_format.specs.Rows.{row4, row5, some_bad_leg};
@@ -268,6 +268,15 @@ impl<'a> Book<'a> {
         self.sections.samples
     }
 
+    // How many rows all sections have.
+    #[tactic(auto, using(crate::proofs::Places::rows_fit, crate::proofs::Places::sized_rows))]
+    pub fn rows(&self) -> usize
+        ensures { result ≡ rows self.now }
+    {
+        let s = &self.sections;
+        s.legs + s.destinations + s.origins + s.links + s.samples
+    }
+
     // Where the first sample stands.
     #[tactic(auto, using(crate::proofs::Places::sized_samples_at))]
     pub fn samples_at(&self) -> usize
@@ -288,7 +297,7 @@ impl<'a> Book<'a> {
     }
 
     // A link whose length is a book's float.
-    #[tactic(auto, unfolding(crate::specs::Format::link_length, crate::specs::Format::link_at, crate::specs::Format::link_next, crate::specs::Format::link_next_alt, crate::specs::Format::link_prev, crate::specs::Format::link_prev_alt))]
+    #[tactic(auto, unfolding(crate::specs::Format::link_length, crate::specs::Format::link_at, crate::specs::Format::link_next, crate::specs::Format::link_next_alt, crate::specs::Format::link_prev, crate::specs::Format::link_prev_alt,),)]
     pub fn link_at(&self, i: usize) -> Link
         requires i_lt_links { i < links self.now }
         requires i_value { book_float (link_length self.now i) ≡ true }
@@ -322,7 +331,7 @@ impl<'a> Book<'a> {
     }
 
     // An origin whose offset is a book's float.
-    #[tactic(auto, using(crate::proofs::Places::sized_origins_at), unfolding(crate::specs::Format::origin_at, crate::specs::Format::origin_link, crate::specs::Format::origin_offset, crate::specs::Format::origin_front))]
+    #[tactic(auto, using(crate::proofs::Places::sized_origins_at), unfolding(crate::specs::Format::origin_at, crate::specs::Format::origin_link, crate::specs::Format::origin_offset, crate::specs::Format::origin_front,),)]
     pub fn origin_at(&self, i: usize) -> Origin
         requires i_lt_origins { i < origins self.now }
         requires i_value { book_float (origin_offset self.now i) ≡ true }
@@ -341,7 +350,7 @@ impl<'a> Book<'a> {
     }
 
     // A destination's link.
-    #[tactic(auto, using(crate::proofs::Places::sized_destinations_at), unfolding(crate::specs::Format::destination_link))]
+    #[tactic(auto, using(crate::proofs::Places::sized_destinations_at), unfolding(crate::specs::Format::destination_link),)]
     pub fn destination_link(&self, i: usize) -> u32
         requires i_lt_destinations { i < destinations self.now }
         ensures { result ≡ destination_link self.now i }
@@ -352,7 +361,7 @@ impl<'a> Book<'a> {
     }
 
     // The leg in row i, whose number is i + 1.
-    #[tactic(auto, using(crate::proofs::Places::sized_legs_at), unfolding(crate::specs::Format::leg_at, crate::specs::Format::leg_link, crate::specs::Format::leg_parent, crate::specs::Format::leg_samples))]
+    #[tactic(auto, using(crate::proofs::Places::sized_legs_at), unfolding(crate::specs::Format::leg_at, crate::specs::Format::leg_link, crate::specs::Format::leg_parent, crate::specs::Format::leg_samples,),)]
     pub fn leg_at(&self, i: usize) -> Leg
         requires i_lt_legs { i < legs self.now }
         ensures { result ≡ leg_at self.now i }
@@ -370,7 +379,7 @@ impl<'a> Book<'a> {
     }
 
     // The patterns of a sample.
-    #[tactic(auto, using(crate::proofs::Places::sized_samples_at), unfolding(crate::specs::Format::sample_patterns, crate::specs::Format::sample_time, crate::specs::Format::sample_offset, crate::specs::Format::sample_speed))]
+    #[tactic(auto, using(crate::proofs::Places::sized_samples_at), unfolding(crate::specs::Format::sample_patterns, crate::specs::Format::sample_time, crate::specs::Format::sample_offset, crate::specs::Format::sample_speed,),)]
     pub fn sample_patterns(&self, i: usize) -> SamplePatterns
         requires i_lt_samples { i < samples self.now }
         ensures { result ≡ sample_patterns self.now i }
@@ -388,7 +397,7 @@ impl<'a> Book<'a> {
     }
 
     // A sample of a book whose three floats are a book's.
-    #[tactic(auto, using(crate::proofs::Places::sized_samples_at), unfolding(crate::specs::Format::sample_at, crate::specs::Rows::bad_sample))]
+    #[tactic(auto, using(crate::proofs::Places::sized_samples_at), unfolding(crate::specs::Format::sample_at, crate::specs::Rows::bad_sample),)]
     pub fn sample_at(&self, i: usize) -> Sample
         requires i_lt_samples { i < samples self.now }
         requires i_value { bad_sample self.now i ≡ false }
@@ -400,7 +409,7 @@ impl<'a> Book<'a> {
     }
 
     // The patterns of the three floats at the head: J, the departure and the train's length.
-    #[tactic(auto, using(crate::proofs::Places::head_inside), unfolding(crate::specs::Format::head_patterns, crate::specs::Format::join_bits, crate::specs::Format::departure_bits, crate::specs::Format::length_bits))]
+    #[tactic(auto, using(crate::proofs::Places::head_inside), unfolding(crate::specs::Format::head_patterns, crate::specs::Format::join_bits, crate::specs::Format::departure_bits, crate::specs::Format::length_bits,),)]
     pub fn head_patterns(&self) -> HeadPatterns
         ensures { result ≡ head_patterns self.now }
     {
