@@ -1,6 +1,5 @@
 pub mod Floats
 pub mod Places
-pub mod Records
 pub mod Measures
 pub mod Given
 mod Same

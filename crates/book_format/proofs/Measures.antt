@@ -1,6 +1,6 @@
 -- What `measured_of` says of a book's bytes, by how their length stands to the end of the last field.
 -- Assumes nothing.
-use mathlib.Core.Path.{◌≡◌, refl, ap, ◌∙◌}
+use mathlib.Core.Path.{◌≡◌, refl}
 use mathlib.Core.Bool.{Bool, true, false, cond}
 use mathlib.Core.List.{List}
 use Prim.Native.Nat.{ℕ, ◌+◌, ◌-◌, ◌*◌, ◌≤◌, ◌<◌}
@@ -8,25 +8,23 @@ use native.Mathlib.Omega.{arith}
 use borrow.Author.Tests.{ltb-false, lt-ltb, le-ltb}
 use lib.ListN.{length}
 use Rattle.fields.specs.Fields.{u32_at}
-use Rattle.book_format.specs.declared.Sections.{Sections}
-use Rattle.book_format.specs.declared.Measured.{Measured}
-use Rattle.book_format.specs.declared.Measured.TheVariants.{Whole, Short, Long}
+use Rattle.laws.specs.Answer.{Answer, refused, given}
 use Rattle.book_format.specs.Format.{Sized, sections_of, link_width, origin_width, destination_width, leg_width, sample_width, links, origins, destinations, legs, samples, links_at_of, origins_at_of, destinations_at_of, legs_at_of, samples_at_of, end_of}
-use Rattle.book_format.specs.Rows.{row1, row2, measured_of, measured_number}
+use Rattle.book_format.specs.Rows.{row1, row2, measured_of}
 use Rattle.book_format.proofs.Places.{follow}
 
 -- ---- the three answers
 
 module _ (b : List ℕ) where
-  pub short_is : length b < end_of b → Short ≡ measured_of b
+  pub short_is : length b < end_of b → refused 1 ≡ measured_of b
   unfolding measured_of
   short_is h = rw (lt-ltb (length b) (end_of b) h)
 
-  pub long_is : end_of b < length b → Long ≡ measured_of b
+  pub long_is : end_of b < length b → refused 2 ≡ measured_of b
   unfolding measured_of
   long_is h = rw (le-ltb (length b) (end_of b) (omega arith), lt-ltb (end_of b) (length b) h)
 
-  pub whole_is : length b ≡ end_of b → Whole (sections_of b) ≡ measured_of b
+  pub whole_is : length b ≡ end_of b → given b ≡ measured_of b
   unfolding measured_of
   whole_is h = rw (le-ltb (length b) (end_of b) (omega arith), le-ltb (end_of b) (length b) (omega arith))
 
@@ -50,7 +48,7 @@ to_end l o d g p = to_samples l o d g + p * sample_width
 count_before : (b : List ℕ) {n at place : ℕ} → at ≡ place → n ≡ u32_at b (at - 4) → n ≡ u32_at b (place - 4)
 count_before b e h = rw e at h
 
-pub short_head : (b : List ℕ) → length b < links_at_of → Short ≡ measured_of b
+pub short_head : (b : List ℕ) → length b < links_at_of → refused 1 ≡ measured_of b
 short_head b h = short_is b (omega (arith, follow b))
 
 module _ (b : List ℕ) {l : ℕ} (read₁ : l ≡ u32_at b 24) where
@@ -61,7 +59,7 @@ module _ (b : List ℕ) {l : ℕ} (read₁ : l ≡ u32_at b 24) where
   next₁ : to_origins l ≡ origins_at_of b
   next₁ = omega (arith, follow b, are₁)
 
-  pub short_links : length b < to_origins l → Short ≡ measured_of b
+  pub short_links : length b < to_origins l → refused 1 ≡ measured_of b
   short_links h = short_is b (omega (arith, follow b, next₁))
 
   module _ {o : ℕ} (read₂ : o ≡ u32_at b (to_origins l - 4)) where
@@ -72,7 +70,7 @@ module _ (b : List ℕ) {l : ℕ} (read₁ : l ≡ u32_at b 24) where
     next₂ : to_destinations l o ≡ destinations_at_of b
     next₂ = omega (arith, follow b, are₂, next₁)
 
-    pub short_origins : length b < to_destinations l o → Short ≡ measured_of b
+    pub short_origins : length b < to_destinations l o → refused 1 ≡ measured_of b
     short_origins h = short_is b (omega (arith, follow b, next₂))
 
     module _ {d : ℕ} (read₃ : d ≡ u32_at b (to_destinations l o - 4)) where
@@ -83,7 +81,7 @@ module _ (b : List ℕ) {l : ℕ} (read₁ : l ≡ u32_at b 24) where
       next₃ : to_legs l o d ≡ legs_at_of b
       next₃ = omega (arith, follow b, are₃, next₂)
 
-      pub short_destinations : length b < to_legs l o d → Short ≡ measured_of b
+      pub short_destinations : length b < to_legs l o d → refused 1 ≡ measured_of b
       short_destinations h = short_is b (omega (arith, follow b, next₃))
 
       module _ {g : ℕ} (read₄ : g ≡ u32_at b (to_legs l o d - 4)) where
@@ -94,7 +92,7 @@ module _ (b : List ℕ) {l : ℕ} (read₁ : l ≡ u32_at b 24) where
         next₄ : to_samples l o d g ≡ samples_at_of b
         next₄ = omega (arith, follow b, are₄, next₃)
 
-        pub short-legs : length b < to_samples l o d g → Short ≡ measured_of b
+        pub short-legs : length b < to_samples l o d g → refused 1 ≡ measured_of b
         short-legs h = short_is b (omega (arith, follow b, next₄))
 
         module _ {p : ℕ} (read₅ : p ≡ u32_at b (to_samples l o d g - 4)) where
@@ -105,10 +103,10 @@ module _ (b : List ℕ) {l : ℕ} (read₁ : l ≡ u32_at b 24) where
           next₅ : to_end l o d g p ≡ end_of b
           next₅ = omega (arith, follow b, are₅, next₄)
 
-          pub short-samples : length b < to_end l o d g p → Short ≡ measured_of b
+          pub short-samples : length b < to_end l o d g p → refused 1 ≡ measured_of b
           short-samples h = short_is b (omega (arith, next₅))
 
-          pub long-samples : to_end l o d g p < length b → Long ≡ measured_of b
+          pub long-samples : to_end l o d g p < length b → refused 2 ≡ measured_of b
           long-samples h = long_is b (omega (arith, next₅))
 
           sections-are :
@@ -117,49 +115,42 @@ module _ (b : List ℕ) {l : ℕ} (read₁ : l ≡ u32_at b 24) where
           unfolding sections_of
           sections-are = cc (are₁, are₂, are₃, are₄, are₅, next₁, next₂, next₃, next₄, next₅)
 
-          pub whole-samples : to_end l o d g p ≤ length b → length b ≤ to_end l o d g p
-              → Whole (record { links = l; origins = o; destinations = d; legs = g; samples = p; origins_at = to_origins l; destinations_at = to_destinations l o; legs_at = to_legs l o d; samples_at = to_samples l o d g; end = to_end l o d g p })
-              ≡ measured_of b
-          whole-samples h i = ap Whole sections-are ∙ whole_is b (omega (arith, next₅))
+          pub whole-samples : to_end l o d g p ≤ length b → length b ≤ to_end l o d g p → given b ≡ measured_of b
+          whole-samples h i = whole_is b (omega (arith, next₅))
+
+          pub sized-samples : to_end l o d g p ≤ length b → length b ≤ to_end l o d g p
+              → Sized b (record { links = l; origins = o; destinations = d; legs = g; samples = p; origins_at = to_origins l; destinations_at = to_destinations l o; legs_at = to_legs l o d; samples_at = to_samples l o d g; end = to_end l o d g p })
+          sized-samples h i = record { is = sections-are; whole = omega (arith, next₅) }
 
 -- ---- what each answer says
 
--- two answers of different numbers
-module _ {X : Type 0} {m n : Measured} where
-  other : m ≡ n → (measured_number m ≡ measured_number n → ⊥) → X
-  other e d = absurd (d (ap measured_number e))
-
-picked_short : (p q : Bool) (t : Sections) → cond p Short (cond q Long (Whole t)) ≡ Short → p ≡ true
-picked_short true q t e = refl
-picked_short false true t e = other e (λ z. omega arith)
-picked_short false false t e = other e (λ z. omega arith)
-
-picked_long : (p q : Bool) (t : Sections) → cond p Short (cond q Long (Whole t)) ≡ Long → (p ≡ false) × (q ≡ true)
-picked_long true q t e = other e (λ z. omega arith)
-picked_long false true t e = (refl, refl)
-picked_long false false t e = other e (λ z. omega arith)
-
-picked_whole : (p q : Bool) (t s : Sections) → cond p Short (cond q Long (Whole t)) ≡ Whole s → (p ≡ false) × (q ≡ false) × (s ≡ t)
-picked_whole true q t s e = other e (λ z. omega arith)
-picked_whole false true t s e = other e (λ z. omega arith)
-picked_whole false false t s e = (refl, refl, cc)
-
-pub measured_short : (b : List ℕ) → measured_of b ≡ Short → row1 b ≡ true
+pub measured_short : (b : List ℕ) → measured_of b ≡ refused 1 → row1 b ≡ true
 unfolding measured_of
-measured_short b e = picked_short (row1 b) (row2 b) (sections_of b) e
+measured_short b e = go (row1 b) (row2 b) e
+  where
+    go : (p q : Bool) → cond {A = Answer (List ℕ)} p (refused 1) (cond q (refused 2) (given b)) ≡ refused 1 → p ≡ true
+    go true q e = refl
+    go false true e = cc
+    go false false e = cc
 
-pub measured_long : (b : List ℕ) → measured_of b ≡ Long → (row1 b ≡ false) × (row2 b ≡ true)
+pub measured_long : (b : List ℕ) → measured_of b ≡ refused 2 → (row1 b ≡ false) × (row2 b ≡ true)
 unfolding measured_of
-measured_long b e = picked_long (row1 b) (row2 b) (sections_of b) e
+measured_long b e = go (row1 b) (row2 b) e
+  where
+    go : (p q : Bool) → cond {A = Answer (List ℕ)} p (refused 1) (cond q (refused 2) (given b)) ≡ refused 2 → (p ≡ false) × (q ≡ true)
+    go true q e = let o : ◌≡◌ {A = ℕ} 1 2 = cc in absurd (omega arith)
+    go false true e = (refl, refl)
+    go false false e = (refl, cc)
 
-pub measured_whole : (b : List ℕ) (s : Sections) → measured_of b ≡ Whole s → (row1 b ≡ false) × (row2 b ≡ false)
+pub measured_whole : (b c : List ℕ) → measured_of b ≡ given c → (row1 b ≡ false) × (row2 b ≡ false) × (c ≡ b)
 unfolding measured_of
-measured_whole b s e = let h = picked_whole (row1 b) (row2 b) (sections_of b) s e in (h.0, h.1)
+measured_whole b c e = go (row1 b) (row2 b) e
+  where
+    go : (p q : Bool) → cond p (refused 1) (cond q (refused 2) (given b)) ≡ given c → (p ≡ false) × (q ≡ false) × (c ≡ b)
+    go true q e = (cc, cc, cc)
+    go false true e = (refl, cc, cc)
+    go false false e = (refl, refl, cc)
 
 pub rows_length : (b : List ℕ) → row1 b ≡ false → row2 b ≡ false → length b ≡ end_of b
 unfolding row1 row2
 rows_length b h g = omega (arith, ltb-false (length b) (end_of b) h, ltb-false (end_of b) (length b) g)
-
-pub whole_sized : (b : List ℕ) (s : Sections) → measured_of b ≡ Whole s → Sized b s
-unfolding measured_of
-whole_sized b s e = let h = picked_whole (row1 b) (row2 b) (sections_of b) s e in record { is = h.2; whole = rows_length b h.0 h.1 }

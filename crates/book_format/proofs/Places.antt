@@ -6,7 +6,8 @@ use Prim.Native.Nat.{ℕ, ◌+◌, ◌*◌, ◌≤◌, ◌<◌}
 use native.Mathlib.Omega.{arith}
 use lib.ListN.{length}
 use Rattle.book_format.specs.declared.Sections.{Sections}
-use Rattle.book_format.specs.Format.{Sized, sections_of, link_width, origin_width, destination_width, leg_width, sample_width, links, origins, destinations, legs, samples, links_at_of, origins_at_of, destinations_at_of, legs_at_of, samples_at_of, end_of}
+use Rattle.book_format.specs.declared.Sample.{Sample}
+use Rattle.book_format.specs.Format.{Sized, sections_of, link_width, origin_width, destination_width, leg_width, sample_width, links, origins, destinations, legs, samples, rows, links_at_of, origins_at_of, destinations_at_of, legs_at_of, samples_at_of, end_of, sample_from, sample_at}
 
 -- ---- the fields of s
 
@@ -47,10 +48,6 @@ module _ {b : List ℕ} {s : Sections} (z : Sized b s) where
   unfolding sections_of
   sized_samples_at = ap (λ (t : Sections). t.samples_at) z.is
 
-  pub sized_end : s.end ≡ end_of b
-  unfolding sections_of
-  sized_end = ap (λ (t : Sections). t.end) z.is
-
 -- ---- each section follows the one before it
 
 pub record Follow (b : List ℕ) : Type 0 where
@@ -85,23 +82,36 @@ module _ (b : List ℕ) (whole : length b ≡ end_of b) where
   pub sample_inside : (i : ℕ) → i < samples b → samples_at_of b + i * sample_width + sample_width ≤ length b
   sample_inside i h = omega (arith, follow b)
 
--- the same in the terms of s
-module _ {b : List ℕ} {s : Sections} (z : Sized b s) (i : ℕ) where
-  pub link_stands : i < s.links → links_at_of + i * link_width + link_width ≤ length b
-  link_stands h = link_inside b z.whole i (omega (arith, sized_links z))
+-- the same in the terms of s, of which the book's bytes are b
+module _ {b c : List ℕ} {s : Sections} (z : Sized b s) (e : b ≡ c) (i : ℕ) where
+  pub link_stands : i < links c → links_at_of + i * link_width + link_width ≤ length b
+  link_stands h = link_inside b z.whole i (rw e h)
 
-  pub origin_stands : i < s.origins → s.origins_at + i * origin_width + origin_width ≤ length b
-  origin_stands h = omega (arith, sized_origins_at z, origin_inside b z.whole i (omega (arith, sized_origins z)))
+  pub origin_stands : i < origins c → s.origins_at + i * origin_width + origin_width ≤ length b
+  origin_stands h = omega (arith, sized_origins_at z, origin_inside b z.whole i (rw e h))
 
-  pub destination_stands : i < s.destinations → s.destinations_at + i * destination_width + destination_width ≤ length b
-  destination_stands h = omega (arith, sized_destinations_at z, destination_inside b z.whole i (omega (arith, sized_destinations z)))
+  pub destination_stands : i < destinations c → s.destinations_at + i * destination_width + destination_width ≤ length b
+  destination_stands h = omega (arith, sized_destinations_at z, destination_inside b z.whole i (rw e h))
 
-  pub leg_stands : i < s.legs → s.legs_at + i * leg_width + leg_width ≤ length b
-  leg_stands h = omega (arith, sized_legs_at z, leg_inside b z.whole i (omega (arith, sized_legs z)))
+  pub leg_stands : i < legs c → s.legs_at + i * leg_width + leg_width ≤ length b
+  leg_stands h = omega (arith, sized_legs_at z, leg_inside b z.whole i (rw e h))
 
-  pub sample_stands : i < s.samples → s.samples_at + i * sample_width + sample_width ≤ length b
-  sample_stands h = omega (arith, sized_samples_at z, sample_inside b z.whole i (omega (arith, sized_samples z)))
+  pub sample_stands : i < samples c → s.samples_at + i * sample_width + sample_width ≤ length b
+  sample_stands h = omega (arith, sized_samples_at z, sample_inside b z.whole i (rw e h))
+
+-- all rows; each has bytes of its own, so there are no more rows than bytes
+module _ {b : List ℕ} {s : Sections} (z : Sized b s) where
+  pub sized_rows : s.legs + s.destinations + s.origins + s.links + s.samples ≡ rows b
+  sized_rows = omega (arith, sized_links z, sized_origins z, sized_destinations z, sized_legs z, sized_samples z)
+
+  pub rows_fit : s.legs + s.destinations + s.origins + s.links + s.samples ≤ length b
+  rows_fit = omega (arith, z.whole, follow b, sized_rows)
 
 -- a row's place, by where the definition has its section
 pub from_section : {at start defined : ℕ} (rows : ℕ) → at ≡ start + rows → start ≡ defined → at ≡ defined + rows
 from_section rows e d = omega arith
+
+-- a sample that is read at its row's place
+pub sample_in_row : (b : List ℕ) (i : ℕ) {at : ℕ} {s : Sample} → at ≡ samples_at_of b + i * sample_width → s ≡ sample_from b at → s ≡ sample_at b i
+unfolding sample_at
+sample_in_row b i place s = rw (s, place)

@@ -4,8 +4,7 @@
 -- parent, and where its samples end.
 use Rattle.std.specs.Prelude.{◌≡◌, false, ◌&&◌, cond, List, ℕ, zero, suc, ◌+◌, ◌*◌, ◌≤◌, ◌<◌, eqb, length, get_or, set}
 use Rattle.laws.specs.Below.{some_below, sum_below}
-use Rattle.book_format.specs.declared.Sections.{Sections}
-use Rattle.book_format.specs.Format.{Sized, legs, samples, leg_link, leg_parent, leg_samples, first_sample}
+use Rattle.book_format.specs.Format.{legs, samples, leg_link, leg_parent, leg_samples, first_sample}
 use Rattle.book_format.specs.Rows.{bad_count, row4, row5, bad_leg}
 
 -- the last of the first n legs whose parent is p, or 0
@@ -47,9 +46,13 @@ pub record Counted (b : List ℕ) : Type 0 where
   pub some : some_below (legs b) (λ i. eqb (leg_samples b i) 0) ≡ false
   pub sums : sum_below (legs b) (leg_samples b) ≡ samples b
 
--- what rows 1 to 5, and row 7 as far as it looks at single legs, leave of a book
-pub record Readable (b : List ℕ) (s : Sections) : Type 0 where
-  pub sized : Sized b s
+-- what rows 4 and 5 leave of a book
+pub record Valid (b : List ℕ) : Type 0 where
+  pub floats : row4 b ≡ false
+  pub indices : row5 b ≡ false
+
+-- what rows 3 to 5, and row 7 as far as it looks at single legs, leave of a book
+pub record Readable (b : List ℕ) : Type 0 where
   pub counted : Counted b
   pub floats : row4 b ≡ false
   pub indices : row5 b ≡ false

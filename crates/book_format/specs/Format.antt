@@ -82,6 +82,10 @@ samples b = u32_at b (samples_at_of b - 4)
 unfoldable pub end_of : List ℕ → ℕ
 end_of b = samples_at_of b + samples b * sample_width
 
+-- how many rows all sections have
+abbrev pub rows : List ℕ → ℕ
+rows b = legs b + destinations b + origins b + links b + samples b
+
 -- all counts and places of a book
 unfoldable pub sections_of : List ℕ → Sections
 sections_of b = record {

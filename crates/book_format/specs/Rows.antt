@@ -4,12 +4,13 @@
 use Rattle.std.specs.Prelude.{Bool, not, ◌&&◌, ◌||◌, cond, List, ℕ, zero, suc, ◌+◌, ◌-◌, ◌*◌, min, leb, ltb, eqb, length}
 use Rattle.std.specs.Float.Ieee.{lt}
 use Rattle.fields.specs.Fields.{u64_at}
+use Rattle.laws.specs.Answer.{Answer, refused, given}
 use Rattle.laws.specs.Below.{some_below, sum_below}
 use Rattle.floats.specs.Floats.{book_float}
+use Rattle.refusals.specs.declared.Refusal.TheVariants.{CutOff, LeftOver}
+use Rattle.refusals.specs.Refusals.{refusal_number}
 use Rattle.book_format.specs.declared.Sample.{Sample}
-use Rattle.book_format.specs.declared.Measured.{Measured}
-use Rattle.book_format.specs.declared.Measured.TheVariants.{Whole, Short, Long}
-use Rattle.book_format.specs.Format.{sections_of, links, origins, destinations, legs, samples, end_of}
+use Rattle.book_format.specs.Format.{links, origins, destinations, legs, samples, end_of}
 use Rattle.book_format.specs.Format.{join_bits, departure_bits, length_bits}
 use Rattle.book_format.specs.Format.{link_length, link_next, link_next_alt, link_prev, link_prev_alt}
 use Rattle.book_format.specs.Format.{origin_link, origin_offset, origin_front, destination_link}
@@ -24,15 +25,12 @@ row1 b = ltb (length b) (end_of b)
 unfoldable pub row2 : List ℕ → Bool
 row2 b = ltb (end_of b) (length b)
 
--- What rows 1 and 2 answer, and the number that document 01 gives for it.
-unfoldable pub measured_of : List ℕ → Measured
+-- What rows 1 and 2 answer: the book itself, or the number that document 01 gives.
+unfoldable pub measured_of : List ℕ → Answer (List ℕ)
 unfolding row1 row2
-measured_of b = cond (row1 b) Short (cond (row2 b) Long (Whole (sections_of b)))
-
-abbrev pub measured_number : Measured → ℕ
-measured_number Short = 1
-measured_number Long = 2
-measured_number (Whole s) = 0
+measured_of b =
+    cond (row1 b) (refused (refusal_number CutOff))
+    (cond (row2 b) (refused (refusal_number LeftOver)) (given b))
 
 -- ---- row 3
 

@@ -1,36 +1,86 @@
 // The format of a book: where its sections begin, its rows as structs by value, and tests of counts and samples.
-// Contracts: specs/Format.antt, specs/Rows.antt.
+// Contracts: specs/Format.antt, specs/Rows.antt, specs/Chains.antt.
 #![tactic(auto)]
 
 ghost use Rattle.std.specs.Prelude.{◌≡◌, true, false, ◌+◌, ◌*◌, ◌≤◌, ◌<◌, length};
 ghost use Rattle.fields.specs.Fields.{u32_at};
 ghost use Rattle.floats.specs.Floats.{book_float};
-ghost use Rattle.book_format.specs.Format.{Sized};
+ghost use Rattle.refusals.specs.Refusals.{told};
+ghost use Rattle.book_format.specs.Format.{links, origins, destinations, legs, samples, rows, samples_at_of};
 ghost use Rattle.book_format.specs.Format.{link_length, origin_offset, destination_link, link_at, origin_at, leg_at};
 ghost use Rattle.book_format.specs.Format.{sample_from, sample_at, sample_patterns, head_patterns, float_of};
+ghost use Rattle.book_format.specs.Rows.{row4, row5, some_bad_leg};
 ghost use Rattle.book_format.specs.Rows.{measured_of, outside_limits, bad_sample_from, bad_sample, sample_falls};
+ghost use Rattle.book_format.specs.Chains.{Counted, Valid, Readable};
+
+use refusals::Refusal;
+use std::marker::Model;
 
 // The counts of a book, and where the first row of each section but the links' stands.
 #[derive(Clone, Copy)]
-pub struct Sections {
-    pub links: usize,
-    pub origins: usize,
-    pub destinations: usize,
-    pub legs: usize,
-    pub samples: usize,
-    pub origins_at: usize,
-    pub destinations_at: usize,
-    pub legs_at: usize,
-    pub samples_at: usize,
-    pub end: usize,
+struct Sections {
+    links: usize,
+    origins: usize,
+    destinations: usize,
+    legs: usize,
+    samples: usize,
+    origins_at: usize,
+    destinations_at: usize,
+    legs_at: usize,
+    samples_at: usize,
+    end: usize,
 }
 
-// What the bytes' length says of the counts: they fit, they end too early (row 1), or some are left over (row 2).
-#[derive(Clone, Copy)]
-pub enum Measured {
-    Whole(Sections),
-    Short,
-    Long,
+// A book that rows 1 and 2 let through: its bytes, of just the length that its counts say.
+#[derive(Drop)]
+pub struct Book<'a> {
+    bytes: &'a [u8],
+    sections: Sections,
+}
+
+impl<'a> Model for Book<'a> {
+    ghost use Rattle.std.specs.Prelude.{ℕ, List};
+    ghost use Rattle.book_format.specs.Format.{Sized};
+
+    ghost Value = { List ℕ };
+
+    ghost view = { λ b. b.bytes.now };
+
+    ghost invariant = { λ b. Sized b.bytes.now b.sections };
+}
+
+// A book that rows 4 and 5 let through as well: its floats are a book's, and its indices name something.
+#[derive(Drop)]
+pub struct ValidBook<'a> {
+    book: Book<'a>,
+}
+
+impl<'a> Model for ValidBook<'a> {
+    ghost use Rattle.std.specs.Prelude.{ℕ, List};
+    ghost use Rattle.book_format.specs.Chains.{Valid};
+
+    ghost Value = { List ℕ };
+
+    ghost view = { λ b. b.book };
+
+    ghost invariant = { λ b. Valid b.book };
+}
+
+// A book whose legs can be followed: row 3 lets its counts and legs through, and row 7 each single leg.
+#[derive(Drop)]
+pub struct ReadableBook<'a> {
+    book: ValidBook<'a>,
+}
+
+impl<'a> Model for ReadableBook<'a> {
+    ghost use Rattle.std.specs.Prelude.{ℕ, List};
+    ghost use Rattle.book_format.specs.Chains.{Readable};
+
+    ghost Value = { List ℕ };
+
+    ghost view = { λ b. b.book };
+
+    ghost invariant = { λ b. Readable b.book };
 }
 
 #[derive(Clone, Copy)]
@@ -92,6 +142,7 @@ const LEG_WIDTH: usize = 12;
 pub const SAMPLE_WIDTH: usize = 24;
 
 // The float of a pattern that a book may hold.
+#[tactic(auto, using(crate::proofs::Floats::book_no_nan))]
 fn float_of(bits: u64) -> f64
     requires { book_float bits ≡ true }
     ensures { result ≡ float_of bits }
@@ -108,56 +159,6 @@ fn count_at(book: &[u8], at: usize) -> usize
     fields::u32_at(book, at) as usize
 }
 
-// Where the sections stand, by the counts as they are, if the bytes end just there.
-pub fn measure(book: &[u8]) -> Measured
-    ensures { result ≡ measured_of book.now }
-{
-    let len = book.len();
-    if len < LINKS_AT {
-        return Measured::Short;
-    }
-    let links = count_at(book, 24);
-    let origins_at = LINKS_AT + links * LINK_WIDTH + 4;
-    if len < origins_at {
-        return Measured::Short;
-    }
-    let origins = count_at(book, origins_at - 4);
-    let destinations_at = origins_at + origins * ORIGIN_WIDTH + 4;
-    if len < destinations_at {
-        return Measured::Short;
-    }
-    let destinations = count_at(book, destinations_at - 4);
-    let legs_at = destinations_at + destinations * DESTINATION_WIDTH + 4;
-    if len < legs_at {
-        return Measured::Short;
-    }
-    let legs = count_at(book, legs_at - 4);
-    let samples_at = legs_at + legs * LEG_WIDTH + 4;
-    if len < samples_at {
-        return Measured::Short;
-    }
-    let samples = count_at(book, samples_at - 4);
-    let end = samples_at + samples * SAMPLE_WIDTH;
-    if len < end {
-        return Measured::Short;
-    }
-    if end < len {
-        return Measured::Long;
-    }
-    Measured::Whole(Sections {
-        links,
-        origins,
-        destinations,
-        legs,
-        samples,
-        origins_at,
-        destinations_at,
-        legs_at,
-        samples_at,
-        end,
-    })
-}
-
 // Where row i of a section stands, whose first row stands at `at`.
 fn row_place(book: &[u8], at: usize, width: usize, i: usize) -> usize
     requires { at + i * width + width ≤ length book.now }
@@ -167,111 +168,339 @@ fn row_place(book: &[u8], at: usize, width: usize, i: usize) -> usize
     at + i * width
 }
 
-// The pattern of a link's length.
-pub fn link_length(book: &[u8], s: Sections, i: usize) -> u64
-    requires sized { Sized book.now s }
-    requires i_lt_links { i < s.links }
-    ensures { result ≡ link_length book.now i }
-{
-    let at = row_place(book, LINKS_AT, LINK_WIDTH, i);
-    fields::u64_at(book, at)
-}
+impl<'a> Book<'a> {
+    // The book that these bytes are, if they end just where its counts say: neither too early (row 1), nor with bytes
+    // left over (row 2).
+    pub fn measure(bytes: &'a [u8]) -> Result<Book<'a>, Refusal>
+        ensures { told result ≡ measured_of bytes.now }
+    {
+        let len = bytes.len();
+        if len < LINKS_AT {
+            return Err(Refusal::CutOff);
+        }
+        let links = count_at(bytes, 24);
+        let origins_at = LINKS_AT + links * LINK_WIDTH + 4;
+        if len < origins_at {
+            return Err(Refusal::CutOff);
+        }
+        let origins = count_at(bytes, origins_at - 4);
+        let destinations_at = origins_at + origins * ORIGIN_WIDTH + 4;
+        if len < destinations_at {
+            return Err(Refusal::CutOff);
+        }
+        let destinations = count_at(bytes, destinations_at - 4);
+        let legs_at = destinations_at + destinations * DESTINATION_WIDTH + 4;
+        if len < legs_at {
+            return Err(Refusal::CutOff);
+        }
+        let legs = count_at(bytes, legs_at - 4);
+        let samples_at = legs_at + legs * LEG_WIDTH + 4;
+        if len < samples_at {
+            return Err(Refusal::CutOff);
+        }
+        let samples = count_at(bytes, samples_at - 4);
+        let end = samples_at + samples * SAMPLE_WIDTH;
+        if len < end {
+            return Err(Refusal::CutOff);
+        }
+        if end < len {
+            return Err(Refusal::LeftOver);
+        }
+        let sections = Sections {
+            links,
+            origins,
+            destinations,
+            legs,
+            samples,
+            origins_at,
+            destinations_at,
+            legs_at,
+            samples_at,
+            end,
+        };
+        Ok(Book { bytes, sections })
+    }
 
-// A link whose length is a book's float.
-pub fn link_at(book: &[u8], s: Sections, i: usize) -> Link
-    requires sized { Sized book.now s }
-    requires i_lt_links { i < s.links }
-    requires i_value { book_float (link_length book.now i) ≡ true }
-    ensures { result ≡ link_at book.now i }
-{
-    let at = row_place(book, LINKS_AT, LINK_WIDTH, i);
-    let length = float_of(fields::u64_at(book, at));
-    let idx_next = fields::u32_at(book, at + 8);
-    let idx_next_alt = fields::u32_at(book, at + 12);
-    let idx_prev = fields::u32_at(book, at + 16);
-    let idx_prev_alt = fields::u32_at(book, at + 20);
-    Link {
-        length,
-        idx_next,
-        idx_next_alt,
-        idx_prev,
-        idx_prev_alt,
+    // The bytes.
+    pub fn bytes(&self) -> &'a [u8]
+        ensures { result.now ≡ self.now }
+    {
+        self.bytes
+    }
+
+    // How many links there are.
+    #[tactic(auto, using(crate::proofs::Places::sized_links))]
+    pub fn links(&self) -> usize
+        ensures { result ≡ links self.now }
+    {
+        self.sections.links
+    }
+
+    // How many origins there are.
+    #[tactic(auto, using(crate::proofs::Places::sized_origins))]
+    pub fn origins(&self) -> usize
+        ensures { result ≡ origins self.now }
+    {
+        self.sections.origins
+    }
+
+    // How many destinations there are.
+    #[tactic(auto, using(crate::proofs::Places::sized_destinations))]
+    pub fn destinations(&self) -> usize
+        ensures { result ≡ destinations self.now }
+    {
+        self.sections.destinations
+    }
+
+    // How many legs there are.
+    #[tactic(auto, using(crate::proofs::Places::sized_legs))]
+    pub fn legs(&self) -> usize
+        ensures { result ≡ legs self.now }
+    {
+        self.sections.legs
+    }
+
+    // How many samples all legs have.
+    #[tactic(auto, using(crate::proofs::Places::sized_samples))]
+    pub fn samples(&self) -> usize
+        ensures { result ≡ samples self.now }
+    {
+        self.sections.samples
+    }
+
+    // How many rows all sections have.
+    #[tactic(auto, using(crate::proofs::Places::rows_fit, crate::proofs::Places::sized_rows))]
+    pub fn rows(&self) -> usize
+        ensures { result ≡ rows self.now }
+    {
+        let s = &self.sections;
+        s.legs + s.destinations + s.origins + s.links + s.samples
+    }
+
+    // Where the first sample stands.
+    #[tactic(auto, using(crate::proofs::Places::sized_samples_at))]
+    pub fn samples_at(&self) -> usize
+        ensures { result ≡ samples_at_of self.now }
+    {
+        self.sections.samples_at
+    }
+
+    // The pattern of a link's length.
+    #[tactic(auto, unfolding(crate::specs::Format::link_length))]
+    pub fn link_length(&self, i: usize) -> u64
+        requires i_lt_links { i < links self.now }
+        ensures { result ≡ link_length self.now i }
+    {
+        let bytes = self.bytes;
+        let at = row_place(bytes, LINKS_AT, LINK_WIDTH, i);
+        fields::u64_at(bytes, at)
+    }
+
+    // A link whose length is a book's float.
+    #[tactic(auto, unfolding(crate::specs::Format::link_length, crate::specs::Format::link_at, crate::specs::Format::link_next, crate::specs::Format::link_next_alt, crate::specs::Format::link_prev, crate::specs::Format::link_prev_alt,),)]
+    pub fn link_at(&self, i: usize) -> Link
+        requires i_lt_links { i < links self.now }
+        requires i_value { book_float (link_length self.now i) ≡ true }
+        ensures { result ≡ link_at self.now i }
+    {
+        let bytes = self.bytes;
+        let at = row_place(bytes, LINKS_AT, LINK_WIDTH, i);
+        let length = float_of(fields::u64_at(bytes, at));
+        let idx_next = fields::u32_at(bytes, at + 8);
+        let idx_next_alt = fields::u32_at(bytes, at + 12);
+        let idx_prev = fields::u32_at(bytes, at + 16);
+        let idx_prev_alt = fields::u32_at(bytes, at + 20);
+        Link {
+            length,
+            idx_next,
+            idx_next_alt,
+            idx_prev,
+            idx_prev_alt,
+        }
+    }
+
+    // The pattern of an origin's offset.
+    #[tactic(auto, using(crate::proofs::Places::sized_origins_at), unfolding(crate::specs::Format::origin_offset))]
+    pub fn origin_offset(&self, i: usize) -> u64
+        requires i_lt_origins { i < origins self.now }
+        ensures { result ≡ origin_offset self.now i }
+    {
+        let bytes = self.bytes;
+        let at = row_place(bytes, self.sections.origins_at, ORIGIN_WIDTH, i);
+        fields::u64_at(bytes, at + 4)
+    }
+
+    // An origin whose offset is a book's float.
+    #[tactic(auto, using(crate::proofs::Places::sized_origins_at), unfolding(crate::specs::Format::origin_at, crate::specs::Format::origin_link, crate::specs::Format::origin_offset, crate::specs::Format::origin_front,),)]
+    pub fn origin_at(&self, i: usize) -> Origin
+        requires i_lt_origins { i < origins self.now }
+        requires i_value { book_float (origin_offset self.now i) ≡ true }
+        ensures { result ≡ origin_at self.now i }
+    {
+        let bytes = self.bytes;
+        let at = row_place(bytes, self.sections.origins_at, ORIGIN_WIDTH, i);
+        let link_idx = fields::u32_at(bytes, at);
+        let offset = float_of(fields::u64_at(bytes, at + 4));
+        let is_front_end = fields::u32_at(bytes, at + 12);
+        Origin {
+            link_idx,
+            offset,
+            is_front_end,
+        }
+    }
+
+    // A destination's link.
+    #[tactic(auto, using(crate::proofs::Places::sized_destinations_at), unfolding(crate::specs::Format::destination_link),)]
+    pub fn destination_link(&self, i: usize) -> u32
+        requires i_lt_destinations { i < destinations self.now }
+        ensures { result ≡ destination_link self.now i }
+    {
+        let bytes = self.bytes;
+        let at = row_place(bytes, self.sections.destinations_at, DESTINATION_WIDTH, i);
+        fields::u32_at(bytes, at)
+    }
+
+    // The leg in row i, whose number is i + 1.
+    #[tactic(auto, using(crate::proofs::Places::sized_legs_at), unfolding(crate::specs::Format::leg_at, crate::specs::Format::leg_link, crate::specs::Format::leg_parent, crate::specs::Format::leg_samples,),)]
+    pub fn leg_at(&self, i: usize) -> Leg
+        requires i_lt_legs { i < legs self.now }
+        ensures { result ≡ leg_at self.now i }
+    {
+        let bytes = self.bytes;
+        let at = row_place(bytes, self.sections.legs_at, LEG_WIDTH, i);
+        let link_idx = fields::u32_at(bytes, at);
+        let parent = fields::u32_at(bytes, at + 4);
+        let samples = fields::u32_at(bytes, at + 8);
+        Leg {
+            link_idx,
+            parent,
+            samples,
+        }
+    }
+
+    // The patterns of a sample.
+    #[tactic(auto, using(crate::proofs::Places::sized_samples_at), unfolding(crate::specs::Format::sample_patterns, crate::specs::Format::sample_time, crate::specs::Format::sample_offset, crate::specs::Format::sample_speed,),)]
+    pub fn sample_patterns(&self, i: usize) -> SamplePatterns
+        requires i_lt_samples { i < samples self.now }
+        ensures { result ≡ sample_patterns self.now i }
+    {
+        let bytes = self.bytes;
+        let at = row_place(bytes, self.sections.samples_at, SAMPLE_WIDTH, i);
+        let time = fields::u64_at(bytes, at);
+        let offset = fields::u64_at(bytes, at + 8);
+        let speed = fields::u64_at(bytes, at + 16);
+        SamplePatterns {
+            time,
+            offset,
+            speed,
+        }
+    }
+
+    // A sample of a book whose three floats are a book's.
+    #[tactic(auto, using(crate::proofs::Places::sized_samples_at), unfolding(crate::specs::Format::sample_at, crate::specs::Rows::bad_sample),)]
+    pub fn sample_at(&self, i: usize) -> Sample
+        requires i_lt_samples { i < samples self.now }
+        requires i_value { bad_sample self.now i ≡ false }
+        ensures { result ≡ sample_at self.now i }
+    {
+        let bytes = self.bytes;
+        let at = row_place(bytes, self.sections.samples_at, SAMPLE_WIDTH, i);
+        sample_from(bytes, at)
+    }
+
+    // The patterns of the three floats at the head: J, the departure and the train's length.
+    #[tactic(auto, using(crate::proofs::Places::head_inside), unfolding(crate::specs::Format::head_patterns, crate::specs::Format::join_bits, crate::specs::Format::departure_bits, crate::specs::Format::length_bits,),)]
+    pub fn head_patterns(&self) -> HeadPatterns
+        ensures { result ≡ head_patterns self.now }
+    {
+        let bytes = self.bytes;
+        let join = fields::u64_at(bytes, 0);
+        let departure = fields::u64_at(bytes, 8);
+        let length = fields::u64_at(bytes, 16);
+        HeadPatterns {
+            join,
+            departure,
+            length,
+        }
     }
 }
 
-// The pattern of an origin's offset.
-pub fn origin_offset(book: &[u8], s: Sections, i: usize) -> u64
-    requires sized { Sized book.now s }
-    requires i_lt_origins { i < s.origins }
-    ensures { result ≡ origin_offset book.now i }
-{
-    let at = row_place(book, s.origins_at, ORIGIN_WIDTH, i);
-    fields::u64_at(book, at + 4)
-}
+impl<'a> ValidBook<'a> {
+    // A book of which rows 4 and 5 don't hold.
+    pub fn new(book: Book<'a>) -> ValidBook<'a>
+        requires row4_passed { row4 book ≡ false }
+        requires row5_passed { row5 book ≡ false }
+        ensures { result ≡ book.entry }
+    {
+        ValidBook { book }
+    }
 
-// An origin whose offset is a book's float.
-pub fn origin_at(book: &[u8], s: Sections, i: usize) -> Origin
-    requires sized { Sized book.now s }
-    requires i_lt_origins { i < s.origins }
-    requires i_value { book_float (origin_offset book.now i) ≡ true }
-    ensures { result ≡ origin_at book.now i }
-{
-    let at = row_place(book, s.origins_at, ORIGIN_WIDTH, i);
-    let link_idx = fields::u32_at(book, at);
-    let offset = float_of(fields::u64_at(book, at + 4));
-    let is_front_end = fields::u32_at(book, at + 12);
-    Origin {
-        link_idx,
-        offset,
-        is_front_end,
+    // The book, whose rows 4 and 5 have passed.
+    pub fn book(&self) -> &Book<'a>
+        ensures is { result.now ≡ self.now }
+        ensures valid { Valid self.now }
+    {
+        &self.book
+    }
+
+    // A link.
+    #[tactic(auto, using(crate::proofs::Given::link_float))]
+    pub fn link_at(&self, i: usize) -> Link
+        requires i_lt_links { i < links self.now }
+        ensures { result ≡ link_at self.now i }
+    {
+        self.book.link_at(i)
+    }
+
+    // An origin.
+    #[tactic(auto, using(crate::proofs::Given::origin_float))]
+    pub fn origin_at(&self, i: usize) -> Origin
+        requires i_lt_origins { i < origins self.now }
+        ensures { result ≡ origin_at self.now i }
+    {
+        self.book.origin_at(i)
+    }
+
+    // A sample.
+    #[tactic(auto, using(crate::proofs::Given::sample_good))]
+    pub fn sample_at(&self, i: usize) -> Sample
+        requires i_lt_samples { i < samples self.now }
+        ensures { result ≡ sample_at self.now i }
+    {
+        self.book.sample_at(i)
     }
 }
 
-// A destination's link.
-pub fn destination_link(book: &[u8], s: Sections, i: usize) -> u32
-    requires sized { Sized book.now s }
-    requires i_lt_destinations { i < s.destinations }
-    ensures { result ≡ destination_link book.now i }
-{
-    let at = row_place(book, s.destinations_at, DESTINATION_WIDTH, i);
-    fields::u32_at(book, at)
-}
-
-// The leg in row i, whose number is i + 1.
-pub fn leg_at(book: &[u8], s: Sections, i: usize) -> Leg
-    requires sized { Sized book.now s }
-    requires i_lt_legs { i < s.legs }
-    ensures { result ≡ leg_at book.now i }
-{
-    let at = row_place(book, s.legs_at, LEG_WIDTH, i);
-    let link_idx = fields::u32_at(book, at);
-    let parent = fields::u32_at(book, at + 4);
-    let samples = fields::u32_at(book, at + 8);
-    Leg {
-        link_idx,
-        parent,
-        samples,
+impl<'a> ReadableBook<'a> {
+    // A valid book whose counts and legs row 3 lets through, and each single leg row 7.
+    pub fn new(book: ValidBook<'a>) -> ReadableBook<'a>
+        requires counted { Counted book }
+        requires legs_passed { some_bad_leg book ≡ false }
+        ensures { result ≡ book.entry }
+    {
+        let _ = &book.book;
+        ReadableBook { book }
     }
-}
 
-// The patterns of a sample.
-pub fn sample_patterns(book: &[u8], s: Sections, i: usize) -> SamplePatterns
-    requires sized { Sized book.now s }
-    requires i_lt_samples { i < s.samples }
-    ensures { result ≡ sample_patterns book.now i }
-{
-    let at = row_place(book, s.samples_at, SAMPLE_WIDTH, i);
-    let time = fields::u64_at(book, at);
-    let offset = fields::u64_at(book, at + 8);
-    let speed = fields::u64_at(book, at + 16);
-    SamplePatterns {
-        time,
-        offset,
-        speed,
+    // The book, valid as it is.
+    pub fn valid(&self) -> &ValidBook<'a>
+        ensures is { result.now ≡ self.now }
+        ensures readable { Readable self.now }
+    {
+        &self.book
+    }
+
+    // The book, whose legs can be followed.
+    pub fn book(&self) -> &Book<'a>
+        ensures is { result.now ≡ self.now }
+        ensures readable { Readable self.now }
+    {
+        self.book.book()
     }
 }
 
 // The sample whose first byte is at `at`, if its three floats are a book's.
+#[tactic(auto, using(crate::proofs::Floats::sample_floats), unfolding(crate::specs::Format::sample_from))]
 pub fn sample_from(bytes: &[u8], at: usize) -> Sample
     requires at_in_bounds { at + 24 ≤ length bytes.now }
     requires at_value { bad_sample_from bytes.now at ≡ false }
@@ -287,32 +516,6 @@ pub fn sample_from(bytes: &[u8], at: usize) -> Sample
     }
 }
 
-// A sample of a book whose three floats are a book's.
-pub fn sample_at(book: &[u8], s: Sections, i: usize) -> Sample
-    requires sized { Sized book.now s }
-    requires i_lt_samples { i < s.samples }
-    requires i_value { bad_sample book.now i ≡ false }
-    ensures { result ≡ sample_at book.now i }
-{
-    let at = row_place(book, s.samples_at, SAMPLE_WIDTH, i);
-    sample_from(book, at)
-}
-
-// The patterns of the three floats at the head: J, the departure and the train's length.
-pub fn head_patterns(book: &[u8], s: Sections) -> HeadPatterns
-    requires { Sized book.now s }
-    ensures { result ≡ head_patterns book.now }
-{
-    let join = fields::u64_at(book, 0);
-    let departure = fields::u64_at(book, 8);
-    let length = fields::u64_at(book, 16);
-    HeadPatterns {
-        join,
-        departure,
-        length,
-    }
-}
-
 // Whether a count is outside 1 to its limit (row 3).
 pub fn is_outside(limit: usize, n: usize) -> bool
     ensures { result ≡ outside_limits limit n }
@@ -321,6 +524,7 @@ pub fn is_outside(limit: usize, n: usize) -> bool
 }
 
 // Whether sample b, which comes after a, is no later, or further back (row 7).
+#[tactic(auto, unfolding(crate::specs::Rows::sample_falls))]
 pub fn sample_falls(a: Sample, b: Sample) -> bool
     ensures { result ≡ sample_falls a b }
 {

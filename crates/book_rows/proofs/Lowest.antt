@@ -9,7 +9,7 @@ use native.Mathlib.Omega.{arith}
 use borrow.Author.Tests.{lt-ltb, le-ltb}
 use Rattle.laws.specs.Below.{some_below}
 use Rattle.laws.specs.Refusals.{first_of}
-use Rattle.book_rows.specs.Elements.{lower, lowest_below, number_of, splice}
+use Rattle.book_rows.specs.Elements.{lower, lowest_below, first_number, splice}
 
 -- ---- the lower of two
 
@@ -53,7 +53,7 @@ behind : (n m : ℕ) (x : Bool) (a : ℕ) → lower n m ≡ n → lower n a ≡ 
 behind n m true a e f = e
 behind n m false a e f = f
 
-pub number_join : (a b c d a' b' c' d' : Bool) → lower (number_of a b c d) (number_of a' b' c' d') ≡ number_of (a || a') (b || b') (c || c') (d || d')
+pub number_join : (a b c d a' b' c' d' : Bool) → lower (first_number a b c d) (first_number a' b' c' d') ≡ first_number (a || a') (b || b') (c || c') (d || d')
 unfolding lower first_of
 number_join a b c d a' b' c' d' =
     either 4 a a' _ _ _ refl (behind 4 5 b _ refl (behind 4 6 c _ refl (behind 4 7 d 0 refl refl))) (behind 4 5 b' _ refl (behind 4 6 c' _ refl (behind 4 7 d' 0 refl refl)))
@@ -67,11 +67,11 @@ unfolding lowest_below
 lowest_more n f = ap (λ (m : ℕ). lowest_below m f) (add-one n)
 
 pub lowest_tests : (n : ℕ) (p q r s : ℕ → Bool)
-    → lowest_below n (λ k. number_of (p k) (q k) (r k) (s k)) ≡ number_of (some_below n p) (some_below n q) (some_below n r) (some_below n s)
+    → lowest_below n (λ k. first_number (p k) (q k) (r k) (s k)) ≡ first_number (some_below n p) (some_below n q) (some_below n r) (some_below n s)
 unfolding lowest_below some_below first_of
 lowest_tests zero p q r s = refl
 lowest_tests (suc n) p q r s =
-    ap (λ (x : ℕ). lower x (number_of (p n) (q n) (r n) (s n))) (lowest_tests n p q r s)
+    ap (λ (x : ℕ). lower x (first_number (p n) (q n) (r n) (s n))) (lowest_tests n p q r s)
     ∙ number_join (some_below n p) (some_below n q) (some_below n r) (some_below n s) (p n) (q n) (r n) (s n)
 
 lowest_same : (n : ℕ) (f g : ℕ → ℕ) → ((k : ℕ) → k < n → f k ≡ g k) → lowest_below n f ≡ lowest_below n g

@@ -1,10 +1,9 @@
 -- What a single row of a section says of rows 4 to 7: the lowest number that it gives, and the lowest over all rows of
 -- all sections. A number of 0 is none.
-use Rattle.std.specs.Prelude.{Bool, false, not, cond, List, [], ◌∷◌, ℕ, zero, suc, ◌+◌, ◌-◌, min, ltb}
+use Rattle.std.specs.Prelude.{Bool, false, not, cond, List, [], ◌∷◌, ℕ, zero, suc, ◌-◌, min, ltb}
 use Rattle.laws.specs.Refusals.{Row, row, first_of}
 use Rattle.floats.specs.Floats.{book_float}
-use Rattle.book_format.specs.declared.Sections.{Sections}
-use Rattle.book_format.specs.Format.{link_length, origin_link, destination_link}
+use Rattle.book_format.specs.Format.{links, origins, destinations, samples, link_length, origin_link, destination_link}
 use Rattle.book_format.specs.Rows.{no_such_link, bad_link, bad_origin_value, bad_origin_place, bad_leg_index, bad_leg, bad_sample}
 use Rattle.book_format.specs.Rows.{row4, row5, some_bad_place, some_bad_leg}
 
@@ -25,23 +24,24 @@ lowest_below (suc n) f = lower (lowest_below n f) (f n)
 abbrev pub rows4to7 : Bool → Bool → Bool → Bool → List Row
 rows4to7 four five six seven = row 4 four ∷ row 5 five ∷ row 6 six ∷ row 7 seven ∷ []
 
-abbrev pub number_of : Bool → Bool → Bool → Bool → ℕ
-number_of four five six seven = first_of (rows4to7 four five six seven)
+-- the number of the first of four tests that holds
+abbrev pub first_number : Bool → Bool → Bool → Bool → ℕ
+first_number four five six seven = first_of (rows4to7 four five six seven)
 
 unfoldable pub link_number : List ℕ → ℕ → ℕ
-link_number b i = number_of (not (book_float (link_length b i))) (bad_link b i) false false
+link_number b i = first_number (not (book_float (link_length b i))) (bad_link b i) false false
 
 unfoldable pub origin_number : List ℕ → ℕ → ℕ
-origin_number b i = number_of (bad_origin_value b i) (no_such_link b (origin_link b i)) (bad_origin_place b i) false
+origin_number b i = first_number (bad_origin_value b i) (no_such_link b (origin_link b i)) (bad_origin_place b i) false
 
 unfoldable pub destination_number : List ℕ → ℕ → ℕ
-destination_number b i = number_of false (no_such_link b (destination_link b i)) false false
+destination_number b i = first_number false (no_such_link b (destination_link b i)) false false
 
 unfoldable pub leg_number : List ℕ → ℕ → ℕ
-leg_number b i = number_of false (bad_leg_index b i) false (bad_leg b i)
+leg_number b i = first_number false (bad_leg_index b i) false (bad_leg b i)
 
 unfoldable pub sample_number : List ℕ → ℕ → ℕ
-sample_number b k = number_of (bad_sample b k) false false false
+sample_number b k = first_number (bad_sample b k) false false false
 
 -- ---- all rows in one count: the samples, of which there are most, come first, and the legs last
 
@@ -49,18 +49,15 @@ sample_number b k = number_of (bad_sample b k) false false false
 unfoldable pub splice : ℕ → (ℕ → ℕ) → (ℕ → ℕ) → ℕ → ℕ
 splice m f g k = cond (ltb k m) (f k) (g (k - m))
 
-abbrev pub elements : Sections → ℕ
-elements s = s.legs + s.destinations + s.origins + s.links + s.samples
-
-unfoldable pub element_number : List ℕ → Sections → ℕ → ℕ
+unfoldable pub row_number : List ℕ → ℕ → ℕ
 unfolding splice
-element_number b s =
-    splice s.samples (sample_number b)
-    (splice s.links (link_number b)
-    (splice s.origins (origin_number b)
-    (splice s.destinations (destination_number b) (leg_number b))))
+row_number b =
+    splice (samples b) (sample_number b)
+    (splice (links b) (link_number b)
+    (splice (origins b) (origin_number b)
+    (splice (destinations b) (destination_number b) (leg_number b))))
 
 -- ---- the whole book, as far as single rows tell: rows 4 and 5, and 6 and 7 without their repeats and samples
 
 unfoldable pub single_number : List ℕ → ℕ
-single_number b = number_of (row4 b) (row5 b) (some_bad_place b) (some_bad_leg b)
+single_number b = first_number (row4 b) (row5 b) (some_bad_place b) (some_bad_leg b)

@@ -2,282 +2,273 @@
 // Contracts: book_format's specs/Rows.antt, specs/Elements.antt.
 #![tactic(auto)]
 
-ghost use Rattle.std.specs.Prelude.{◌≡◌, true, List, ℕ, ◌+◌, ◌≤◌, ◌<◌, min, leb, eqb};
+ghost use Rattle.std.specs.Prelude.{◌≡◌, true, ◌+◌, ◌≤◌, ◌<◌, cond, eqb, Some, None};
+ghost use Rattle.laws.specs.Answer.{number_of};
 ghost use Rattle.laws.specs.Below.{some_below, sum_below};
 ghost use Rattle.floats.specs.Floats.{book_float};
-ghost use Rattle.book_format.specs.Format.{Sized, legs, link_length, leg_samples};
-ghost use Rattle.book_format.specs.Rows.{row3, bad_count, work_bytes, link_zero, bad_link};
-ghost use Rattle.book_rows.specs.Elements.{lower, lowest_below, number_of, elements, element_number, single_number};
+ghost use Rattle.refusals.specs.Refusals.{told};
+ghost use Rattle.book_format.specs.Format.{links, origins, destinations, legs, samples, rows};
+ghost use Rattle.book_format.specs.Format.{link_length, leg_samples};
+ghost use Rattle.book_format.specs.Rows.{row3, bad_count, work_bytes, no_such_link, link_zero, bad_link};
+ghost use Rattle.book_rows.specs.Elements.{lower, lowest_below, first_number, row_number, single_number};
 ghost use Rattle.book_rows.specs.Elements.{link_number, origin_number, destination_number, leg_number, sample_number};
 
-use book_format::Sections;
+use book_format::Book;
+use refusals::Refusal;
 
 // ---- row 3
 
 // Whether some count is outside its limits.
-fn counts_outside(s: Sections) -> bool
-    ensures { (b : List ℕ) → Sized b s → result ≡ bad_count b }
+#[tactic(auto, unfolding(book_format::specs::Rows::bad_count))]
+fn counts_outside(book: &Book) -> bool
+    ensures { result ≡ bad_count book.now }
 {
-    book_format::is_outside(65535, s.links)
-        | book_format::is_outside(65535, s.legs)
-        | book_format::is_outside(1000, s.origins)
-        | book_format::is_outside(1000, s.destinations)
-        | book_format::is_outside(1000000, s.samples)
-}
-
-// The table places that work space is asked for.
-fn places_used(places: usize) -> usize
-    ensures { result ≡ min places 65535 }
-{
-    if places < 65535 { places } else { 65535 }
+    book_format::is_outside(65535, book.links())
+        | book_format::is_outside(65535, book.legs())
+        | book_format::is_outside(1000, book.origins())
+        | book_format::is_outside(1000, book.destinations())
+        | book_format::is_outside(1000000, book.samples())
 }
 
 // The bytes of work space that are asked for.
-fn work_bytes(s: Sections, places: usize) -> usize
-    requires { s.links + s.origins + s.destinations + s.legs ≤ 133070 }
-    ensures { (b : List ℕ) → Sized b s → result ≡ work_bytes b places }
+#[tactic(auto, unfolding(book_format::specs::Rows::work_bytes))]
+fn work_bytes(book: &Book, places: usize) -> usize
+    requires { links book.now + origins book.now + destinations book.now + legs book.now ≤ 133070 }
+    ensures { result ≡ work_bytes book.now places }
 {
-    let rows = s.links + s.origins + s.destinations + s.legs;
-    36864 + 64 * (rows + places_used(places))
+    let rows = book.links() + book.origins() + book.destinations() + book.legs();
+    36864 + 64 * (rows + places.min(65535))
 }
 
-// What the legs say of their samples.
-#[derive(Clone, Copy)]
-struct LegCounts {
-    empty: bool,
-    sum: usize,
-}
-
-// Whether some leg has no sample, and how many samples all legs have.
-fn leg_counts(book: &[u8], s: Sections) -> LegCounts
-    requires sized { Sized book.now s }
-    requires legs_bound { s.legs ≤ 65535 }
-    ensures empty_value { result.empty ≡ some_below (legs book.now) (λ i. eqb (leg_samples book.now i) 0) }
-    ensures sum_value { result.sum ≡ sum_below (legs book.now) (leg_samples book.now) }
+// How many samples all legs have, unless some leg has none.
+#[tactic(auto, using(crate::proofs::Counts::none_passed), unfolding(book_format::specs::Format::leg_at))]
+fn sample_sum(book: &Book) -> Option<usize>
+    requires { legs book.now ≤ 65535 }
+    ensures { result ≡ cond (some_below (legs book.now) (λ i. eqb (leg_samples book.now i) 0))
+        None (Some (sum_below (legs book.now) (leg_samples book.now))) }
 {
-    let mut empty = false;
     let mut sum: usize = 0;
-    let legs = s.legs;
-    let mut i = 0;
-    while i < legs {
-        let leg = book_format::leg_at(book, s, i);
-        empty = empty | (leg.samples == 0);
+    for i in 0..book.legs() {
+        let leg = book.leg_at(i);
+        if leg.samples == 0 {
+            return None;
+        }
         sum += leg.samples as usize;
-        i += 1;
     }
-    LegCounts { empty, sum }
+    Some(sum)
 }
 
 // Row 3: whether a count, the samples of the legs or the work space is out of bounds.
-pub fn counts_refused(book: &[u8], s: Sections, places: usize, bytes: usize) -> bool
-    requires { Sized book.now s }
+#[tactic(auto, unfolding(book_format::specs::Rows::row3))]
+pub fn counts_refused(book: &Book, places: usize, bytes: usize) -> bool
     ensures { result ≡ row3 book.now places bytes }
 {
-    if counts_outside(s) {
+    if counts_outside(book) {
         return true;
     }
-    let work = work_bytes(s, places);
-    let counts = leg_counts(book, s);
-    counts.empty | (counts.sum != s.samples) | (bytes < work)
+    let work = work_bytes(book, places);
+    match sample_sum(book) {
+        None => true,
+        Some(sum) => (sum != book.samples()) | (bytes < work),
+    }
 }
 
 // ---- rows 4 to 7
 
-// The first of four tests that holds, as the number of its row.
-fn number_of(four: bool, five: bool, six: bool, seven: bool) -> u32
-    ensures { result ≡ number_of four five six seven }
+// The refusal by the first of four tests that holds: those of rows 4 to 7.
+#[tactic(auto, unfolding(laws::specs::Refusals::first_of))]
+fn first_refusal(four: bool, five: bool, six: bool, seven: bool) -> Result<(), Refusal>
+    ensures { number_of (told result) ≡ first_number four five six seven }
 {
     if four {
-        return 4;
+        return Err(Refusal::BadValue);
     }
     if five {
-        return 5;
+        return Err(Refusal::BadIndex);
     }
     if six {
-        return 6;
+        return Err(Refusal::BadOrigin);
     }
-    if seven { 7 } else { 0 }
+    if seven { Err(Refusal::BadLeg) } else { Ok(()) }
 }
 
-// The lower of two numbers.
-fn lower_of(a: u32, b: u32) -> u32
-    ensures { result ≡ lower a b }
+// The one of two answers with the lower number, a refusal before none.
+#[tactic(auto, using(crate::proofs::Lowest::lower_none, crate::proofs::Lowest::lower_min), unfolding(crate::specs::Elements::lower),)]
+fn lower_of(a: Result<(), Refusal>, b: Result<(), Refusal>) -> Result<(), Refusal>
+    ensures { number_of (told result) ≡ lower (number_of (told a)) (number_of (told b)) }
 {
-    if b == 0 {
+    let Err(second) = b else {
         return a;
-    }
-    if a == 0 {
+    };
+    let Err(first) = a else {
         return b;
+    };
+    if u32::from(first) < u32::from(second) {
+        a
+    } else {
+        b
     }
-    if a < b { a } else { b }
 }
 
 // Whether no link has this number.
-fn no_link(links: usize, idx: u32) -> bool
-    ensures { result ≡ leb links idx }
+fn no_link(book: &Book, idx: u32) -> bool
+    ensures { result ≡ no_such_link book.now idx }
 {
-    links <= idx as usize
+    book.links() <= idx as usize
 }
 
 // Whether a link whose length is a book's float has an index or a length that row 5 refuses.
-fn bad_link(book: &[u8], s: Sections, i: usize, length: u64) -> bool
-    requires sized { Sized book.now s }
-    requires i_lt_links { i < s.links }
+#[tactic(auto, unfolding(book_format::specs::Rows::bad_link, book_format::specs::Format::link_at))]
+fn bad_link(book: &Book, i: usize, length: u64) -> bool
+    requires i_lt_links { i < links book.now }
     requires i_value { book_float (link_length book.now i) ≡ true }
-    requires length_len { length ≡ link_length book.now i }
+    requires length_is { length ≡ link_length book.now i }
     ensures { result ≡ bad_link book.now i }
 {
-    let l = book_format::link_at(book, s, i);
-    no_link(s.links, l.idx_next)
-        | no_link(s.links, l.idx_next_alt)
-        | no_link(s.links, l.idx_prev)
-        | no_link(s.links, l.idx_prev_alt)
+    let l = book.link_at(i);
+    no_link(book, l.idx_next)
+        | no_link(book, l.idx_next_alt)
+        | no_link(book, l.idx_prev)
+        | no_link(book, l.idx_prev_alt)
         | ((0 < i) & (length == 0))
         | ((l.idx_next == l.idx_next_alt) & (0 < l.idx_next))
 }
 
-// The number that a link gives.
-fn link_row(book: &[u8], s: Sections, i: usize) -> u32
-    requires sized { Sized book.now s }
-    requires i_lt_links { i < s.links }
-    ensures { result ≡ link_number book.now i }
+// What a link is refused for.
+#[tactic(auto, using(crate::proofs::Elements::float_read), unfolding(crate::specs::Elements::link_number, laws::specs::Refusals::first_of),)]
+fn link_row(book: &Book, i: usize) -> Result<(), Refusal>
+    requires i_lt_links { i < links book.now }
+    ensures { number_of (told result) ≡ link_number book.now i }
 {
-    let length = book_format::link_length(book, s, i);
+    let length = book.link_length(i);
     if !floats::is_book_float(length) {
-        return 4;
+        return Err(Refusal::BadValue);
     }
-    number_of(false, bad_link(book, s, i, length), false, false)
+    first_refusal(false, bad_link(book, i, length), false, false)
 }
 
-// The number that an origin gives.
-fn origin_row(book: &[u8], s: Sections, i: usize) -> u32
-    requires sized { Sized book.now s }
-    requires i_lt_origins { i < s.origins }
-    ensures { result ≡ origin_number book.now i }
+// What an origin is refused for.
+#[tactic(auto, using(crate::proofs::Elements::float_read), unfolding(crate::specs::Elements::origin_number, book_format::specs::Rows::bad_origin_value, book_format::specs::Rows::bad_origin_place, book_format::specs::Format::origin_at, laws::specs::Refusals::first_of,),)]
+fn origin_row(book: &Book, i: usize) -> Result<(), Refusal>
+    requires i_lt_origins { i < origins book.now }
+    ensures { number_of (told result) ≡ origin_number book.now i }
 {
-    let offset = book_format::origin_offset(book, s, i);
+    let offset = book.origin_offset(i);
     if !floats::is_book_float(offset) {
-        return 4;
+        return Err(Refusal::BadValue);
     }
-    let o = book_format::origin_at(book, s, i);
-    number_of(
+    let o = book.origin_at(i);
+    first_refusal(
         1 < o.is_front_end,
-        no_link(s.links, o.link_idx),
+        no_link(book, o.link_idx),
         (offset != 0) | (o.is_front_end == 1),
         false,
     )
 }
 
-// The number that a destination gives.
-fn destination_row(book: &[u8], s: Sections, i: usize) -> u32
-    requires sized { Sized book.now s }
-    requires i_lt_destinations { i < s.destinations }
-    ensures { result ≡ destination_number book.now i }
+// What a destination is refused for.
+#[tactic(auto, unfolding(crate::specs::Elements::destination_number))]
+fn destination_row(book: &Book, i: usize) -> Result<(), Refusal>
+    requires i_lt_destinations { i < destinations book.now }
+    ensures { number_of (told result) ≡ destination_number book.now i }
 {
-    let link_idx = book_format::destination_link(book, s, i);
-    number_of(false, no_link(s.links, link_idx), false, false)
+    let link_idx = book.destination_link(i);
+    first_refusal(false, no_link(book, link_idx), false, false)
 }
 
-// The number that a leg gives.
-fn leg_row(book: &[u8], s: Sections, i: usize) -> u32
-    requires sized { Sized book.now s }
-    requires i_lt_legs { i < s.legs }
-    ensures { result ≡ leg_number book.now i }
+// What a leg is refused for.
+#[tactic(auto, unfolding(crate::specs::Elements::leg_number, book_format::specs::Rows::bad_leg_index, book_format::specs::Rows::bad_leg, book_format::specs::Format::leg_at,),)]
+fn leg_row(book: &Book, i: usize) -> Result<(), Refusal>
+    requires i_lt_legs { i < legs book.now }
+    ensures { number_of (told result) ≡ leg_number book.now i }
 {
-    let leg = book_format::leg_at(book, s, i);
+    let leg = book.leg_at(i);
+    let legs = book.legs();
     let number = i + 1;
     let parent = leg.parent as usize;
-    number_of(
+    first_refusal(
         false,
-        no_link(s.links, leg.link_idx) | (s.legs < parent),
+        no_link(book, leg.link_idx) | (legs < parent),
         false,
         (leg.link_idx == 0) | (number <= parent),
     )
 }
 
-// The number that a sample gives.
-fn sample_row(book: &[u8], s: Sections, i: usize) -> u32
-    requires sized { Sized book.now s }
-    requires i_lt_samples { i < s.samples }
-    ensures { result ≡ sample_number book.now i }
+// What a sample is refused for.
+#[tactic(auto, unfolding(crate::specs::Elements::sample_number, book_format::specs::Rows::bad_sample, book_format::specs::Format::sample_patterns, book_format::specs::Format::sample_time, book_format::specs::Format::sample_offset, book_format::specs::Format::sample_speed,),)]
+fn sample_row(book: &Book, i: usize) -> Result<(), Refusal>
+    requires i_lt_samples { i < samples book.now }
+    ensures { number_of (told result) ≡ sample_number book.now i }
 {
-    let p = book_format::sample_patterns(book, s, i);
+    let p = book.sample_patterns(i);
     let bad = !floats::is_book_float(p.time)
         | !floats::is_book_float(p.offset)
         | !floats::is_book_float(p.speed);
-    number_of(bad, false, false, false)
+    first_refusal(bad, false, false, false)
 }
 
-// The number that a row of a section gives, all rows in one count.
-fn row_number(book: &[u8], s: Sections, k: usize) -> u32
-    requires sized { Sized book.now s }
-    requires k_bound { k < elements s }
-    ensures { result ≡ element_number book.now s k }
+// What a row of a section is refused for, all rows in one count.
+fn row_refusal(book: &Book, k: usize) -> Result<(), Refusal>
+    requires k_lt_rows { k < rows book.now }
+    ensures { number_of (told result) ≡ row_number book.now k }
 {
-    if k < s.samples {
-        return sample_row(book, s, k);
+    let samples = book.samples();
+    if k < samples {
+        return sample_row(book, k);
     }
-    let i = k - s.samples;
-    if i < s.links {
-        return link_row(book, s, i);
+    let i = k - samples;
+    let links = book.links();
+    if i < links {
+        return link_row(book, i);
     }
-    let o = i - s.links;
-    if o < s.origins {
-        return origin_row(book, s, o);
+    let o = i - links;
+    let origins = book.origins();
+    if o < origins {
+        return origin_row(book, o);
     }
-    let d = o - s.origins;
-    if d < s.destinations {
-        return destination_row(book, s, d);
+    let d = o - origins;
+    let destinations = book.destinations();
+    if d < destinations {
+        return destination_row(book, d);
     }
-    leg_row(book, s, d - s.destinations)
+    leg_row(book, d - destinations)
 }
 
-// How many rows all sections have.
-fn element_count(s: Sections) -> usize
-    requires { elements s < 18446744073709551616 }
-    ensures { result ≡ elements s }
+// The lowest of what the rows of all sections are refused for.
+#[tactic(auto, using(crate::proofs::Lowest::lowest_more), unfolding(crate::specs::Elements::lowest_below))]
+fn lowest_refusal(book: &Book) -> Result<(), Refusal>
+    ensures { number_of (told result) ≡ lowest_below (rows book.now) (row_number book.now) }
 {
-    s.legs + s.destinations + s.origins + s.links + s.samples
-}
-
-// The lowest number that some row of a section gives.
-fn lowest_element(book: &[u8], s: Sections) -> u32
-    requires { Sized book.now s }
-    ensures { result ≡ lowest_below (elements s) (element_number book.now s) }
-{
-    let end = element_count(s);
-    let mut lowest = 0;
-    let mut k = 0;
-    while k < end {
-        lowest = lower_of(lowest, row_number(book, s, k));
-        k += 1;
+    let mut lowest = Ok(());
+    for k in 0..book.rows() {
+        lowest = lower_of(lowest, row_refusal(book, k));
     }
     lowest
 }
 
 // Whether link 0 is all zero.
-fn link_zero(book: &[u8], s: Sections) -> bool
-    requires sized { Sized book.now s }
-    requires links_nonzero { 0 < s.links }
+#[tactic(auto, unfolding(book_format::specs::Rows::link_zero, book_format::specs::Format::link_at))]
+fn link_zero(book: &Book) -> bool
+    requires links_nonzero { 0 < links book.now }
     ensures { result ≡ link_zero book.now }
 {
-    if book_format::link_length(book, s, 0) != 0 {
+    if book.link_length(0) != 0 {
         return false;
     }
-    let l = book_format::link_at(book, s, 0);
+    let l = book.link_at(0);
     (l.idx_next == 0) & (l.idx_next_alt == 0) & (l.idx_prev == 0) & (l.idx_prev_alt == 0)
 }
 
-// The lowest of rows 4 to 7 that some single row of a section, or a float at the head, gives, and 0 where none does.
-pub fn lowest_row(book: &[u8], s: Sections) -> u32
-    requires sized { Sized book.now s }
-    requires links_nonzero { 0 < s.links }
-    ensures { result ≡ single_number book.now }
+// The lowest of rows 4 to 7 that some single row of a section, or a float at the head, is refused for.
+#[tactic(auto, using(crate::proofs::Elements::lowest_all), unfolding(book_format::specs::Format::head_patterns))]
+pub fn lowest_row(book: &Book) -> Result<(), Refusal>
+    requires links_nonzero { 0 < links book.now }
+    ensures { number_of (told result) ≡ single_number book.now }
 {
-    let head = book_format::head_patterns(book, s);
+    let head = book.head_patterns();
     let bad = !floats::is_book_float(head.join)
         | !floats::is_book_float(head.departure)
         | !floats::is_book_float(head.length);
-    let first = number_of(bad, !link_zero(book, s), false, false);
-    lower_of(first, lowest_element(book, s))
+    let first = first_refusal(bad, !link_zero(book), false, false);
+    lower_of(first, lowest_refusal(book))
 }

@@ -1,20 +1,11 @@
 -- `book_format::sample_from` meets its contract: each float is that of its pattern.
-use mathlib.Core.Path.{◌∙◌, ap}
+use Rattle.std.proofs.Common.{◌∙◌, ap}
 use Rattle.floats.specs.Floats.{book_float}
 use Rattle.book_format.proofs.Floats.{sample_floats}
-use Rattle.book_format.proofs.Records.{sample_bytes}
 use Rattle.book_format.proofs.sample_from.Goals as goal
-
-pub float_of-time-requires : goal.float_of-time-requires
-float_of-time-requires c = ap book_float c.u64_at.ensures ∙ (sample_floats _ _ c.requires.at_value).time
 
 pub float_of-offset-requires : goal.float_of-offset-requires
 float_of-offset-requires c = ap book_float c.u64_at-2.ensures ∙ (sample_floats _ _ c.requires.at_value).offset
 
 pub float_of-speed-requires : goal.float_of-speed-requires
 float_of-speed-requires c = ap book_float c.u64_at-3.ensures ∙ (sample_floats _ _ c.requires.at_value).speed
-
-pub returns : goal.returns
-returns c =
-    sample_bytes _ _ c.u64_at.ensures c.float_of-time.ensures c.u64_at-2.ensures
-    c.float_of-offset.ensures c.u64_at-3.ensures c.float_of-speed.ensures
