@@ -4,18 +4,16 @@ use mathlib.Core.Bool.{Bool, true, false}
 use mathlib.Core.List.{List, [], ◌∷◌, ◌++◌}
 use mathlib.Core.Option.{Option, none, some}
 use Prim.{Unit, tt}
-use Prim.Native.Nat.{ℕ, zero, suc, ◌+◌, ◌-◌, ◌*◌, ◌≤◌, ◌<◌}
+use Prim.Native.Nat.{ℕ, zero, suc, ◌+◌, ◌-◌, ◌≤◌, ◌<◌}
 use native.Mathlib.Nat.{not-suc-le-zero}
 use native.Mathlib.Numerals.{add-one}
 use native.Mathlib.Omega.{arith}
 use lib.Dec.{ltb}
 use lib.ListN.{length, get_or, length-append}
 use Rattle.net_join_paths.specs.declared.EstJoinPath.{EstJoinPath}
-use Rattle.net_join_paths.specs.declared.Count.{Count}
-use Rattle.net_join_paths.specs.declared.Count.TheVariants.{Entries, Over}
-use Rattle.net_join_paths.specs.Entries.{entry, entry_at, entries_in, node_of, pushed_as, push, and_then, EntriesAs}
+use Rattle.net_join_paths.specs.Entries.{entry, node_of, pushed_as, push, and_then}
 use Rattle.net_join_paths.specs.Spans.{pushed_all, nodes_in}
-use Rattle.net_join_paths.proofs.Entries.{entries_count, node_front, node_last, node_in, listed_some, listed_none}
+use Rattle.net_join_paths.proofs.Entries.{node_front, node_last}
 
 -- ---- a list with nodes behind it
 
@@ -66,59 +64,49 @@ pub one_appended : (x : EstJoinPath) (es r : List EstJoinPath) → push es x ≡
 unfolding pushed_all entry
 one_appended x es r h = all_appended x.link_idx_match (x.est_idx_next ∷ []) es r (ap (λ (a : Option (List EstJoinPath)). and_then a some) h)
 
--- ---- the nodes of a slice
+-- ---- the nodes of a list
 
--- the first n entries of a slice name the same nodes in another, which has `more`
-pub record SameNodes (list list' : List ℕ) (n more : ℕ) : Type 0 where
-  pub node : (k : ℕ) → k < n → get_or list' (k * 2 + 1) 0 ≡ get_or list (k * 2 + 1) 0
-  pub grows : n ≤ more
+-- a list names the same nodes in another, which may have more
+pub record SameNodes (list list' : List EstJoinPath) : Type 0 where
+  pub node : (k : ℕ) → k < length list → node_of list' k ≡ node_of list k
+  pub grows : length list ≤ length list'
 
-pub same_nodes : (list : List ℕ) (n : ℕ) → SameNodes list list n n
-same_nodes list n = record { node = λ k h. refl; grows = omega arith }
+pub same_nodes : (list : List EstJoinPath) → SameNodes list list
+same_nodes list = record { node = λ k h. refl; grows = omega arith }
+
+pub same_then : {list list' list'' : List EstJoinPath} → SameNodes list list' → SameNodes list' list'' → SameNodes list list''
+same_then s t = record { node = λ k h. t.node k (omega (arith, s.grows)) ∙ s.node k h; grows = omega (arith, s.grows, t.grows) }
 
 -- these nodes, one after the other
-nodes_are : (list is : List ℕ) (from : ℕ) → ((k : ℕ) → k < length is → get_or list ((from + k) * 2 + 1) 0 ≡ get_or is k 0) → nodes_in list from (length is) ≡ is
+nodes_are : (list : List EstJoinPath) (is : List ℕ) (from : ℕ) → ((k : ℕ) → k < length is → node_of list (from + k) ≡ get_or is k 0) → nodes_in list from (length is) ≡ is
 unfolding nodes_in
 nodes_are list [] from h = refl
 nodes_are list (i ∷ is) from h =
-    let e : from * 2 + 1 ≡ (from + 0) * 2 + 1 = omega arith in
-    let f : get_or list (from * 2 + 1) 0 ≡ i = ap (λ (j : ℕ). get_or list j 0) e ∙ h 0 (omega arith) in
+    let e : from ≡ from + 0 = omega arith in
+    let f : node_of list from ≡ i = ap (node_of list) e ∙ h 0 (omega arith) in
     let g : nodes_in list (suc from) (length is) ≡ is =
-    nodes_are list is (suc from) (λ k l. let d : (suc from + k) * 2 + 1 ≡ (from + suc k) * 2 + 1 = omega arith in ap (λ (j : ℕ). get_or list j 0) d ∙ h (suc k) (omega arith)) in
+    nodes_are list is (suc from) (λ k l. let d : suc from + k ≡ from + suc k = omega arith in ap (node_of list) d ∙ h (suc k) (omega arith)) in
     ap (λ (j : ℕ). j ∷ nodes_in list (suc from) (length is)) f ∙ ap (λ (js : List ℕ). i ∷ js) g
 
-module _ (list list' : List ℕ) (n more : ℕ) {is : List ℕ} (a : Appended (entries_in list n) is (entries_in list' more)) where
-  grown : more ≡ n + length is
-  grown = omega (arith, a.many, entries_count list n, entries_count list' more)
+module _ {list list' : List EstJoinPath} {is : List ℕ} (a : Appended list is list') where
+  pub nodes_stay : SameNodes list list'
+  nodes_stay = record { node = a.front; grows = omega (arith, a.many) }
 
-  pub nodes_stay : SameNodes list list' n more
-  unfolding entry_at entry
-  nodes_stay = record {
-    node = λ k h.
-        sym (node_in list' more k (omega (arith, grown))) ∙ a.front k (omega (arith, entries_count list n)) ∙ node_in list n k h;
-    grows = omega (arith, grown);
-  }
-
-  node_behind : (k : ℕ) → k < length is → get_or list' ((n + k) * 2 + 1) 0 ≡ get_or is k 0
-  unfolding entry_at entry
-  node_behind k h =
-      sym (node_in list' more (n + k) (omega (arith, grown))) ∙ ap (λ (j : ℕ). node_of (entries_in list' more) (j + k)) (sym (entries_count list n)) ∙ a.behind k h
-
-  -- what is behind the n are these nodes
-  pub nodes_behind : nodes_in list' n (more - n) ≡ is
+  -- what is behind are these nodes
+  pub nodes_behind : nodes_in list' (length list) (length list' - length list) ≡ is
   nodes_behind =
-      let e : more - n ≡ length is = omega (arith, grown) in
-      ap (nodes_in list' n) e ∙ nodes_are list' is n node_behind
+      let e : length list' - length list ≡ length is = omega (arith, a.many) in
+      ap (nodes_in list' (length list)) e ∙ nodes_are list' is (length list) a.behind
 
 -- the nodes of a span inside
-pub nodes_kept : {list list' : List ℕ} {n more : ℕ} → SameNodes list list' n more → (k from : ℕ) → from + k ≤ n → nodes_in list from k ≡ nodes_in list' from k
+pub nodes_kept : {list list' : List EstJoinPath} → SameNodes list list' → (k from : ℕ) → from + k ≤ length list → nodes_in list from k ≡ nodes_in list' from k
 unfolding nodes_in
 nodes_kept s zero from h = refl
 nodes_kept {list} {list'} s (suc k) from h =
-    ap (λ (j : ℕ). j ∷ nodes_in list (suc from) k) (sym (s.node from (omega arith))) ∙ ap (λ (js : List ℕ). get_or list' (from * 2 + 1) 0 ∷ js) (nodes_kept s k (suc from) (omega arith))
+    ap (λ (j : ℕ). j ∷ nodes_in list (suc from) k) (sym (s.node from (omega arith))) ∙ ap (λ (js : List ℕ). node_of list' from ∷ js) (nodes_kept s k (suc from) (omega arith))
 
 -- two spans, one behind the other
-pub nodes_split : (list : List ℕ) (from j k : ℕ) → nodes_in list from (j + k) ≡ nodes_in list from j ++ nodes_in list (from + j) k
+pub nodes_split : (list : List EstJoinPath) (from j k : ℕ) → nodes_in list from (j + k) ≡ nodes_in list from j ++ nodes_in list (from + j) k
 unfolding nodes_in
 nodes_split list from zero k =
     let a : 0 + k ≡ k = omega arith in
@@ -128,54 +116,47 @@ nodes_split list from (suc j) k =
     let a : suc j + k ≡ suc (j + k) = omega arith in
     let b : suc from + j ≡ from + suc j = omega arith in
     ap (nodes_in list from) a
-    ∙ ap (λ (is : List ℕ). get_or list (from * 2 + 1) 0 ∷ is) (nodes_split list (suc from) j k)
-    ∙ ap (λ (i : ℕ). (get_or list (from * 2 + 1) 0 ∷ nodes_in list (suc from) j) ++ nodes_in list i k) b
+    ∙ ap (λ (is : List ℕ). node_of list from ∷ is) (nodes_split list (suc from) j k)
+    ∙ ap (λ (i : ℕ). (node_of list from ∷ nodes_in list (suc from) j) ++ nodes_in list i k) b
 
 -- ---- the copy, node by node
 
 -- the nodes from `begin` to k have been pushed
-pub record Copying (m : ℕ) (list₀ : List ℕ) (n begin end : ℕ) (list : List ℕ) (at k : ℕ) : Type 0 where
-  pub answer : pushed_all m (nodes_in list₀ begin (end - begin)) (entries_in list₀ n) ≡ pushed_all m (nodes_in list₀ k (end - k)) (entries_in list at)
-  pub same : SameNodes list₀ list n at
-  pub few : at ≤ 1024
-  pub within : k ≤ end
+pub record Copying (m : ℕ) (list₀ : List EstJoinPath) (begin end : ℕ) (list : List EstJoinPath) (k : ℕ) : Type 0 where
+  pub answer : pushed_all m (nodes_in list₀ begin (end - begin)) list₀ ≡ pushed_all m (nodes_in list₀ k (end - k)) list
+  pub same : SameNodes list₀ list
 
-pub copying_start : (m : ℕ) (list : List ℕ) (n begin end : ℕ) → n ≤ 1024 → begin ≤ end → Copying m list n begin end list n begin
-copying_start m list n begin end f h = record { answer = refl; same = same_nodes list n; few = f; within = h }
+pub copying_start : (m : ℕ) (list : List EstJoinPath) (begin end : ℕ) → Copying m list begin end list begin
+copying_start m list begin end = record { answer = refl; same = same_nodes list }
 
-module _ {m : ℕ} {list₀ : List ℕ} {n begin end : ℕ} {list : List ℕ} {at k : ℕ} (v : Copying m list₀ n begin end list at k) where
-  pub copying_whole : end ≤ k → EntriesAs (pushed_all m (nodes_in list₀ begin (end - begin)) (entries_in list₀ n)) list (Entries at)
+module _ {m : ℕ} {list₀ : List EstJoinPath} {begin end : ℕ} {list : List EstJoinPath} {k : ℕ} (v : Copying m list₀ begin end list k) where
+  pub copying_whole : end ≤ k → pushed_all m (nodes_in list₀ begin (end - begin)) list₀ ≡ some list
   unfolding nodes_in pushed_all
   copying_whole h =
       let e : end - k ≡ 0 = omega arith in
-      (v.answer ∙ ap (λ (j : ℕ). pushed_all m (nodes_in list₀ k j) (entries_in list at)) e, v.few)
+      v.answer ∙ ap (λ (j : ℕ). pushed_all m (nodes_in list₀ k j) list) e
 
   -- where the entry x of the node at k was pushed
-  module _ (h : k < end) (i : end ≤ n) (x : EstJoinPath) (l : x ≡ entry m (get_or list (k * 2 + 1) 0)) (list' : List ℕ) (r : Count) (p : EntriesAs (push (entries_in list at) x) list' r) where
-    turn : pushed_all m (nodes_in list₀ begin (end - begin)) (entries_in list₀ n) ≡ and_then (push (entries_in list at) x) (pushed_all m (nodes_in list₀ (suc k) (end - suc k)))
+  module _ (h : k < end) (i : end ≤ length list₀) (x : EstJoinPath) (l : x ≡ entry m (node_of list k)) where
+    turn : pushed_all m (nodes_in list₀ begin (end - begin)) list₀ ≡ and_then (push list x) (pushed_all m (nodes_in list₀ (suc k) (end - suc k)))
     unfolding nodes_in pushed_all
     turn =
         let e : end - k ≡ suc (end - suc k) = omega arith in
         v.answer
-        ∙ ap (λ (j : ℕ). pushed_all m (nodes_in list₀ k j) (entries_in list at)) e
-        ∙ ap (λ (j : ℕ). and_then (push (entries_in list at) (entry m j)) (pushed_all m (nodes_in list₀ (suc k) (end - suc k)))) (sym (v.same.node k (omega arith)))
-        ∙ ap (λ (y : EstJoinPath). and_then (push (entries_in list at) y) (pushed_all m (nodes_in list₀ (suc k) (end - suc k)))) (sym l)
+        ∙ ap (λ (j : ℕ). pushed_all m (nodes_in list₀ k j) list) e
+        ∙ ap (λ (j : ℕ). and_then (push list (entry m j)) (pushed_all m (nodes_in list₀ (suc k) (end - suc k)))) (sym (v.same.node k (omega arith)))
+        ∙ ap (λ (y : EstJoinPath). and_then (push list y) (pushed_all m (nodes_in list₀ (suc k) (end - suc k)))) (sym l)
 
-    pub copying_over : r ≡ Over → pushed_all m (nodes_in list₀ begin (end - begin)) (entries_in list₀ n) ≡ none
-    copying_over o = turn ∙ ap (λ (a : Option (List EstJoinPath)). and_then a (pushed_all m (nodes_in list₀ (suc k) (end - suc k)))) (listed_none (push (entries_in list at) x) list' r p o)
+    pub copying_over : push list x ≡ none → pushed_all m (nodes_in list₀ begin (end - begin)) list₀ ≡ none
+    copying_over o = turn ∙ ap (λ (a : Option (List EstJoinPath)). and_then a (pushed_all m (nodes_in list₀ (suc k) (end - suc k)))) o
 
-    pub copying_on : (more : ℕ) → r ≡ Entries more → Copying m list₀ n begin end list' more (k + 1)
-    copying_on more o =
-        let g = listed_some (push (entries_in list at) x) list' r p more o in
-        let s = nodes_stay list list' at more (one_appended x (entries_in list at) (entries_in list' more) g.0) in
-        record {
-          answer = turn
-              ∙ ap (λ (a : Option (List EstJoinPath)). and_then a (pushed_all m (nodes_in list₀ (suc k) (end - suc k)))) g.0
-              ∙ ap (λ (j : ℕ). pushed_all m (nodes_in list₀ j (end - j)) (entries_in list' more)) (sym (add-one k));
-          same = record { node = λ j d. s.node j (omega (arith, v.same.grows)) ∙ v.same.node j d; grows = omega (arith, v.same.grows, s.grows) };
-          few = g.1;
-          within = omega arith;
-        }
+    pub copying_on : (list' : List EstJoinPath) → push list x ≡ some list' → Copying m list₀ begin end list' (k + 1)
+    copying_on list' o = record {
+      answer = turn
+          ∙ ap (λ (a : Option (List EstJoinPath)). and_then a (pushed_all m (nodes_in list₀ (suc k) (end - suc k)))) o
+          ∙ ap (λ (j : ℕ). pushed_all m (nodes_in list₀ j (end - j)) list') (sym (add-one k));
+      same = same_then v.same (nodes_stay (one_appended x list list' o));
+    }
 
 -- ---- nodes that were pushed behind a list
 
@@ -189,36 +170,36 @@ pushed_append m (i ∷ is) js es = go (push es (entry m i)) (pushed_append m is 
     go none ih = refl
     go (some fs) ih = ih fs
 
--- The nodes of the entries from n on, behind the first n of a list as it was, are the entries as they are.
-pub record Pushed (m : ℕ) (list₀ : List ℕ) (n : ℕ) (list : List ℕ) (at : ℕ) : Type 0 where
-  pub answer : pushed_all m (nodes_in list n (at - n)) (entries_in list₀ n) ≡ some (entries_in list at)
-  pub same : SameNodes list₀ list n at
-  pub few : at ≤ 1024
+-- The nodes of the entries behind a list, put behind it as it was, are the entries as they are.
+pub record Pushed (m : ℕ) (list₀ list : List EstJoinPath) : Type 0 where
+  pub answer : pushed_all m (nodes_in list (length list₀) (length list - length list₀)) list₀ ≡ some list
+  pub same : SameNodes list₀ list
 
-pub pushed_start : (m : ℕ) (list : List ℕ) (n : ℕ) → n ≤ 1024 → Pushed m list n list n
+pub pushed_start : (m : ℕ) (list : List EstJoinPath) → Pushed m list list
 unfolding pushed_all nodes_in
-pushed_start m list n h = let z : n - n ≡ 0 = omega arith in record { answer = ap (λ (d : ℕ). pushed_all m (nodes_in list n d) (entries_in list n)) z; same = same_nodes list n; few = h }
+pushed_start m list = let z : length list - length list ≡ 0 = omega arith in record { answer = ap (λ (d : ℕ). pushed_all m (nodes_in list (length list) d) list) z; same = same_nodes list }
 
 -- nodes that were pushed
-pub pushed_more : (m : ℕ) (is list list' : List ℕ) (n more : ℕ) → pushed_all m is (entries_in list n) ≡ some (entries_in list' more) → more ≤ 1024 → (nodes_in list' n (more - n) ≡ is) × Pushed m list n list' more
-pushed_more m is list list' n more h f =
-    let a = all_appended m is (entries_in list n) (entries_in list' more) h in
-    let b = nodes_behind list list' n more a in
-    (b, record { answer = ap (λ (js : List ℕ). pushed_all m js (entries_in list n)) b ∙ h; same = nodes_stay list list' n more a; few = f })
+pub pushed_more : (m : ℕ) (is : List ℕ) (list list' : List EstJoinPath) → pushed_all m is list ≡ some list' → (nodes_in list' (length list) (length list' - length list) ≡ is) × Pushed m list list'
+pushed_more m is list list' h =
+    let a = all_appended m is list list' h in
+    let b = nodes_behind a in
+    (b, record { answer = ap (λ (js : List ℕ). pushed_all m js list) b ∙ h; same = nodes_stay a })
 
 -- and more behind them
-pub pushed_then : {m : ℕ} {list₀ list₁ list : List ℕ} {n at₁ at : ℕ} → Pushed m list₀ n list₁ at₁ → Pushed m list₁ at₁ list at → Pushed m list₀ n list at
-pushed_then {m} {list₀} {list₁} {list} {n} {at₁} {at} v w = record {
+pub pushed_then : {m : ℕ} {list₀ list₁ list : List EstJoinPath} → Pushed m list₀ list₁ → Pushed m list₁ list → Pushed m list₀ list
+pushed_then {m} {list₀} {list₁} {list} v w = record {
   answer =
-      let a : at₁ - n + (at - at₁) ≡ at - n = omega (arith, v.same.grows, w.same.grows) in
-      let b : n + (at₁ - n) ≡ at₁ = omega (arith, v.same.grows) in
-      ap (λ (d : ℕ). pushed_all m (nodes_in list n d) (entries_in list₀ n)) (sym a)
-      ∙ ap (λ (is : List ℕ). pushed_all m is (entries_in list₀ n)) (nodes_split list n (at₁ - n) (at - at₁))
-      ∙ pushed_append m (nodes_in list n (at₁ - n)) (nodes_in list (n + (at₁ - n)) (at - at₁)) (entries_in list₀ n)
-      ∙ ap (λ (is : List ℕ). and_then (pushed_all m is (entries_in list₀ n)) (pushed_all m (nodes_in list (n + (at₁ - n)) (at - at₁)))) (sym (nodes_kept w.same (at₁ - n) n (omega (arith, v.same.grows))))
-      ∙ ap (λ (o : Option (List EstJoinPath)). and_then o (pushed_all m (nodes_in list (n + (at₁ - n)) (at - at₁)))) v.answer
-      ∙ ap (λ (i : ℕ). pushed_all m (nodes_in list i (at - at₁)) (entries_in list₁ at₁)) b
+      let a : length list₁ - length list₀ + (length list - length list₁) ≡ length list - length list₀ = omega (arith, v.same.grows, w.same.grows) in
+      let b : length list₀ + (length list₁ - length list₀) ≡ length list₁ = omega (arith, v.same.grows) in
+      let js : List ℕ = nodes_in list (length list₀) (length list₁ - length list₀) in
+      let ks : List ℕ = nodes_in list (length list₀ + (length list₁ - length list₀)) (length list - length list₁) in
+      ap (λ (d : ℕ). pushed_all m (nodes_in list (length list₀) d) list₀) (sym a)
+      ∙ ap (λ (is : List ℕ). pushed_all m is list₀) (nodes_split list (length list₀) (length list₁ - length list₀) (length list - length list₁))
+      ∙ pushed_append m js ks list₀
+      ∙ ap (λ (is : List ℕ). and_then (pushed_all m is list₀) (pushed_all m ks)) (sym (nodes_kept w.same (length list₁ - length list₀) (length list₀) (omega (arith, v.same.grows))))
+      ∙ ap (λ (o : Option (List EstJoinPath)). and_then o (pushed_all m ks)) v.answer
+      ∙ ap (λ (i : ℕ). pushed_all m (nodes_in list i (length list - length list₁)) list₁) b
       ∙ w.answer;
-  same = record { node = λ k h. w.same.node k (omega (arith, v.same.grows)) ∙ v.same.node k h; grows = omega (arith, v.same.grows, w.same.grows) };
-  few = w.few;
+  same = same_then v.same w.same;
 }

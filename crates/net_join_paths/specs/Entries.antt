@@ -1,26 +1,16 @@
--- Lists of join entries, document 01 under "Joins": "An entry is (match link m, node e)." A list lies in a slice of
--- numbers, 2 to an entry, and has at most 1,024.
-use Rattle.std.specs.Prelude.{◌≡◌, Bool, true, false, List, [], ◌∷◌, ◌++◌, ℕ, zero, suc, ◌+◌, ◌*◌, ◌≤◌, ◌<◌, ltb, length, get_or}
+-- Lists of join entries, document 01 under "Joins": "An entry is (match link m, node e)." A list has at most 1,024.
+use Rattle.std.specs.Prelude.{◌≡◌, Bool, true, false, List, [], ◌∷◌, ◌++◌, ℕ, zero, suc, ◌<◌, ltb, length, Result, Ok, Err}
 use Rattle.std.proofs.Math.Option.{Option, none, some}
+use Prim.{Unit}
+use Rattle.arrayvec.specs.ArrayVec.{ArrayVec}
+use Rattle.refusals.specs.declared.Refusal.{Refusal}
+use Rattle.refusals.specs.declared.Refusal.TheVariants.{NoPlace}
 use Rattle.space.specs.Lent.{Lent}
 use Rattle.net_join_paths.specs.declared.EstJoinPath.{EstJoinPath}
-use Rattle.net_join_paths.specs.declared.Count.{Count}
-use Rattle.net_join_paths.specs.declared.Count.TheVariants.{Entries, Over}
 
 -- (match link m, node e)
 unfoldable pub entry : ℕ → ℕ → EstJoinPath
 entry m e = record { link_idx_match = m; est_idx_next = e }
-
--- the entry at k of a slice
-unfoldable pub entry_at : List ℕ → ℕ → EstJoinPath
-unfolding entry
-entry_at s k = entry (get_or s (k * 2) 0) (get_or s (k * 2 + 1) 0)
-
--- the first n entries of a slice
-unfoldable pub entries_in : List ℕ → ℕ → List EstJoinPath
-unfolding entry_at
-entries_in s zero = []
-entries_in s (suc n) = entries_in s n ++ (entry_at s n ∷ [])
 
 -- the node of the entry at k of a list
 abbrev pub node_of : List EstJoinPath → ℕ → ℕ
@@ -48,14 +38,15 @@ abbrev pub and_then : Option (List EstJoinPath) → (List EstJoinPath → Option
 and_then none f = none
 and_then (some es) f = f es
 
--- a slice and a count hold an answer's list
-abbrev pub EntriesAs : Option (List EstJoinPath) → List ℕ → Count → Type 0
-EntriesAs answer slice (Entries n) = (answer ≡ some (entries_in slice n)) × (n ≤ 1024)
-EntriesAs answer slice Over = answer ≡ none
+-- an answer of the code, with the list that it leaves, is that of a rule
+abbrev pub EntriesAs : Option (List EstJoinPath) → List EstJoinPath → Result Unit Refusal → Type 0
+EntriesAs answer list (Ok done) = answer ≡ some list
+EntriesAs answer list (Err r) = (answer ≡ none) × (r ≡ NoPlace)
 
--- what a rule makes of the first n entries of a lent slice is left there
-abbrev pub ListBecomes : (List EstJoinPath → Option (List EstJoinPath)) → Lent (List ℕ) → ℕ → Count → Type 0
-ListBecomes rule list n r = EntriesAs (rule (entries_in list.entry.now n)) list.exit.now r
+-- what a rule makes of a lent list is left there
+abbrev pub ListBecomes : (List EstJoinPath → Option (List EstJoinPath)) → Lent (ArrayVec EstJoinPath)
+    → Result Unit Refusal → Type 0
+ListBecomes rule list r = EntriesAs (rule list.entry.now.items) list.exit.now.items r
 
 -- each entry names one of the first n nodes
 pub record Valid (es : List EstJoinPath) (n : ℕ) : Type 0 where

@@ -1,7 +1,7 @@
 -- The log of the nodes of which something is noted: noting keeps it true, and all that is noted can be taken back. What a noted span says.
 use mathlib.Core.Path.{◌≡◌, refl, sym, ap, ◌∙◌, subst}
 use mathlib.Core.Logic.{◌≢◌, ◌⊎◌, inl, inr}
-use mathlib.Core.Bool.{Bool, true, false, cond, ◌||◌}
+use mathlib.Core.Bool.{Bool, false, ◌||◌}
 use mathlib.Core.List.{List}
 use Prim.Native.Nat.{ℕ, zero, suc, ◌+◌, ◌*◌, ◌≤◌, ◌<◌}
 use native.Mathlib.Omega.{arith}
@@ -9,10 +9,12 @@ use borrow.Author.Tests.{leb-false}
 use lib.Dec.{leb}
 use lib.ListN.{length, get_or, set, length-set}
 use lib.Seq.{get_or-set_same, get_or-set_other, ext_get_or}
+use Rattle.std.specs.Prelude.{Some}
 use Rattle.laws.proofs.Truth.{equal_or_not, none_left, none_right}
 use Rattle.net_event_map.specs.declared.Layout.{Layout}
 use Rattle.net_event_map.specs.EventMap.{CellsApart}
-use Rattle.net_notes.specs.Log.{name_column, matched_column, strands_column, nexts_column, NoteColumn, cell_at, note_in, span_number, span_begin, span_end, Says, logged, logged_at, LogIn, Touched, log_full, NotedAs, Notes, Ungiven}
+use Rattle.net_notes.specs.declared.Span.{Span}
+use Rattle.net_notes.specs.Log.{span_in, name_column, matched_column, strands_column, nexts_column, NoteColumn, cell_at, note_in, span_number, span_begin, span_end, Says, logged, logged_at, LogIn, Touched, log_full, NotedAs, Notes, Ungiven}
 
 -- ---- the last three cells of a node
 
@@ -80,14 +82,6 @@ noted_zero w i cells l c a = go (equal_or_not c 5) (equal_or_not c 6)
     go (inr d) (inr e) = let f : c ≡ 7 = omega (arith, a.0, a.1, d, e) in ap there f ∙ noted_nexts w i 0 0 0 cells l
 
 -- ---- a node noted and logged
-
--- the log is full, and nothing is noted
-pub notes_none : (w : Layout) (i matched strands nexts : ℕ) (cells : List ℕ) → log_full cells w ≡ true → Notes w i matched strands nexts cells cells
-notes_none w i matched strands nexts cells full = record {
-  own = subst (λ (b : Bool). NotedAs b w i matched strands nexts cells cells) (sym full) (λ c a. refl);
-  others = λ j c d a. refl;
-  touched = λ cells₀ t. t;
-}
 
 -- the log is not full: a name more can be counted and has a place
 pub not_full : (count places : ℕ) → (leb 65535 count || leb places (count + 1)) ≡ false → (count < 65535) × (count + 1 < places)
@@ -217,12 +211,12 @@ forgetting_start w cells = record {
 
 module _ {w : Layout} {entry cells : List ℕ} {count k : ℕ} (apart : CellsApart entry w) (log : LogIn entry w) (f : Forgetting w entry count cells k) where
   -- the length's cell is inside
-  pub head_inside : w.nodes_at + 1 < length cells
+  head_inside : w.nodes_at + 1 < length cells
   head_inside = omega (arith, log.fits, apart.nodes_inside, f.many)
 
   module _ (h : k ≤ count) where
     -- so is a name that is left
-    pub name_inside : cell_at w k name_column < length cells
+    name_inside : cell_at w k name_column < length cells
     name_inside = omega (arith, h, f.counted, log.fits, apart.nodes_inside, f.many)
 
     -- which is a place
@@ -230,7 +224,7 @@ module _ {w : Layout} {entry cells : List ℕ} {count k : ℕ} (apart : CellsApa
     name_place = omega (arith, h, f.counted, f.names k (omega arith), log.names k f.first (omega (arith, h, f.counted)))
 
     -- whose cells are inside
-    pub notes_inside : (logged_at cells w k + 1) * 8 + w.nodes_at ≤ length cells
+    notes_inside : (logged_at cells w k + 1) * 8 + w.nodes_at ≤ length cells
     notes_inside = omega (arith, name_place, apart.nodes_inside, f.many)
 
     -- the name at k is taken back
@@ -296,10 +290,12 @@ touched_none {cells} {w} h u =
 
 -- ---- what a cell says that is not 0
 
--- what is looked at and is not 0 is what is noted
-pub known_is : (b : Bool) (known x : ℕ) → known ≡ cond b x 0 → (known ≡ 0 → ⊥) → known ≡ x
-known_is true known x k z = k
-known_is false known x k z = absurd (z k)
+-- what a cell says holds of the span that it has
+pub span_said : (Holds : ℕ → ℕ → Type 0) (cell : ℕ) (s : Span) → Some s ≡ span_in cell → Says Holds cell → Holds s.begin s.end
+span_said Holds zero s e v = cc
+span_said Holds (suc c) s e v =
+    let d : s ≡ record { begin = span_begin (suc c); end = span_end (suc c) } = cc in
+    subst (λ (z : Span). Holds z.begin z.end) (sym d) (v (λ (z : suc c ≡ 0). omega arith))
 
 -- what holds of a span is said by a cell that has its number
 pub says_span : (Holds : ℕ → ℕ → Type 0) (begin end : ℕ) → end ≤ 1024 → Holds begin end → Says Holds (span_number begin end)

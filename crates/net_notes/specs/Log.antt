@@ -1,8 +1,11 @@
 -- Words of the contracts: what is noted of a node while one event is looked at, in the last three of its cells, and the
 -- log of the nodes of which something is noted, in the second cells of the places: that of place 0 has the number of
 -- names, those behind it have the names.
-use Rattle.std.specs.Prelude.{◌≡◌, ◌≢◌, Bool, true, false, ◌||◌, List, ℕ, ◌+◌, ◌-◌, ◌*◌, ◌/◌, ◌%◌, ◌≤◌, ◌<◌, leb, get_or}
+use Rattle.std.specs.Prelude.{◌≡◌, ◌≢◌, Bool, true, false, ◌||◌, List, ℕ, zero, suc, ◌+◌, ◌-◌, ◌*◌, ◌/◌, ◌%◌, ◌≤◌, ◌<◌, leb, get_or, Option, None, Some}
 use Rattle.net_event_map.specs.declared.Layout.{Layout}
+use Rattle.net_notes.specs.declared.Column.{Column}
+use Rattle.net_notes.specs.declared.Column.TheVariants.{Matched, Strands, Nexts}
+use Rattle.net_notes.specs.declared.Span.{Span}
 
 -- the column of a node's cells that has a name of the log
 abbrev pub name_column : ℕ
@@ -19,6 +22,12 @@ strands_column = 6
 -- the column of how many nexts these strands read
 abbrev pub nexts_column : ℕ
 nexts_column = 7
+
+-- the number of a column
+abbrev pub column_number : Column → ℕ
+column_number Matched = matched_column
+column_number Strands = strands_column
+column_number Nexts = nexts_column
 
 -- one of the last three columns
 abbrev pub NoteColumn : ℕ → Type 0
@@ -43,6 +52,11 @@ span_begin span = (span - 1) / 2048
 -- where it ends
 abbrev pub span_end : ℕ → ℕ
 span_end span = (span - 1) % 2048
+
+-- the span of a number, none for 0
+abbrev pub span_in : ℕ → Option Span
+span_in zero = None
+span_in (suc c) = Some (record { begin = span_begin (suc c); end = span_end (suc c) })
 
 -- a cell that is not 0 has the number of a span of which something holds
 abbrev pub Says : (ℕ → ℕ → Type 0) → ℕ → Type 0

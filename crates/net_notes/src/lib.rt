@@ -3,54 +3,83 @@
 // specs/Log.antt.
 #![tactic(auto)]
 
-ghost use Rattle.std.specs.Prelude.{◌≡◌, cond, List, ℕ, ◌≤◌, ◌<◌, length};
+ghost use Rattle.std.specs.Prelude.{◌≡◌, List, ℕ, ◌≤◌, ◌<◌, length};
 ghost use Rattle.net_event_map.specs.EventMap.{CellsApart};
-ghost use Rattle.net_notes.specs.Log.{note_in, span_number, LogIn, Touched, Notes, Ungiven};
+ghost use Rattle.net_notes.specs.Log.{column_number, note_in, span_number, span_in, LogIn, Touched, Notes, Ungiven};
 
 use net_event_map::Layout;
 
-// The columns of a node's cells (specs/Log.antt): a name of the log,
+// The columns of a node's cells (specs/Log.antt): a name of the log, and what is noted of the node.
 const NAME: usize = 1;
 
-// what entries of the node give that match already,
-pub const MATCHED: usize = 5;
+const MATCHED: usize = 5;
 
-// what strands from the node give,
-pub const STRANDS: usize = 6;
+const STRANDS: usize = 6;
 
-// and how many nexts these read.
-pub const NEXTS: usize = 7;
+const NEXTS: usize = 7;
 
-// A span of the new list as a number that is not 0.
-pub fn span_number(begin: usize, end: usize) -> u32
-    requires begin_le_end { begin ≤ end }
-    requires end_bound { end ≤ 1024 }
-    ensures { result ≡ span_number begin end }
-{
-    (begin * 2048 + end + 1) as u32
+// What is noted of a node: what entries of it give that match already, what strands from it give, and how many nexts
+// these read.
+#[derive(Clone, Copy, Debug, PartialEq, Eq)]
+pub enum Column {
+    Matched,
+    Strands,
+    Nexts,
 }
 
-// What is noted of a node in one column.
-pub fn noted(cells: &[u32], w: Layout, i: u32, column: usize) -> u32
-    requires cells_apart { CellsApart cells.now w }
-    requires i_lt_places { i < w.places }
-    requires column_bound { column < 8 }
-    ensures { result ≡ note_in cells.now w i column }
-{
-    cells[w.nodes_at + i as usize * 8 + column]
-}
+impl From<Column> for usize {
+    ghost from_gives = { λ c n. n ≡ column_number c };
 
-// The same if it is asked for, and else 0.
-pub fn known_span(wanted: bool, cells: &[u32], w: Layout, i: u32, column: usize) -> u32
-    requires cells_apart { CellsApart cells.now w }
-    requires i_lt_places { i < w.places }
-    requires column_bound { column < 8 }
-    ensures { result ≡ cond wanted (note_in cells.now w i column) 0 }
-{
-    if wanted {
-        return noted(cells, w, i, column);
+    fn from(c: Column) -> usize {
+        match c {
+            Column::Matched => MATCHED,
+            Column::Strands => STRANDS,
+            Column::Nexts => NEXTS,
+        }
     }
-    0
+}
+
+// A span of the new list.
+#[derive(Clone, Copy, Debug, PartialEq, Eq)]
+pub struct Span {
+    pub begin: usize,
+    pub end: usize,
+}
+
+impl Span {
+    // The span as a number that is not 0.
+    pub fn number(self) -> u32
+        requires rises { self.begin ≤ self.end }
+        requires few { self.end ≤ 1024 }
+        ensures { result ≡ span_number self.begin self.end }
+    {
+        (self.begin * 2048 + self.end + 1) as u32
+    }
+}
+
+// What is noted of a node in one column, as a number.
+pub fn noted(cells: &[u32], w: Layout, i: u32, column: Column) -> u32
+    requires cells_apart { CellsApart cells.now w }
+    requires i_lt_places { i < w.places }
+    ensures { result ≡ note_in cells.now w i (column_number column) }
+{
+    cells[w.nodes_at + i as usize * 8 + usize::from(column)]
+}
+
+// The span that is noted of a node in one column, if any is.
+pub fn noted_span(cells: &[u32], w: Layout, i: u32, column: Column) -> Option<Span>
+    requires cells_apart { CellsApart cells.now w }
+    requires i_lt_places { i < w.places }
+    ensures { result ≡ span_in (note_in cells.now w i (column_number column)) }
+{
+    let number = noted(cells, w, i, column) as usize;
+    if number == 0 {
+        return None;
+    }
+    Some(Span {
+        begin: (number - 1) / 2048,
+        end: (number - 1) % 2048,
+    })
 }
 
 // Notes three numbers of a node and logs it, unless the log is full. It has at most 65,535 names, since a name is
@@ -80,15 +109,13 @@ pub fn forget_notes(cells: &mut [u32], w: Layout)
         → Touched w cells₀ cells.old → cells.new ≡ cells₀ }
 {
     let count = cells[w.nodes_at + NAME] as usize;
-    let mut k = 1;
-    while k <= count {
+    for k in 1..count + 1 {
         let name = w.nodes_at + k * 8 + NAME;
         let unit = w.nodes_at + cells[name] as usize * 8;
         cells[name] = 0;
         cells[unit + MATCHED] = 0;
         cells[unit + STRANDS] = 0;
         cells[unit + NEXTS] = 0;
-        k += 1;
     }
     cells[w.nodes_at + NAME] = 0;
 }

@@ -1,13 +1,8 @@
--- Words of the contracts: what a stack in a slice holds, where a strand is left, and where a node is put on the stack
--- itself.
-use Rattle.std.specs.Prelude.{Bool, true, false, ◌&&◌, ◌||◌, List, [], ◌∷◌, ℕ, zero, suc, ◌+◌, ◌-◌, ◌*◌, ◌/◌, ◌%◌, eqb, ltb, get_or}
+-- Words of the contracts: where a strand is left, and where a node is put on the stack itself. The stack is a list whose
+-- first is on top.
+use Rattle.std.specs.Prelude.{Bool, true, false, ◌&&◌, ◌||◌, List, ◌∷◌, ℕ, ◌+◌, ◌-◌, ◌*◌, ◌/◌, ◌%◌, eqb, ltb}
 use Rattle.net_node.specs.declared.EstTime.{EstTime}
 use Rattle.net_stack.specs.Stack.{is_arrive}
-
--- the first n numbers of a slice, the last on top
-unfoldable pub stack_in : List ℕ → ℕ → List ℕ
-stack_in s zero = []
-stack_in s (suc n) = get_or s n 0 ∷ stack_in s n
 
 -- how many numbers the strand walk's stack has: one for an alternative of each next, and 512 for nodes to be closed
 abbrev pub stack_length : ℕ

@@ -2,7 +2,7 @@
 use mathlib.Core.Path.{◌≡◌, refl, sym, ap, ◌∙◌, subst}
 use mathlib.Core.Bool.{Bool, true, false}
 use mathlib.Core.List.{List}
-use mathlib.Core.Option.{Option, none}
+use mathlib.Core.Option.{Option, none, some}
 use Prim.Native.Nat.{ℕ, suc, ◌+◌, ◌-◌, ◌≤◌, ◌<◌}
 use native.Mathlib.Omega.{arith}
 use borrow.Author.Tests.{eq-eqb, ne_eqb}
@@ -11,10 +11,7 @@ use Rattle.net_node.specs.declared.LinkEvent.{LinkEvent}
 use Rattle.net_node.specs.declared.EstTime.{EstTime}
 use Rattle.net_node.specs.Table.{same_event, Indexed}
 use Rattle.net_join_paths.specs.declared.EstJoinPath.{EstJoinPath}
-use Rattle.net_join_paths.specs.declared.Count.{Count}
-use Rattle.net_join_paths.specs.declared.Count.TheVariants.{Entries, Over}
-use Rattle.net_join_paths.specs.Entries.{entry, entries_in, and_then, EntriesAs, pushed_if}
-use Rattle.net_join_paths.proofs.Entries.{listed_some, listed_none}
+use Rattle.net_join_paths.specs.Entries.{entry, and_then, pushed_if}
 use Rattle.net_strands.specs.Space.{onward, alternatives}
 
 pub alternatives_turn : (k : ℕ) (node : ℕ → EstTime) (e : LinkEvent) (m i : ℕ) (es : List EstJoinPath) (b c : Bool)
@@ -24,21 +21,20 @@ unfolding alternatives
 alternatives_turn k node e m i es b c p q = rw (p, q)
 
 -- At node i there are turns left for every later node, and they give the answer.
-pub record Following (node : ℕ → EstTime) (nodes : ℕ) (e : LinkEvent) (m : ℕ) (goal : Option (List EstJoinPath)) (list : List ℕ) (i at : ℕ) : Type 0 where
+pub record Following (node : ℕ → EstTime) (nodes : ℕ) (e : LinkEvent) (m : ℕ) (goal : Option (List EstJoinPath)) (list : List EstJoinPath) (i : ℕ) : Type 0 where
   pub left : ℕ
-  pub answer : goal ≡ alternatives (suc left) node e m i (entries_in list at)
+  pub answer : goal ≡ alternatives (suc left) node e m i list
   pub within : i < nodes
   pub enough : nodes ≤ suc left + i
-  pub few : at ≤ 1024
 
-pub following_start : (node : ℕ → EstTime) (nodes : ℕ) (e : LinkEvent) (m start : ℕ) (list : List ℕ) (n : ℕ) → start < nodes → n ≤ 1024
-    → Following node nodes e m (alternatives nodes node e m start (entries_in list n)) list start n
-following_start node nodes e m start list n h g =
+pub following_start : (node : ℕ → EstTime) (nodes : ℕ) (e : LinkEvent) (m start : ℕ) (list : List EstJoinPath) → start < nodes
+    → Following node nodes e m (alternatives nodes node e m start list) list start
+following_start node nodes e m start list h =
     let s : nodes ≡ suc (nodes - 1) = omega arith in
-    record { left = nodes - 1; answer = ap (λ (k : ℕ). alternatives k node e m start (entries_in list n)) s; within = h; enough = omega arith; few = g }
+    record { left = nodes - 1; answer = ap (λ (k : ℕ). alternatives k node e m start list) s; within = h; enough = omega arith }
 
 -- where node i was loaded as x
-module _ {node : ℕ → EstTime} {nodes : ℕ} {e : LinkEvent} {m : ℕ} {goal : Option (List EstJoinPath)} {list : List ℕ} {i at : ℕ} (w : Indexed node nodes) (v : Following node nodes e m goal list i at) (x : EstTime) (l : x ≡ node i) where
+module _ {node : ℕ → EstTime} {nodes : ℕ} {e : LinkEvent} {m : ℕ} {goal : Option (List EstJoinPath)} {list : List EstJoinPath} {i : ℕ} (w : Indexed node nodes) (v : Following node nodes e m goal list i) (x : EstTime) (l : x ≡ node i) where
   pub next_within : x.idx_next < nodes
   next_within = subst (λ (z : EstTime). z.idx_next < nodes) (sym l) (w.next i v.within)
 
@@ -50,37 +46,36 @@ module _ {node : ℕ → EstTime} {nodes : ℕ} {e : LinkEvent} {m : ℕ} {goal 
   alternative_within : x.idx_next_alt < nodes
   alternative_within = subst (λ (z : EstTime). z.idx_next_alt < nodes) (sym l) (w.next_alt i v.within)
 
-  -- its next as y, which has the event or not; and what the push then answers
-  module _ (y : EstTime) (f : y ≡ node x.idx_next) (b : Bool) (g : b ≡ same_event y.link_event e) (list' : List ℕ) (r : Count) (p : EntriesAs (pushed_if b (entries_in list at) (entry m x.idx_next)) list' r) where
-    abbrev pushed : Option (List EstJoinPath)
-    pushed = pushed_if b (entries_in list at) (entry m x.idx_next)
+  -- its next as y, which has the event or not; and what is pushed then
+  module _ (y : EstTime) (f : y ≡ node x.idx_next) (b : Bool) (g : b ≡ same_event y.link_event e) where
+    abbrev pub pushed : Option (List EstJoinPath)
+    pushed = pushed_if b list (entry m x.idx_next)
 
     turn : (c : Bool) → eqb x.idx_next_alt 0 ≡ c → goal ≡ and_then pushed (onward c (alternatives v.left node e m x.idx_next_alt))
     turn c q =
         v.answer
-        ∙ alternatives_turn v.left node e m i (entries_in list at) b c
+        ∙ alternatives_turn v.left node e m i list b c
         (ap (λ (z : EstTime). same_event (node z.idx_next).link_event e) (sym l) ∙ ap (λ (z : EstTime). same_event z.link_event e) (sym f) ∙ sym g)
         (ap (λ (z : EstTime). eqb z.idx_next_alt 0) (sym l) ∙ q)
-        ∙ ap (λ (z : EstTime). and_then (pushed_if b (entries_in list at) (entry m z.idx_next)) (onward c (alternatives v.left node e m z.idx_next_alt))) (sym l)
+        ∙ ap (λ (z : EstTime). and_then (pushed_if b list (entry m z.idx_next)) (onward c (alternatives v.left node e m z.idx_next_alt))) (sym l)
 
-    pub following_over : r ≡ Over → goal ≡ none
+    pub following_over : pushed ≡ none → goal ≡ none
     following_over o =
-        turn _ refl ∙ ap (λ (a : Option (List EstJoinPath)). and_then a (onward (eqb x.idx_next_alt 0) (alternatives v.left node e m x.idx_next_alt))) (listed_none pushed list' r p o)
+        turn _ refl ∙ ap (λ (a : Option (List EstJoinPath)). and_then a (onward (eqb x.idx_next_alt 0) (alternatives v.left node e m x.idx_next_alt))) o
 
-    module _ (more : ℕ) (o : r ≡ Entries more) where
-      went : (c : Bool) → eqb x.idx_next_alt 0 ≡ c → goal ≡ onward c (alternatives v.left node e m x.idx_next_alt) (entries_in list' more)
-      went c q = turn c q ∙ ap (λ (a : Option (List EstJoinPath)). and_then a (onward c (alternatives v.left node e m x.idx_next_alt))) (listed_some pushed list' r p more o).0
+    module _ (list' : List EstJoinPath) (o : pushed ≡ some list') where
+      went : (c : Bool) → eqb x.idx_next_alt 0 ≡ c → goal ≡ onward c (alternatives v.left node e m x.idx_next_alt) list'
+      went c q = turn c q ∙ ap (λ (a : Option (List EstJoinPath)). and_then a (onward c (alternatives v.left node e m x.idx_next_alt))) o
 
-      pub following_last : x.idx_next_alt ≡ 0 → EntriesAs goal list' (Entries more)
-      following_last h = (went true (eq-eqb x.idx_next_alt 0 h), (listed_some pushed list' r p more o).1)
+      pub following_last : x.idx_next_alt ≡ 0 → goal ≡ some list'
+      following_last h = went true (eq-eqb x.idx_next_alt 0 h)
 
-      pub following_on : (x.idx_next_alt ≡ 0 → ⊥) → Following node nodes e m goal list' x.idx_next_alt more
+      pub following_on : (x.idx_next_alt ≡ 0 → ⊥) → Following node nodes e m goal list' x.idx_next_alt
       following_on h =
           let s : v.left ≡ suc (v.left - 1) = omega (arith, v.enough, alternative_later h, alternative_within) in
           record {
             left = v.left - 1;
-            answer = went false (ne_eqb x.idx_next_alt 0 h) ∙ ap (λ (k : ℕ). alternatives k node e m x.idx_next_alt (entries_in list' more)) s;
+            answer = went false (ne_eqb x.idx_next_alt 0 h) ∙ ap (λ (k : ℕ). alternatives k node e m x.idx_next_alt list') s;
             within = alternative_within;
             enough = omega (arith, v.enough, alternative_later h);
-            few = (listed_some pushed list' r p more o).1;
           }

@@ -1,20 +1,18 @@
 -- What an entry of the old list gives, by what it meets; and the loop over the old list.
 use mathlib.Core.Path.{◌≡◌, refl, sym, ap, ◌∙◌}
 use mathlib.Core.Bool.{Bool, true, false, not, ◌||◌, true≢false}
-use mathlib.Core.List.{List, [], ◌∷◌, ◌++◌}
+use mathlib.Core.List.{List, [], ◌∷◌}
 use mathlib.Core.Option.{Option, none, some}
-use Prim.Native.Nat.{ℕ, zero, suc, ◌+◌, ◌-◌, ◌≤◌, ◌<◌}
-use native.Mathlib.Nat.{add-zero}
-use native.Mathlib.Omega.{arith}
+use Prim.Native.Nat.{ℕ, suc, ◌+◌, ◌≤◌, ◌<◌}
+use native.Mathlib.Numerals.{add-one}
 use borrow.Author.Tests.{eq-eqb, ne_eqb, not-true, not-false}
 use lib.Dec.{eqb}
+use lib.ListN.{length, get_or, drop}
+use Rattle.std.proofs.Common.{drop-cons, drop_of_length-le}
 use Rattle.net_node.specs.declared.LinkEvent.{LinkEvent}
 use Rattle.net_node.specs.declared.EstTime.{EstTime}
 use Rattle.net_join_paths.specs.declared.EstJoinPath.{EstJoinPath}
-use Rattle.net_join_paths.specs.declared.Count.{Count}
-use Rattle.net_join_paths.specs.declared.Count.TheVariants.{Entries, Over}
-use Rattle.net_join_paths.specs.Entries.{entry_at, entries_in, push, and_then, EntriesAs}
-use Rattle.net_join_paths.proofs.Entries.{entries_more, listed_some, listed_none, and_then_some}
+use Rattle.net_join_paths.specs.Entries.{push, and_then}
 use Rattle.net_stack.specs.Stack.{is_arrive}
 use Rattle.net_strands.specs.Space.{followed, extended_as, extended, extended_all}
 use Rattle.net_strands.specs.Steps.{new_match}
@@ -64,60 +62,28 @@ module _ (node : ℕ → EstTime) (n : ℕ) (e : LinkEvent) (seen : Bool) (x : E
 
 -- ---- the loop over the old list
 
-module _ (node : ℕ → EstTime) (n : ℕ) (e : LinkEvent) (seen : Bool) where
-  -- the last entry is followed behind what the others give
-  all_more : (xs : List EstJoinPath) (x : EstJoinPath) (es : List EstJoinPath) → extended_all node n e seen (xs ++ (x ∷ [])) es ≡ and_then (extended_all node n e seen xs es) (extended node n e seen x)
+-- The entries of the old list from k on are still to be followed, behind the new one.
+pub record Gathering (node : ℕ → EstTime) (n : ℕ) (e : LinkEvent) (seen : Bool) (old list : List EstJoinPath) (k : ℕ) : Type 0 where
+  pub answer : extended_all node n e seen old [] ≡ extended_all node n e seen (drop k old) list
+
+pub gathering_start : (node : ℕ → EstTime) (n : ℕ) (e : LinkEvent) (seen : Bool) (old list : List EstJoinPath) → list ≡ [] → Gathering node n e seen old list 0
+gathering_start node n e seen old list h = record { answer = ap (extended_all node n e seen old) (sym h) }
+
+module _ {node : ℕ → EstTime} {n : ℕ} {e : LinkEvent} {seen : Bool} {old list : List EstJoinPath} {k : ℕ} (v : Gathering node n e seen old list k) where
+  pub gathering_whole : length old ≤ k → extended_all node n e seen old [] ≡ some list
   unfolding extended_all
-  all_more [] x es = and_then_some (extended node n e seen x es)
-  all_more (y ∷ ys) x es = go (all_more ys x) (extended node n e seen y es)
-    where
-      go : ((es : List EstJoinPath) → extended_all node n e seen (ys ++ (x ∷ [])) es ≡ and_then (extended_all node n e seen ys es) (extended node n e seen x)) → (a : Option (List EstJoinPath)) → and_then a (extended_all node n e seen (ys ++ (x ∷ []))) ≡ and_then (and_then a (extended_all node n e seen ys)) (extended node n e seen x)
-      go ih none = refl
-      go ih (some es) = ih es
+  gathering_whole h = v.answer ∙ ap (λ (xs : List EstJoinPath). extended_all node n e seen xs list) (drop_of_length-le old h)
 
-  module _ (old : List ℕ) where
-    abbrev gathered : ℕ → Option (List EstJoinPath)
-    gathered k = extended_all node n e seen (entries_in old k) []
-
-    gathered_more : (k : ℕ) → gathered (k + 1) ≡ and_then (gathered k) (extended node n e seen (entry_at old k))
-    gathered_more k = ap (λ (xs : List EstJoinPath). extended_all node n e seen xs []) (entries_more old k) ∙ all_more (entries_in old k) (entry_at old k) []
-
-    -- what did not fit stays refused
-    gathered_none : (d k : ℕ) → gathered k ≡ none → gathered (k + d) ≡ none
-    gathered_none zero k h = ap gathered (add-zero k) ∙ h
-    gathered_none (suc d) k h =
-        let s : k + suc d ≡ k + d + 1 = omega arith in
-        ap gathered s ∙ gathered_more (k + d) ∙ ap (λ (a : Option (List EstJoinPath)). and_then a (extended node n e seen (entry_at old (k + d)))) (gathered_none d k h)
-
--- The first k entries of the old list gave the new one.
-pub record Gathering (node : ℕ → EstTime) (n : ℕ) (e : LinkEvent) (seen : Bool) (old : List ℕ) (count : ℕ) (list : List ℕ) (at k : ℕ) : Type 0 where
-  pub answer : extended_all node n e seen (entries_in old k) [] ≡ some (entries_in list at)
-  pub within : k ≤ count
-  pub few : at ≤ 1024
-
-pub gathering_start : (node : ℕ → EstTime) (n : ℕ) (e : LinkEvent) (seen : Bool) (old : List ℕ) (count : ℕ) (list : List ℕ) → Gathering node n e seen old count list 0 0
-unfolding extended_all entries_in
-gathering_start node n e seen old count list = record { answer = refl; within = omega arith; few = omega arith }
-
-module _ {node : ℕ → EstTime} {n : ℕ} {e : LinkEvent} {seen : Bool} {old : List ℕ} {count : ℕ} {list : List ℕ} {at k : ℕ} (v : Gathering node n e seen old count list at k) where
-  pub gathering_whole : count ≤ k → EntriesAs (extended_all node n e seen (entries_in old count) []) list (Entries at)
-  gathering_whole h = let s : count ≡ k = omega (arith, v.within) in (ap (λ (j : ℕ). extended_all node n e seen (entries_in old j) []) s ∙ v.answer, v.few)
-
-  -- where the next entry was read as x and followed
-  module _ (h : k < count) (x : EstJoinPath) (l : x ≡ entry_at old k) (list' : List ℕ) (r : Count) (p : EntriesAs (extended node n e seen x (entries_in list at)) list' r) where
-    turn : extended_all node n e seen (entries_in old (k + 1)) [] ≡ extended node n e seen x (entries_in list at)
+  -- where the next entry is x
+  module _ (h : k < length old) (d x : EstJoinPath) (l : x ≡ get_or old k d) where
+    turn : extended_all node n e seen old [] ≡ and_then (extended node n e seen x list) (extended_all node n e seen (drop (k + 1) old))
+    unfolding extended_all
     turn =
-        gathered_more node n e seen old k
-        ∙ ap (λ (a : Option (List EstJoinPath)). and_then a (extended node n e seen (entry_at old k))) v.answer
-        ∙ ap (λ (y : EstJoinPath). extended node n e seen y (entries_in list at)) (sym l)
+        let a : drop k old ≡ x ∷ drop (k + 1) old = drop-cons old k d h ∙ ap (λ (y : EstJoinPath). y ∷ drop (suc k) old) (sym l) ∙ ap (λ (j : ℕ). x ∷ drop j old) (sym (add-one k)) in
+        v.answer ∙ ap (λ (xs : List EstJoinPath). extended_all node n e seen xs list) a
 
-    pub gathering_over : r ≡ Over → extended_all node n e seen (entries_in old count) [] ≡ none
-    gathering_over o =
-        let s : count ≡ k + 1 + (count - (k + 1)) = omega arith in
-        ap (λ (j : ℕ). extended_all node n e seen (entries_in old j) []) s
-        ∙ gathered_none node n e seen old (count - (k + 1)) (k + 1) (turn ∙ listed_none (extended node n e seen x (entries_in list at)) list' r p o)
+    pub gathering_over : extended node n e seen x list ≡ none → extended_all node n e seen old [] ≡ none
+    gathering_over o = turn ∙ ap (λ (a : Option (List EstJoinPath)). and_then a (extended_all node n e seen (drop (k + 1) old))) o
 
-    pub gathering_on : (more : ℕ) → r ≡ Entries more → Gathering node n e seen old count list' more (k + 1)
-    gathering_on more o =
-        let q = listed_some (extended node n e seen x (entries_in list at)) list' r p more o in
-        record { answer = turn ∙ q.0; within = omega arith; few = q.1 }
+    pub gathering_on : (list' : List EstJoinPath) → extended node n e seen x list ≡ some list' → Gathering node n e seen old list' (k + 1)
+    gathering_on list' o = record { answer = turn ∙ ap (λ (a : Option (List EstJoinPath)). and_then a (extended_all node n e seen (drop (k + 1) old))) o }

@@ -12,8 +12,7 @@ use Rattle.net_node.specs.declared.LinkEvent.{LinkEvent}
 use Rattle.net_node.specs.declared.EstTime.{EstTime}
 use Rattle.net_node.specs.Table.{same_event, Indexed}
 use Rattle.net_join_paths.specs.declared.EstJoinPath.{EstJoinPath}
-use Rattle.net_join_paths.specs.declared.Count.TheVariants.{Entries}
-use Rattle.net_join_paths.specs.Entries.{entry, entries_in, push, pushed_if, EntriesAs, Valid}
+use Rattle.net_join_paths.specs.Entries.{entry, push, pushed_if, Valid}
 use Rattle.net_join_paths.proofs.Kept.{Sound, Kept, kept_then, kept_push, kept_pushed_if}
 use Rattle.net_stack.specs.Stack.{is_arrive, alternative_stacked}
 use Rattle.net_strands.specs.Space.{onward, alternatives, Strand, strand_from, Turn, Whole, Over, More, popped, popped_after, turn_as, turn, strands_on, strands, followed, extended_as, extended, extended_all}
@@ -117,10 +116,6 @@ module _ {node : ℕ → EstTime} {n : ℕ} (w : Indexed node n) (e : LinkEvent)
   pub space_kept : (old : List EstJoinPath) → Valid old n → Kept n (extended_all node n e seen old [])
   space_kept old l = kept_all old [] l (record { valid = record { node = λ k h. absurd (not-suc-le-zero h) }; few = omega arith })
 
-  -- by the list's equation
+  -- by the contract of `update_join_paths_space`
   pub space_sound : (old es : List EstJoinPath) → Valid old n → extended_all node n e seen old [] ≡ some es → Sound n es
   space_sound old es l h = subst (Kept n) h (space_kept old l)
-
-  -- by the contract of `update_join_paths_space`
-  pub space_listed : (old : List EstJoinPath) (list : List ℕ) (k : ℕ) → Valid old n → EntriesAs (extended_all node n e seen old []) list (Entries k) → Sound n (entries_in list k)
-  space_listed old list k l h = space_sound old (entries_in list k) l h.0

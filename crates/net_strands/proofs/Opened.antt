@@ -5,10 +5,11 @@ use mathlib.Core.List.{List, [], ◌∷◌, ◌++◌}
 use mathlib.Core.Option.{Option, none, some}
 use Prim.Native.Nat.{ℕ, zero, suc, ◌+◌, ◌-◌, ◌≤◌, ◌<◌}
 use native.Mathlib.Omega.{arith}
+use lib.ListN.{length}
 use Rattle.net_node.specs.declared.LinkEvent.{LinkEvent}
 use Rattle.net_node.specs.declared.EstTime.{EstTime}
 use Rattle.net_join_paths.specs.declared.EstJoinPath.{EstJoinPath}
-use Rattle.net_join_paths.specs.Entries.{entries_in, and_then}
+use Rattle.net_join_paths.specs.Entries.{and_then}
 use Rattle.net_join_paths.specs.Spans.{pushed_all, nodes_in}
 use Rattle.net_join_paths.proofs.Spans.{SameNodes, nodes_kept, nodes_split, pushed_append, Pushed}
 use Rattle.net_stack.specs.Stack.{alternative_stacked}
@@ -59,25 +60,25 @@ abbrev pub Rest : Type 0
 Rest = ℕ → List ℕ → Option (List ℕ)
 
 -- q nexts are read, which give the nodes js, and these are put behind the list
-pub record Reads (list : List ℕ) (at left : ℕ) (list' : List ℕ) (at' left' q : ℕ) (js : List ℕ) : Type 0 where
-  pub same : SameNodes list list' at at'
-  pub behind : nodes_in list' at (at' - at) ≡ js
+pub record Reads (list : List EstJoinPath) (left : ℕ) (list' : List EstJoinPath) (left' q : ℕ) (js : List ℕ) : Type 0 where
+  pub same : SameNodes list list'
+  pub behind : nodes_in list' (length list) (length list' - length list) ≡ js
   pub reads : left ≡ left' + q
 
 module _ (node : ℕ → EstTime) (nodes : ℕ) (e : LinkEvent) where
   -- Since the walk came to node i, with so many entries and nexts, it has read some and given the nodes of the entries behind; it goes on as `rest` says.
-  pub record Closes (list : List ℕ) (at left i begin opened : ℕ) (rest : Rest) : Type 0 where
+  pub record Closes (list : List EstJoinPath) (left i begin opened : ℕ) (rest : Rest) : Type 0 where
     pub named : i < nodes
-    pub inside : begin ≤ at
+    pub inside : begin ≤ length list
     pub spent : left ≤ opened
     pub least : 1 ≤ opened
     pub most : opened ≤ 4096
-    pub gives : (k : ℕ) (s : List ℕ) → walked k node e i s ≡ spend (opened - left) (nodes_in list begin (at - begin)) (λ j. rest j s) k
+    pub gives : (k : ℕ) (s : List ℕ) → walked k node e i s ≡ spend (opened - left) (nodes_in list begin (length list - begin)) (λ j. rest j s) k
 
   -- where the walk comes to a node
-  pub closes_begun : (list : List ℕ) (at left i : ℕ) → i < nodes → 1 ≤ left → left ≤ 4096 → Closes list at left i at left (λ k s. walked k node e i s)
+  pub closes_begun : (list : List EstJoinPath) (left i : ℕ) → i < nodes → 1 ≤ left → left ≤ 4096 → Closes list left i (length list) left (λ k s. walked k node e i s)
   unfolding spend nodes_in
-  closes_begun list at left i h a b = record {
+  closes_begun list left i h a b = record {
     named = h;
     inside = omega arith;
     spent = omega arith;
@@ -85,15 +86,15 @@ module _ (node : ℕ → EstTime) (nodes : ℕ) (e : LinkEvent) where
     most = b;
     gives = λ k s.
         let z : 0 ≡ left - left = omega arith in
-        let y : 0 ≡ at - at = omega arith in
+        let y : 0 ≡ length list - length list = omega arith in
         nodes_empty (walked k node e i s)
         ∙ ap (λ (r : ℕ). spend r [] (λ j. walked j node e i s) k) z
-        ∙ ap (λ (d : ℕ). spend (left - left) (nodes_in list at d) (λ j. walked j node e i s) k) y;
+        ∙ ap (λ (d : ℕ). spend (left - left) (nodes_in list (length list) d) (λ j. walked j node e i s) k) y;
   }
 
   -- nexts are read
-  module _ {list list' : List ℕ} {at at' left left' q : ℕ} {js : List ℕ} (r : Reads list at left list' at' left' q js) where
-    closes_on : {i begin opened : ℕ} {rest rest' : Rest} → ((k : ℕ) (s : List ℕ) → rest k s ≡ spend q js (λ j. rest' j s) k) → Closes list at left i begin opened rest → Closes list' at' left' i begin opened rest'
+  module _ {list list' : List EstJoinPath} {left left' q : ℕ} {js : List ℕ} (r : Reads list left list' left' q js) where
+    closes_on : {i begin opened : ℕ} {rest rest' : Rest} → ((k : ℕ) (s : List ℕ) → rest k s ≡ spend q js (λ j. rest' j s) k) → Closes list left i begin opened rest → Closes list' left' i begin opened rest'
     closes_on {i} {begin} {opened} {rest} {rest'} h v = record {
       named = v.named;
       inside = omega (arith, v.inside, r.same.grows);
@@ -103,49 +104,49 @@ module _ (node : ℕ → EstTime) (nodes : ℕ) (e : LinkEvent) where
       gives = λ k s.
           let d : opened - left + q ≡ opened - left' = omega (arith, v.spent, r.reads) in
           v.gives k s
-          ∙ spend_same (opened - left) (nodes_in list begin (at - begin)) (λ j. rest j s) (spend q js (λ j. rest' j s)) (λ j. h j s) k
-          ∙ spend_then (opened - left) q (nodes_in list begin (at - begin)) js (λ j. rest' j s) k
-          ∙ ap (λ (d : ℕ). spend d (nodes_in list begin (at - begin) ++ js) (λ j. rest' j s) k) d
+          ∙ spend_same (opened - left) (nodes_in list begin (length list - begin)) (λ j. rest j s) (spend q js (λ j. rest' j s)) (λ j. h j s) k
+          ∙ spend_then (opened - left) q (nodes_in list begin (length list - begin)) js (λ j. rest' j s) k
+          ∙ ap (λ (d : ℕ). spend d (nodes_in list begin (length list - begin) ++ js) (λ j. rest' j s) k) d
           ∙ ap (λ (is : List ℕ). spend (opened - left') is (λ j. rest' j s) k) more;
     }
       where
-        more : nodes_in list begin (at - begin) ++ js ≡ nodes_in list' begin (at' - begin)
+        more : nodes_in list begin (length list - begin) ++ js ≡ nodes_in list' begin (length list' - begin)
         more =
-            let a : begin + (at - begin) ≡ at = omega (arith, v.inside) in
-            let b : at - begin + (at' - at) ≡ at' - begin = omega (arith, v.inside, r.same.grows) in
-            ap (λ (is : List ℕ). is ++ js) (nodes_kept r.same (at - begin) begin (omega (arith, v.inside)))
-            ∙ ap (λ (is : List ℕ). nodes_in list' begin (at - begin) ++ is) (sym r.behind)
-            ∙ ap (λ (i : ℕ). nodes_in list' begin (at - begin) ++ nodes_in list' i (at' - at)) (sym a)
-            ∙ sym (nodes_split list' begin (at - begin) (at' - at))
+            let a : begin + (length list - begin) ≡ length list = omega (arith, v.inside) in
+            let b : length list - begin + (length list' - length list) ≡ length list' - begin = omega (arith, v.inside, r.same.grows) in
+            ap (λ (is : List ℕ). is ++ js) (nodes_kept r.same (length list - begin) begin (omega (arith, v.inside)))
+            ∙ ap (λ (is : List ℕ). nodes_in list' begin (length list - begin) ++ is) (sym r.behind)
+            ∙ ap (λ (i : ℕ). nodes_in list' begin (length list - begin) ++ nodes_in list' i (length list' - length list)) (sym a)
+            ∙ sym (nodes_split list' begin (length list - begin) (length list' - length list))
             ∙ ap (nodes_in list' begin) b
 
   module _ (start n : ℕ) where
     -- The same of each node to be closed, and of the start; an alternative below is what comes after that.
-    abbrev pub Opened : (list : List ℕ) (at left : ℕ) → List Item → Rest → Type 0
-    Opened list at left [] rest = Closes list at left start n 4096 rest
-    Opened list at left (Alternative i ∷ xs) rest = (i < nodes) × Opened list at left xs (λ k s. rest k (i ∷ s))
-    Opened list at left (Open i begin opened ∷ xs) rest = Closes list at left i begin opened rest × Opened list at left xs rest
+    abbrev pub Opened : (list : List EstJoinPath) (left : ℕ) → List Item → Rest → Type 0
+    Opened list left [] rest = Closes list left start n 4096 rest
+    Opened list left (Alternative i ∷ xs) rest = (i < nodes) × Opened list left xs (λ k s. rest k (i ∷ s))
+    Opened list left (Open i begin opened ∷ xs) rest = Closes list left i begin opened rest × Opened list left xs rest
 
-    pub opened_on_lem : {list list' : List ℕ} {at at' left left' q : ℕ} {js : List ℕ} → Reads list at left list' at' left' q js → (xs : List Item) (rest rest' : Rest) → ((k : ℕ) (s : List ℕ) → rest k s ≡ spend q js (λ j. rest' j s) k) → Opened list at left xs rest → Opened list' at' left' xs rest'
+    pub opened_on_lem : {list list' : List EstJoinPath} {left left' q : ℕ} {js : List ℕ} → Reads list left list' left' q js → (xs : List Item) (rest rest' : Rest) → ((k : ℕ) (s : List ℕ) → rest k s ≡ spend q js (λ j. rest' j s) k) → Opened list left xs rest → Opened list' left' xs rest'
     opened_on_lem r [] rest rest' h v = closes_on r h v
     opened_on_lem r (Alternative i ∷ xs) rest rest' h v = (v.0, opened_on_lem r xs (λ k s. rest k (i ∷ s)) (λ k s. rest' k (i ∷ s)) (λ k s. h k (i ∷ s)) v.1)
     opened_on_lem r (Open i begin opened ∷ xs) rest rest' h v = (closes_on r h v.0, opened_on_lem r xs rest rest' h v.1)
 
     -- what the start gives goes on through all alternatives
-    opened_start : (list : List ℕ) (at left : ℕ) (xs : List Item) (rest : Rest) → Opened list at left xs rest → Closes list at left start n 4096 (λ k s. rest k (stack_of xs s))
-    opened_start list at left [] rest v = v
-    opened_start list at left (Alternative i ∷ xs) rest v = opened_start list at left xs (λ k s. rest k (i ∷ s)) v.1
-    opened_start list at left (Open i begin opened ∷ xs) rest v = opened_start list at left xs rest v.1
+    opened_start : (list : List EstJoinPath) (left : ℕ) (xs : List Item) (rest : Rest) → Opened list left xs rest → Closes list left start n 4096 (λ k s. rest k (stack_of xs s))
+    opened_start list left [] rest v = v
+    opened_start list left (Alternative i ∷ xs) rest v = opened_start list left xs (λ k s. rest k (i ∷ s)) v.1
+    opened_start list left (Open i begin opened ∷ xs) rest v = opened_start list left xs rest v.1
 
     -- a node is opened where the walk stands
-    pub opened_more : (b : Bool) (list : List ℕ) (at left i : ℕ) (xs : List Item) → i < nodes → 1 ≤ left → left ≤ 4096 → Opened list at left xs (λ k s. walked k node e i s) → Opened list at left (opened_on b i at left xs) (λ k s. walked k node e i s)
-    opened_more true list at left i xs h a c v = (closes_begun list at left i h a c, v)
-    opened_more false list at left i xs h a c v = v
+    pub opened_more : (b : Bool) (list : List EstJoinPath) (left i : ℕ) (xs : List Item) → i < nodes → 1 ≤ left → left ≤ 4096 → Opened list left xs (λ k s. walked k node e i s) → Opened list left (opened_on b i (length list) left xs) (λ k s. walked k node e i s)
+    opened_more true list left i xs h a c v = (closes_begun list left i h a c, v)
+    opened_more false list left i xs h a c v = v
 
     -- its alternative is stacked
-    pub opened_stacked : (alt : ℕ) (list : List ℕ) (at left : ℕ) (xs : List Item) (rest : Rest) → alt < nodes → Opened list at left xs (λ k s. rest k (alternative_stacked alt s)) → Opened list at left (stacked_on alt xs) rest
-    opened_stacked zero list at left xs rest h v = v
-    opened_stacked (suc alt) list at left xs rest h v = (h, v)
+    pub opened_stacked : (alt : ℕ) (list : List EstJoinPath) (left : ℕ) (xs : List Item) (rest : Rest) → alt < nodes → Opened list left xs (λ k s. rest k (alternative_stacked alt s)) → Opened list left (stacked_on alt xs) rest
+    opened_stacked zero list left xs rest h v = v
+    opened_stacked (suc alt) list left xs rest h v = (h, v)
 
 -- ---- what the walk's entries are
 
@@ -166,13 +167,14 @@ each_after m es fs is h none = refl
 each_after m es fs is h (some js) = pushed_append m is js es ∙ ap (λ (a : Option (List EstJoinPath)). and_then a (pushed_all m js)) h
 
 -- The answer of the whole walk is that of the rest, behind what is pushed.
-pub answer_is : (node : ℕ → EstTime) (nodes : ℕ) (e : LinkEvent) (m start n : ℕ) (list₀ list : List ℕ) (at left : ℕ) (xs : List Item) (rest : Rest) → Opened node nodes e start n list at left xs rest → Pushed m list₀ n list at
-    → strands 4096 node e m (strand_from start (entries_in list₀ n)) ≡ pushed_each m (rest left (stack_of xs [])) (entries_in list at)
+pub answer_is : (node : ℕ → EstTime) (nodes : ℕ) (e : LinkEvent) (m start : ℕ) (list₀ list : List EstJoinPath) (left : ℕ) (xs : List Item) (rest : Rest) → Opened node nodes e start (length list₀) list left xs rest → Pushed m list₀ list
+    → strands 4096 node e m (strand_from start list₀) ≡ pushed_each m (rest left (stack_of xs [])) list
 unfolding strand_from
-answer_is node nodes e m start n list₀ list at left xs rest v p =
-    let c = opened_start node nodes e start n list at left xs rest v in
+answer_is node nodes e m start list₀ list left xs rest v p =
+    let n : ℕ = length list₀ in
+    let c = opened_start node nodes e start n list left xs rest v in
     let d : 4096 - (4096 - left) ≡ left = omega (arith, c.spent) in
-    pushed_walk node e m 4096 (strand_from start (entries_in list₀ n))
-    ∙ ap (λ (t : Option (List ℕ)). pushed_each m t (entries_in list₀ n)) (c.gives 4096 [] ∙ spend_enough (4096 - left) (nodes_in list n (at - n)) (λ j. rest j (stack_of xs [])) 4096 (omega arith))
-    ∙ each_after m (entries_in list₀ n) (entries_in list at) (nodes_in list n (at - n)) p.answer (rest (4096 - (4096 - left)) (stack_of xs []))
-    ∙ ap (λ (k : ℕ). pushed_each m (rest k (stack_of xs [])) (entries_in list at)) d
+    pushed_walk node e m 4096 (strand_from start list₀)
+    ∙ ap (λ (t : Option (List ℕ)). pushed_each m t list₀) (c.gives 4096 [] ∙ spend_enough (4096 - left) (nodes_in list n (length list - n)) (λ j. rest j (stack_of xs [])) 4096 (omega arith))
+    ∙ each_after m list₀ list (nodes_in list n (length list - n)) p.answer (rest (4096 - (4096 - left)) (stack_of xs []))
+    ∙ ap (λ (k : ℕ). pushed_each m (rest k (stack_of xs [])) list) d

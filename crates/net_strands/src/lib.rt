@@ -2,19 +2,22 @@
 // Contracts: specs/Space.antt; of the inner functions specs/Steps.antt, specs/Walks.antt, specs/Given.antt.
 #![tactic(auto)]
 
-ghost use Rattle.std.specs.Prelude.{◌≡◌, [], ◌≤◌, ◌<◌, length};
+ghost use Rattle.std.specs.Prelude.{◌≡◌, [], ◌≤◌, ◌<◌};
 ghost use Rattle.net_node.specs.Table.{node_at, Room, Indexed};
 ghost use Rattle.net_event_map.specs.EventMap.{CellsApart};
 ghost use Rattle.net_notes.specs.Log.{Touched, Ungiven};
-ghost use Rattle.net_join_paths.specs.Entries.{entries_in, EntriesAs, Valid, ListBecomes};
+ghost use Rattle.net_join_paths.specs.Entries.{EntriesAs, Valid, ListBecomes};
 ghost use Rattle.net_strands.specs.Space.{alternatives, strand_from, strands, followed, extended};
 ghost use Rattle.net_strands.specs.Space.{extended_all};
 ghost use Rattle.net_strands.specs.Steps.{new_match, nodes_at_entry, WalkRoom};
 ghost use Rattle.net_strands.specs.Given.{Given, Extends};
 
 use net_event_map::Layout;
-use net_join_paths::{Count, EstJoinPath, entry_at, push_entry, push_if, push_known, push_span};
-use net_node::LinkEvent;
+use net_join_paths::{EstJoinPath, JoinPaths, push_entry, push_span};
+use net_node::{EstType, LinkEvent};
+use net_notes::{Column, Span};
+use net_stack::Stack;
+use refusals::Refusal;
 
 // An entry that matches already: node `start` and each of its alternatives gives its next if that has the event.
 fn follow_alternatives(
@@ -24,30 +27,28 @@ fn follow_alternatives(
     event: LinkEvent,
     link_idx_match: u32,
     start: u32,
-    list: &mut [u32],
-    n: usize,
-) -> Count
+    list: &mut JoinPaths,
+) -> Result<(), Refusal>
     requires room { Room floats.now numbers.now nodes }
     requires indexed { Indexed (node_at floats.now numbers.now) nodes }
     requires start_lt_nodes { start < nodes }
-    requires in_bounds { 2048 ≤ length list.old }
-    requires n_bound { n ≤ 1024 }
-    ensures { ListBecomes (alternatives nodes (nodes_at_entry floats numbers) event link_idx_match start) list n
+    ensures { ListBecomes (alternatives nodes (nodes_at_entry floats numbers) event link_idx_match start) list
         result }
 {
     let mut i = start;
-    let mut at = n;
     loop {
         let node = net_node::load(floats, numbers, i as usize);
         let next = node.idx_next;
         let there = net_node::load(floats, numbers, next as usize);
-        let same = net_node::same_event(there.link_event, event);
-        let Count::Entries(more) = push_if(same, list, at, link_idx_match, next) else {
-            return Count::Over;
-        };
-        at = more;
+        if there.link_event == event {
+            let x = EstJoinPath {
+                link_idx_match,
+                est_idx_next: next,
+            };
+            push_entry(list, x)?;
+        }
         if node.idx_next_alt == 0 {
-            return Count::Entries(at);
+            return Ok(());
         }
         i = node.idx_next_alt;
     }
@@ -65,26 +66,25 @@ fn follow_matched(
     several: bool,
     cells: &mut [u32],
     w: Layout,
-    list: &mut [u32],
-    n: usize,
-) -> Count
+    list: &mut JoinPaths,
+) -> Result<(), Refusal>
     requires room { Room floats.now numbers.now nodes }
     requires indexed { Indexed (node_at floats.now numbers.now) nodes }
     requires start_lt_nodes { start < nodes }
     requires nodes_le_places { nodes ≤ w.places }
     requires cells_apart { CellsApart cells.old w }
-    requires in_bounds { 2048 ≤ length list.old }
-    requires n_bound { n ≤ 1024 }
-    requires given { Given cells.old w (node_at floats.now numbers.now) nodes event list.old n }
+    requires given { Given cells.old w (node_at floats.now numbers.now) nodes event list.old.items }
     ensures { Extends (alternatives nodes (nodes_at_entry floats numbers) event link_idx_match start) w
-        (nodes_at_entry floats numbers) nodes event cells.old list.old n cells.new
-        list.new result }
+        (nodes_at_entry floats numbers) nodes event cells.old list.old.items
+        cells.new list.new.items result }
 {
-    let known = net_notes::known_span(several, cells, w, start, net_notes::MATCHED);
-    if known != 0 {
-        return push_span(list, n, link_idx_match, known);
+    if several {
+        if let Some(span) = net_notes::noted_span(cells, w, start, Column::Matched) {
+            return push_span(list, link_idx_match, span);
+        }
     }
-    let followed = follow_alternatives(
+    let begin = list.len();
+    follow_alternatives(
         floats,
         numbers,
         nodes,
@@ -92,19 +92,17 @@ fn follow_matched(
         link_idx_match,
         start,
         list,
-        n,
-    );
-    let Count::Entries(more) = followed else {
-        return Count::Over;
-    };
-    if !several {
-        return Count::Entries(more);
+    )?;
+    if several {
+        let span = Span {
+            begin,
+            end: list.len(),
+        };
+        let strands = net_notes::noted(cells, w, start, Column::Strands);
+        let nexts = net_notes::noted(cells, w, start, Column::Nexts);
+        net_notes::note(cells, w, start, span.number(), strands, nexts);
     }
-    let span = net_notes::span_number(n, more);
-    let strands = net_notes::noted(cells, w, start, net_notes::STRANDS);
-    let nexts = net_notes::noted(cells, w, start, net_notes::NEXTS);
-    net_notes::note(cells, w, start, span, strands, nexts);
-    Count::Entries(more)
+    Ok(())
 }
 
 // An entry that does not match yet: strands along nexts, with alternatives stacked, each up to the event, an Arrive, an
@@ -120,65 +118,63 @@ fn follow_strands(
     several: bool,
     cells: &mut [u32],
     w: Layout,
-    stack: &mut [u32],
-    list: &mut [u32],
-    n: usize,
-) -> Count
-    requires walk_room { WalkRoom floats.now numbers.now cells.old stack.old list.old nodes w }
+    stack: &mut Stack,
+    list: &mut JoinPaths,
+) -> Result<(), Refusal>
+    requires walk_room { WalkRoom floats.now numbers.now cells.old nodes w }
     requires start_lt_nodes { start < nodes }
-    requires n_bound { n ≤ 1024 }
-    requires given { Given cells.old w (node_at floats.now numbers.now) nodes event list.old n }
+    requires given { Given cells.old w (node_at floats.now numbers.now) nodes event list.old.items }
     ensures { Extends
         (λ es. strands 4096 (nodes_at_entry floats numbers) event link_idx_match (strand_from start es)) w
-        (nodes_at_entry floats numbers) nodes event cells.old list.old n cells.new
-        list.new result }
+        (nodes_at_entry floats numbers) nodes event cells.old list.old.items
+        cells.new list.new.items result }
 {
-    // The first `top` of the stack are still to be walked or closed, from the last down; `left` nexts may be read.
-    let mut at = n;
+    // What is on the stack is still to be walked or closed, from the last down; `left` nexts may be read.
     let mut left: u32 = 4096;
-    stack[0] = start;
-    let mut top = 1;
-    'strands: while top > 0 {
-        top -= 1;
-        let mut here = stack[top];
-        if here >= 65536 {
-            top -= 1;
-            let i = stack[top];
-            net_stack::close_node(cells, w, i, here, at, left);
+    stack.clear();
+    stack.push(start);
+    'strands: while let Some(top) = stack.pop() {
+        if top >= 65536 {
+            if let Some(i) = stack.pop() {
+                net_stack::close_node(cells, w, i, top, list.len(), left);
+            }
             continue 'strands;
         }
+        let mut here = top;
         while left > 0 {
             let node = net_node::load(floats, numbers, here as usize);
             let may_meet = several & ((node.idx_prev_alt != 0) | (left == 4096));
-            let known = net_notes::known_span(may_meet, cells, w, here, net_notes::STRANDS);
-            if known != 0 {
-                let nexts = net_notes::noted(cells, w, here, net_notes::NEXTS);
-                let copied = push_known(left < nexts, list, at, link_idx_match, known);
-                let Count::Entries(more) = copied else {
-                    return Count::Over;
-                };
-                at = more;
-                left -= nexts;
-                continue 'strands;
+            if may_meet {
+                if let Some(span) = net_notes::noted_span(cells, w, here, Column::Strands) {
+                    let nexts = net_notes::noted(cells, w, here, Column::Nexts);
+                    if left < nexts {
+                        return Err(Refusal::NoPlace);
+                    }
+                    push_span(list, link_idx_match, span)?;
+                    left -= nexts;
+                    continue 'strands;
+                }
             }
-            top = net_stack::stack_node(may_meet, stack, top, here, at, left, node.idx_next_alt);
+            net_stack::stack_node(may_meet, stack, here, list.len(), left, node.idx_next_alt);
             left -= 1;
             let next = node.idx_next;
             let there = net_node::load(floats, numbers, next as usize);
-            let has_event = net_node::same_event(there.link_event, event);
-            let Count::Entries(more) = push_if(has_event, list, at, link_idx_match, next) else {
-                return Count::Over;
-            };
-            at = more;
-            let ends = net_stack::ends_strand(there);
-            if has_event | ends {
+            let has_event = there.link_event == event;
+            if has_event {
+                let x = EstJoinPath {
+                    link_idx_match,
+                    est_idx_next: next,
+                };
+                push_entry(list, x)?;
+            }
+            if has_event | net_stack::ends_strand(there) {
                 continue 'strands;
             }
             here = next;
         }
-        return Count::Over;
+        return Err(Refusal::NoPlace);
     }
-    Count::Entries(at)
+    Ok(())
 }
 
 // The match link of an entry followed: m for an Arrive, 0 for a Clear.
@@ -199,17 +195,15 @@ fn follow(
     several: bool,
     cells: &mut [u32],
     w: Layout,
-    stack: &mut [u32],
-    list: &mut [u32],
-    n: usize,
-) -> Count
-    requires walk_room { WalkRoom floats.now numbers.now cells.old stack.old list.old nodes w }
+    stack: &mut Stack,
+    list: &mut JoinPaths,
+) -> Result<(), Refusal>
+    requires walk_room { WalkRoom floats.now numbers.now cells.old nodes w }
     requires est_idx_next_bound { x.est_idx_next < nodes }
-    requires n_bound { n ≤ 1024 }
-    requires given { Given cells.old w (node_at floats.now numbers.now) nodes event list.old n }
+    requires given { Given cells.old w (node_at floats.now numbers.now) nodes event list.old.items }
     ensures { Extends (followed x.link_idx_match (nodes_at_entry floats numbers) nodes event
         link_idx_match x.est_idx_next) w (nodes_at_entry floats numbers) nodes event cells.old
-        list.old n cells.new list.new result }
+        list.old.items cells.new list.new.items result }
 {
     let start = x.est_idx_next;
     if x.link_idx_match == 0 {
@@ -224,7 +218,6 @@ fn follow(
             cells,
             w,
             list,
-            n,
         );
     }
     follow_strands(
@@ -239,11 +232,10 @@ fn follow(
         w,
         stack,
         list,
-        n,
     )
 }
 
-// What one entry of the old list gives, behind the n entries so far.
+// What one entry of the old list gives, behind the entries so far.
 fn extend(
     floats: &[f64],
     numbers: &[u32],
@@ -254,39 +246,36 @@ fn extend(
     several: bool,
     cells: &mut [u32],
     w: Layout,
-    stack: &mut [u32],
-    list: &mut [u32],
-    n: usize,
-) -> Count
-    requires walk_room { WalkRoom floats.now numbers.now cells.old stack.old list.old nodes w }
+    stack: &mut Stack,
+    list: &mut JoinPaths,
+) -> Result<(), Refusal>
+    requires walk_room { WalkRoom floats.now numbers.now cells.old nodes w }
     requires est_idx_next_bound { x.est_idx_next < nodes }
-    requires n_bound { n ≤ 1024 }
-    requires given { Given cells.old w (node_at floats.now numbers.now) nodes event list.old n }
+    requires given { Given cells.old w (node_at floats.now numbers.now) nodes event list.old.items }
     ensures { Extends (extended (nodes_at_entry floats numbers) nodes event seen x) w
-        (nodes_at_entry floats numbers) nodes event cells.old list.old n cells.new
-        list.new result }
+        (nodes_at_entry floats numbers) nodes event cells.old list.old.items
+        cells.new list.new.items result }
 {
     let m = x.link_idx_match;
     let node = net_node::load(floats, numbers, x.est_idx_next as usize);
     if node.idx_next == 0 {
-        return Count::Entries(n);
+        return Ok(());
     }
-    let kind = event.est_type;
-    let arrive = net_stack::is_arrive(kind);
+    let arrive = event.est_type == EstType::Arrive;
     let cleared = (m == 0) | (m == event.link_idx);
     if !(arrive | cleared) {
-        return push_entry(list, n, x);
+        return push_entry(list, x);
     }
     if !seen {
-        return Count::Entries(n);
+        return Ok(());
     }
     let new = new_match(arrive, m);
     follow(
-        floats, numbers, nodes, event, new, x, several, cells, w, stack, list, n,
+        floats, numbers, nodes, event, new, x, several, cells, w, stack, list,
     )
 }
 
-// The new list for an event, out of the old one's `count` entries, each dropped, copied or followed; what was noted
+// The new list for an event, out of the old one's entries, each dropped, copied or followed; what was noted
 // stays in the cells.
 fn extend_all(
     floats: &[f64],
@@ -294,52 +283,32 @@ fn extend_all(
     nodes: usize,
     event: LinkEvent,
     seen: bool,
-    old: &[u32],
-    count: usize,
+    old: &[EstJoinPath],
     cells: &mut [u32],
     w: Layout,
-    stack: &mut [u32],
-    list: &mut [u32],
-) -> Count
-    requires walk_room { WalkRoom floats.now numbers.now cells.old stack.old list.old nodes w }
-    requires valid { Valid (entries_in old.now count) nodes }
-    requires count_bound { count ≤ 1024 }
-    requires in_bounds { 2048 ≤ length old.now }
+    stack: &mut Stack,
+    list: &mut JoinPaths,
+) -> Result<(), Refusal>
+    requires walk_room { WalkRoom floats.now numbers.now cells.old nodes w }
+    requires valid { Valid old.now nodes }
     requires nodes_nonzero { 0 < nodes }
     requires ungiven { Ungiven cells.old w }
     ensures list { EntriesAs
-        (extended_all (nodes_at_entry floats numbers) nodes event seen (entries_in old.now count) [])
-        list.new result }
+        (extended_all (nodes_at_entry floats numbers) nodes event seen old.now [])
+        list.new.items result }
     ensures noted { Touched w cells.old cells.new }
 {
-    let mut at = 0;
-    let mut k = 0;
-    while k < count {
-        let x = entry_at(old, k);
-        let extended = extend(
-            floats,
-            numbers,
-            nodes,
-            event,
-            seen,
-            x,
-            count > 1,
-            cells,
-            w,
-            stack,
-            list,
-            at,
-        );
-        let Count::Entries(more) = extended else {
-            return Count::Over;
-        };
-        at = more;
-        k += 1;
+    list.clear();
+    let several = old.len() > 1;
+    for x in old {
+        extend(
+            floats, numbers, nodes, event, seen, *x, several, cells, w, stack, list,
+        )?;
     }
-    Count::Entries(at)
+    Ok(())
 }
 
-// The new list for an event, out of the old one's `count` entries. `seen` says whether some node has the event. What an
+// The new list for an event, out of the old one's entries. `seen` says whether some node has the event. What an
 // entry gives is noted in the cells meanwhile; they are afterwards as they were.
 pub fn update_join_paths_space(
     floats: &[f64],
@@ -347,26 +316,23 @@ pub fn update_join_paths_space(
     nodes: usize,
     event: LinkEvent,
     seen: bool,
-    old: &[u32],
-    count: usize,
+    old: &[EstJoinPath],
     cells: &mut [u32],
     w: Layout,
-    stack: &mut [u32],
-    list: &mut [u32],
-) -> Count
-    requires walk_room { WalkRoom floats.now numbers.now cells.old stack.old list.old nodes w }
-    requires valid { Valid (entries_in old.now count) nodes }
-    requires count_bound { count ≤ 1024 }
-    requires in_bounds { 2048 ≤ length old.now }
+    stack: &mut Stack,
+    list: &mut JoinPaths,
+) -> Result<(), Refusal>
+    requires walk_room { WalkRoom floats.now numbers.now cells.old nodes w }
+    requires valid { Valid old.now nodes }
     requires nodes_nonzero { 0 < nodes }
     requires ungiven { Ungiven cells.old w }
     ensures list { EntriesAs
-        (extended_all (nodes_at_entry floats numbers) nodes event seen (entries_in old.now count) [])
-        list.new result }
+        (extended_all (nodes_at_entry floats numbers) nodes event seen old.now [])
+        list.new.items result }
     ensures cells { cells.new ≡ cells.old }
 {
     let built = extend_all(
-        floats, numbers, nodes, event, seen, old, count, cells, w, stack, list,
+        floats, numbers, nodes, event, seen, old, cells, w, stack, list,
     );
     net_notes::forget_notes(cells, w);
     built
