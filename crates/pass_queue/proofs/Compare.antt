@@ -11,7 +11,7 @@ use lib.Ieee.{Float, binary64, to_bits}
 use Rattle.pass_queue.specs.declared.Entry.{Entry}
 use Rattle.pass_queue.specs.Queue.{then_by, by_bits, before, slot}
 use Rattle.pass_queue.specs.Slots.{BestChild}
-use Rattle.pass_queue.proofs.Order.{not_self, before_laws}
+use Rattle.pass_queue.proofs.Orders.{not_self, before_laws}
 
 -- ---- by bits
 

@@ -8,7 +8,7 @@ use native.Mathlib.Numerals.{add-one}
 use native.Mathlib.Omega.{arith}
 use borrow.Author.Tests.{eqb-true, eqb-false}
 use lib.Dec.{eqb}
-use Rattle.pass_queue.proofs.Order.{Laws, not_self}
+use Rattle.pass_queue.proofs.Orders.{Laws, not_self}
 
 either : (a b : ℕ) → (a ≡ b) ⊎ (a ≢ b)
 either a b = go (eqb a b) refl

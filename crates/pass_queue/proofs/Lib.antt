@@ -1,4 +1,4 @@
-pub mod Order
+pub mod Orders
 pub mod Compare
 pub mod Kept
 pub mod Lists

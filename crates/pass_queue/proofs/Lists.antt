@@ -8,7 +8,7 @@ use native.Mathlib.Omega.{arith}
 use Rattle.pass_queue.specs.declared.Entry.{Entry}
 use Rattle.pass_queue.specs.Queue.{before, Ordered, better, best, others, same_entry, one, times_in, Each}
 use Rattle.pass_queue.proofs.Kept.{each_kept}
-use Rattle.pass_queue.proofs.Order.{not_self, before_laws, before_total, same_equal, same_self}
+use Rattle.pass_queue.proofs.Orders.{not_self, before_laws, before_total, same_equal, same_self}
 
 -- Each entry is as often left, the best being counted with them, as in the list
 pub others_count : (e : Entry) (backward : Bool) (x : Entry) (es : List Entry) → times_in e (others backward x es) + one (same_entry e (best backward x es)) ≡ times_in e (x ∷ es)

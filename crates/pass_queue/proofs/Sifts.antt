@@ -10,7 +10,7 @@ use lib.Ieee.{Float}
 use Rattle.pass_queue.specs.declared.Entry.{Entry}
 use Rattle.pass_queue.specs.Queue.{before, Ordered, best, others, slot, times_in, Holds}
 use Rattle.pass_queue.specs.Slots.{put_times, put_nodes, BestChild}
-use Rattle.pass_queue.proofs.Order.{before_laws}
+use Rattle.pass_queue.proofs.Orders.{before_laws}
 use Rattle.pass_queue.proofs.Kept.{each_kept, length_others, holds_none}
 use Rattle.pass_queue.proofs.Lists.{others_count}
 use Rattle.pass_queue.proofs.Holes.{total, total_one, Hole, Over, Under, filled, up-hole, up-over, down-hole, down-under, over_best}

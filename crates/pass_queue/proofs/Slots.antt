@@ -11,7 +11,7 @@ use lib.Ieee.{Float, nan}
 use Rattle.pass_queue.specs.declared.Entry.{Entry}
 use Rattle.pass_queue.specs.Queue.{before, Ordered, best, slot, same_entry, one, times_in, slots, Each, Holds}
 use Rattle.pass_queue.specs.Slots.{put_times, put_nodes}
-use Rattle.pass_queue.proofs.Order.{before_laws, same_self}
+use Rattle.pass_queue.proofs.Orders.{before_laws, same_self}
 use Rattle.pass_queue.proofs.Kept.{each_kept}
 use Rattle.pass_queue.proofs.Lists.{each_at, best_in, best_only}
 use Rattle.pass_queue.proofs.Holes.{total, total_at, Heap, top_first}

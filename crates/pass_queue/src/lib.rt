@@ -1,8 +1,8 @@
 // The queue of a time pass: a binary heap in lent slices. Contracts: specs/Queue.antt, specs/Slots.antt.
 #![tactic(auto)]
 
-ghost use Rattle.std.specs.Prelude.{◌≡◌, ◌+◌, ◌*◌, ◌-◌, ◌≤◌, ◌<◌, length};
-ghost use Rattle.pass_queue.specs.Queue.{by_bits, before_forward, before_backward, before, Ordered, slot, Added};
+ghost use Rattle.std.specs.Prelude.{◌≡◌, Bool, true, false, ◌+◌, ◌*◌, ◌-◌, ◌≤◌, ◌<◌, length};
+ghost use Rattle.pass_queue.specs.Queue.{by_bits, before, Ordered, slot, Added};
 ghost use Rattle.pass_queue.specs.Queue.{Dropped, TakenOut};
 ghost use Rattle.pass_queue.specs.Slots.{put_times, put_nodes, BestChild};
 
@@ -15,68 +15,66 @@ pub struct Entry {
 }
 
 // Entries that differ in nothing but the sign of a zero: by their bits.
+#[tactic(auto, unfolding(crate::specs::Queue::by_bits))]
 fn bits_before(a: Entry, b: Entry) -> bool
     ensures { result ≡ by_bits a b }
 {
-    let time_a = floats::bits_of(a.time);
-    let time_b = floats::bits_of(b.time);
-    if time_a < time_b {
-        return true;
-    }
-    if time_b < time_a {
-        return false;
-    }
-    let sub_a = floats::bits_of(a.sub);
-    let sub_b = floats::bits_of(b.sub);
-    sub_a < sub_b
+    (floats::bits_of(a.time), floats::bits_of(a.sub)) < (floats::bits_of(b.time), floats::bits_of(b.sub))
 }
 
-// The smaller time, then the smaller index.
-fn forward_before(a: Entry, b: Entry) -> bool
-    ensures { result ≡ before_forward a b }
-{
-    if a.time < b.time {
-        return true;
-    }
-    if b.time < a.time {
-        return false;
-    }
-    if a.node != b.node {
-        return a.node < b.node;
-    }
-    bits_before(a, b)
+// The order in which a pass takes its entries.
+pub trait Order {
+    ghost backward: { Bool };
+
+    // Whether a is taken before b.
+    fn is_before(a: Entry, b: Entry) -> bool
+        ensures { result ≡ before backward a b };
 }
 
-// The greater time, then the greater sub, then the greater index.
-fn backward_before(a: Entry, b: Entry) -> bool
-    ensures { result ≡ before_backward a b }
-{
-    if b.time < a.time {
-        return true;
+// The forward pass: the smaller time, then the smaller index.
+pub struct Forward;
+
+impl Order for Forward {
+    ghost backward = { false };
+
+    fn is_before(a: Entry, b: Entry) -> bool {
+        if a.time < b.time {
+            return true;
+        }
+        if b.time < a.time {
+            return false;
+        }
+        if a.node != b.node {
+            return a.node < b.node;
+        }
+        bits_before(a, b)
     }
-    if a.time < b.time {
-        return false;
-    }
-    if b.sub < a.sub {
-        return true;
-    }
-    if a.sub < b.sub {
-        return false;
-    }
-    if b.node != a.node {
-        return b.node < a.node;
-    }
-    bits_before(a, b)
 }
 
-// Whether a is taken before b.
-fn is_before(backward: bool, a: Entry, b: Entry) -> bool
-    ensures { result ≡ before backward a b }
-{
-    if backward {
-        return backward_before(a, b);
+// The backward pass: the greater time, then the greater sub, then the greater index.
+pub struct Backward;
+
+impl Order for Backward {
+    ghost backward = { true };
+
+    fn is_before(a: Entry, b: Entry) -> bool {
+        if b.time < a.time {
+            return true;
+        }
+        if a.time < b.time {
+            return false;
+        }
+        if b.sub < a.sub {
+            return true;
+        }
+        if a.sub < b.sub {
+            return false;
+        }
+        if b.node != a.node {
+            return b.node < a.node;
+        }
+        bits_before(a, b)
     }
-    forward_before(a, b)
 }
 
 // The entry in slot i.
@@ -107,19 +105,19 @@ fn put_entry(times: &mut [f64], nodes: &mut [u32], i: usize, e: Entry)
 }
 
 // Moves a hole from slot n up to where e may stand.
-fn rise(times: &mut [f64], nodes: &mut [u32], n: usize, backward: bool, e: Entry) -> usize
+fn rise<O: Order>(times: &mut [f64], nodes: &mut [u32], n: usize, e: Entry) -> usize
     requires n_in_bounds { (n + 1) * 2 ≤ length times.old }
     requires n_in_bounds_2 { n < length nodes.old }
     requires ordered { Ordered e }
     ensures within { result ≤ n }
-    ensures held { Added backward times.old nodes.old (put_times times.new result e)
+    ensures held { Added O.backward times.old nodes.old (put_times times.new result e)
         (put_nodes nodes.new result e) n e }
 {
     let mut i = n;
     while 0 < i {
         let above = (i - 1) / 2;
         let x = entry_at(times, nodes, above);
-        if !is_before(backward, e, x) {
+        if !O::is_before(e, x) {
             return i;
         }
         put_entry(times, nodes, i, x);
@@ -129,23 +127,23 @@ fn rise(times: &mut [f64], nodes: &mut [u32], n: usize, backward: bool, e: Entry
 }
 
 // Puts an entry into a heap of n.
-pub fn push(times: &mut [f64], nodes: &mut [u32], n: usize, backward: bool, e: Entry)
+pub fn push<O: Order>(times: &mut [f64], nodes: &mut [u32], n: usize, e: Entry)
     requires n_in_bounds { (n + 1) * 2 ≤ length times.old }
     requires n_in_bounds_2 { n < length nodes.old }
     requires ordered { Ordered e }
-    ensures { Added backward times.old nodes.old times.new
+    ensures { Added O.backward times.old nodes.old times.new
         nodes.new n e }
 {
-    let i = rise(times, nodes, n, backward, e);
+    let i = rise::<O>(times, nodes, n, e);
     put_entry(times, nodes, i, e);
 }
 
 // The one of the slots below slot i that is taken first.
-fn best_child(times: &[f64], nodes: &[u32], n: usize, backward: bool, i: usize) -> usize
+fn best_child<O: Order>(times: &[f64], nodes: &[u32], n: usize, i: usize) -> usize
     requires n_in_bounds { n * 2 ≤ length times.now }
     requires n_in_bounds_2 { n ≤ length nodes.now }
     requires i_bound { i * 2 + 1 < n }
-    ensures { BestChild backward times.now nodes.now n i result }
+    ensures { BestChild O.backward times.now nodes.now n i result }
 {
     let left = i * 2 + 1;
     let right = left + 1;
@@ -154,27 +152,27 @@ fn best_child(times: &[f64], nodes: &[u32], n: usize, backward: bool, i: usize) 
     }
     let x = entry_at(times, nodes, left);
     let y = entry_at(times, nodes, right);
-    if is_before(backward, y, x) {
+    if O::is_before(y, x) {
         return right;
     }
     left
 }
 
 // Moves a hole from the top down to where e, the entry behind the first n, may stand.
-fn sink(times: &mut [f64], nodes: &mut [u32], n: usize, backward: bool, e: Entry) -> usize
+fn sink<O: Order>(times: &mut [f64], nodes: &mut [u32], n: usize, e: Entry) -> usize
     requires n_nonzero { 0 < n }
     requires n_in_bounds { (n + 1) * 2 ≤ length times.old }
     requires n_in_bounds_2 { n < length nodes.old }
     requires e_value { e ≡ slot times.old nodes.old n }
     ensures within { result < n }
-    ensures held { Dropped backward times.old nodes.old (put_times times.new result e)
+    ensures held { Dropped O.backward times.old nodes.old (put_times times.new result e)
         (put_nodes nodes.new result e) n }
 {
     let mut i = 0;
     while i < n / 2 {
-        let k = best_child(times, nodes, n, backward, i);
+        let k = best_child::<O>(times, nodes, n, i);
         let x = entry_at(times, nodes, k);
-        if !is_before(backward, x, e) {
+        if !O::is_before(x, e) {
             return i;
         }
         put_entry(times, nodes, i, x);
@@ -184,11 +182,11 @@ fn sink(times: &mut [f64], nodes: &mut [u32], n: usize, backward: bool, e: Entry
 }
 
 // Takes the best entry out of a heap of n.
-pub fn pop(times: &mut [f64], nodes: &mut [u32], n: usize, backward: bool) -> Entry
+pub fn pop<O: Order>(times: &mut [f64], nodes: &mut [u32], n: usize) -> Entry
     requires n_nonzero { 0 < n }
     requires n_in_bounds { n * 2 ≤ length times.old }
     requires n_in_bounds_2 { n ≤ length nodes.old }
-    ensures { TakenOut backward times.old nodes.old times.new nodes.new
+    ensures { TakenOut O.backward times.old nodes.old times.new nodes.new
         n result }
 {
     let top = entry_at(times, nodes, 0);
@@ -197,7 +195,7 @@ pub fn pop(times: &mut [f64], nodes: &mut [u32], n: usize, backward: bool) -> En
         return top;
     }
     let end = entry_at(times, nodes, last);
-    let i = sink(times, nodes, last, backward, end);
+    let i = sink::<O>(times, nodes, last, end);
     put_entry(times, nodes, i, end);
     top
 }

@@ -1,6 +1,6 @@
 -- The checks of a node, put together from those by itself and by its neighbours, and the loop over all nodes.
 use mathlib.Core.Path.{◌≡◌, refl, sym, ap, ◌∙◌}
-use mathlib.Core.Bool.{Bool, true, false, not, ◌&&◌, ◌||◌, true≢false}
+use mathlib.Core.Bool.{Bool, true, false, not, beq, ◌&&◌, ◌||◌, true≢false}
 use Prim.Native.Nat.{ℕ, ◌+◌, ◌-◌, ◌≤◌, ◌<◌}
 use native.Mathlib.Omega.{arith}
 use lib.Dec.{eqb, leb, ltb}
@@ -9,13 +9,16 @@ use Rattle.laws.proofs.Truth.{and_left, and_right}
 use Rattle.laws.specs.Below.{some_below}
 use Rattle.laws.proofs.Below.{some_at, none_more}
 use Rattle.net_node.specs.declared.EstTime.{EstTime}
-use Rattle.net_node.specs.Table.{fake_kind, is_fake}
+use Rattle.net_node.specs.Table.{is_fake}
 use Rattle.pass_rules.specs.Checks.{differ, prev_holds, next_holds, fake_holds, prev_leads, next_leads, not_both_alternates, node_holds, row14}
 use Rattle.pass_rules.specs.Plain.{plain}
 
-or_three : (a b c : Bool) → (a || (b || c)) ≡ (a || b || c)
-or_three true b c = refl
-or_three false b c = refl
+-- one of two, as the code compares them
+pub differ_is : (a b : Bool) → not (beq a b) ≡ differ a b
+differ_is true true = refl
+differ_is true false = refl
+differ_is false true = refl
+differ_is false false = refl
 
 or_four : (a b c d : Bool) → (a || (b || (c || d))) ≡ (a || b || c || d)
 or_four true b c d = refl
@@ -29,25 +32,6 @@ and_six true true false d e f = refl
 and_six true true true false e f = refl
 and_six true true true true false f = refl
 and_six true true true true true f = refl
-
-pub own_holds : (x : EstTime) (n i : ℕ) (prev next fake : Bool) → prev ≡ differ (not (eqb x.idx_prev 0)) (leb i 1) → next ≡ differ (not (eqb x.idx_next 0)) (eqb i (n - 1))
-    → fake ≡ fake_kind x.link_event.est_type
-    → (prev && (next && (not fake || (eqb x.idx_prev_alt 0 || eqb x.idx_next_alt 0)))) ≡ (prev_holds (λ _. x) n i && (next_holds (λ _. x) n i && fake_holds (λ _. x) n i))
-unfolding prev_holds next_holds fake_holds
-own_holds x n i prev next fake p q r =
-    ap (λ (b : Bool). b && (next && (not fake || (eqb x.idx_prev_alt 0 || eqb x.idx_next_alt 0)))) p
-    ∙ ap (λ (b : Bool). differ (not (eqb x.idx_prev 0)) (leb i 1) && (b && (not fake || (eqb x.idx_prev_alt 0 || eqb x.idx_next_alt 0)))) q
-    ∙ ap (λ (b : Bool). differ (not (eqb x.idx_prev 0)) (leb i 1) && (differ (not (eqb x.idx_next 0)) (eqb i (n - 1)) && b))
-    (ap (λ (b : Bool). not b || (eqb x.idx_prev_alt 0 || eqb x.idx_next_alt 0)) r ∙ or_three (not (fake_kind x.link_event.est_type)) (eqb x.idx_prev_alt 0) (eqb x.idx_next_alt 0))
-
-pub near_holds : (x y : EstTime) (n i : ℕ)
-    → ((eqb x.idx_next i || eqb x.idx_next_alt i)
-    && ((eqb y.idx_prev i || (eqb y.idx_prev_alt i || eqb i (n - 1))) && (not (eqb x.idx_next_alt i) || (not (eqb y.idx_prev_alt i) || (eqb i 0 || eqb i (n - 1))))))
-    ≡ (prev_leads (λ _. x) n i && (next_leads (λ _. y) n i && (not (eqb x.idx_next_alt i) || (not (eqb y.idx_prev_alt i) || (eqb i 0 || eqb i (n - 1))))))
-unfolding prev_leads next_leads
-near_holds x y n i =
-    ap (λ (b : Bool). (eqb x.idx_next i || eqb x.idx_next_alt i) && (b && (not (eqb x.idx_next_alt i) || (not (eqb y.idx_prev_alt i) || (eqb i 0 || eqb i (n - 1))))))
-    (or_three (eqb y.idx_prev i) (eqb y.idx_prev_alt i) (eqb i (n - 1)))
 
 -- what is said of the values loaded is said of the nodes
 own_at : (node : ℕ → EstTime) (n i : ℕ) → (prev_holds (λ _. node i) n i && (next_holds (λ _. node i) n i && fake_holds (λ _. node i) n i)) ≡ (prev_holds node n i && (next_holds node n i && fake_holds node n i))
@@ -129,20 +113,6 @@ pub plain_holds : (node : ℕ → EstTime) (n i : ℕ) (h x y : EstTime) → h �
 plain_holds node n i h x y l p q r s t =
     plain_node node n i
     (ap (λ (z : EstTime). plain z (node z.idx_prev) (node z.idx_next) n i) (sym l) ∙ ap (λ (z : EstTime). plain h z (node h.idx_next) n i) (sym p) ∙ ap (λ (z : EstTime). plain h x z n i) (sym q) ∙ sym s ∙ t)
-
-pub plain_is : (h x y : EstTime) (n i : ℕ) (fake : Bool) → fake ≡ fake_kind h.link_event.est_type
-    → (ltb 1 i
-    && (ltb i (n - 1)
-    && (not (eqb h.idx_prev 0) && (not (eqb h.idx_next 0) && (eqb x.idx_next i && (eqb y.idx_prev i && (not (eqb x.idx_next_alt i) && not fake)))))))
-    ≡ plain h x y n i
-unfolding plain
-plain_is h x y n i fake e =
-    ap
-    (λ (b : Bool).
-    ltb 1 i
-    && (ltb i (n - 1)
-    && (not (eqb h.idx_prev 0) && (not (eqb h.idx_next 0) && (eqb x.idx_next i && (eqb y.idx_prev i && (not (eqb x.idx_next_alt i) && not b)))))))
-    e
 
 -- ---- the loop
 

@@ -8,7 +8,7 @@ use lib.Dec.{eqb, ltb}
 use lib.ListN.{get_or}
 use lib.Ieee.{Float}
 use Rattle.net_node.specs.declared.EstTime.{EstTime}
-use Rattle.net_node.specs.Table.{node_at, Table, at, fake_kind}
+use Rattle.net_node.specs.Table.{node_at, Table, at, is_fake}
 use Rattle.laws.specs.Answer.{Answer, refused, given}
 use Rattle.pass_rules.specs.Net.{Pass}
 use Rattle.pass_rules.specs.Walks.{Inside, done_in, pass_of, ahead, end_of, passable, relink_walk}
@@ -42,16 +42,16 @@ and_three : (a b c : Bool) → (a && (b && c)) ≡ (a && b && c)
 and_three true b c = refl
 and_three false b c = refl
 
-module _ (t : Table) (cells : List ℕ) (base : ℕ) (i : ℕ) (x : EstTime) (l : x ≡ node_at t.floats t.numbers i) (fake : Bool) (f : fake ≡ fake_kind x.link_event.est_type) where
+module _ (t : Table) (cells : List ℕ) (base : ℕ) (i : ℕ) (x : EstTime) (l : x ≡ node_at t.floats t.numbers i) (fake : Bool) (f : fake ≡ is_fake x) where
   passable_is : (d : Bool) (n : ℕ) → (fake && (not (ltb 0 (get_or cells (base + ahead d x) 0)) && not (eqb (ahead d x) (end_of d n)))) ≡ passable d (pass_of t (done_in cells base)) n i
   unfolding Forward.is_passable Backward.is_passable done_in at
   passable_is d n =
       ap (λ (b : Bool). b && (not (ltb 0 (get_or cells (base + ahead d x) 0)) && not (eqb (ahead d x) (end_of d n)))) f
-      ∙ ap (λ (z : EstTime). fake_kind z.link_event.est_type && (not (ltb 0 (get_or cells (base + ahead d z) 0)) && not (eqb (ahead d z) (end_of d n)))) l
-      ∙ and_three (fake_kind (at t i).link_event.est_type) (not (done_in cells base (ahead d (at t i)))) (not (eqb (ahead d (at t i)) (end_of d n)))
+      ∙ ap (λ (z : EstTime). is_fake z && (not (ltb 0 (get_or cells (base + ahead d z) 0)) && not (eqb (ahead d z) (end_of d n)))) l
+      ∙ and_three (is_fake (at t i)) (not (done_in cells base (ahead d (at t i)))) (not (eqb (ahead d (at t i)) (end_of d n)))
       ∙ told d
     where
-      told : (d : Bool) → (fake_kind (at t i).link_event.est_type && not (done_in cells base (ahead d (at t i))) && not (eqb (ahead d (at t i)) (end_of d n))) ≡ passable d (pass_of t (done_in cells base)) n i
+      told : (d : Bool) → (is_fake (at t i) && not (done_in cells base (ahead d (at t i))) && not (eqb (ahead d (at t i)) (end_of d n))) ≡ passable d (pass_of t (done_in cells base)) n i
       told true = refl
       told false = refl
 

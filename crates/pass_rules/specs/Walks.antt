@@ -1,13 +1,11 @@
 -- What the code of the relink walks answers, and what it asks of a network. Only contracts use these words.
-use Rattle.std.specs.Prelude.{◌≡◌, Bool, true, false, List, [], ℕ, ◌+◌, ◌-◌, ◌<◌, ltb, get_or}
+use Rattle.std.specs.Prelude.{◌≡◌, Bool, true, false, List, [], ℕ, ◌+◌, ◌-◌, ◌<◌, ltb, get_or, Option, Some, None}
 use Rattle.net_node.specs.Table.{Table}
 use Rattle.net_node.specs.declared.EstTime.{EstTime}
 use Rattle.laws.specs.Answer.{Answer, given}
 use Rattle.pass_rules.specs.Net.{failed, Pass}
 use Rattle.pass_rules.specs.Forward as Forward
 use Rattle.pass_rules.specs.Backward as Backward
-use Rattle.pass_rules.specs.declared.Walked.{Walked}
-use Rattle.pass_rules.specs.declared.Walked.TheVariants.{Found, Endless}
 
 -- Row 5 leaves this: of the first n nodes each index names one of them.
 pub record Inside (node : ℕ → EstTime) (n : ℕ) : Type 0 where
@@ -24,9 +22,10 @@ done_in cells base i = ltb 0 (get_or cells (base + i) 0)
 abbrev pub pass_of : Table → (ℕ → Bool) → Pass
 pass_of t done = record { table = t; done = done; queue = [] }
 
-abbrev pub WalkAs : Answer ℕ → ℕ → Walked → Type 0
-WalkAs answer n (Found i) = (answer ≡ given i) × (i < n)
-WalkAs answer n Endless = answer ≡ failed
+-- the node where a walk ends, or none: it has passed more Fakes than there are nodes
+abbrev pub WalkAs : Answer ℕ → ℕ → Option ℕ → Type 0
+WalkAs answer n (Some i) = (answer ≡ given i) × (i < n)
+WalkAs answer n None = answer ≡ failed
 
 -- ---- both walks in one, by whether the pass goes backward
 
@@ -34,6 +33,20 @@ WalkAs answer n Endless = answer ≡ failed
 abbrev pub ahead : Bool → EstTime → ℕ
 ahead true node = node.idx_prev
 ahead false node = node.idx_next
+
+-- a node's alternative on that side, and on the other
+abbrev pub ahead_alt : Bool → EstTime → ℕ
+ahead_alt true node = node.idx_prev_alt
+ahead_alt false node = node.idx_next_alt
+
+abbrev pub behind_alt : Bool → EstTime → ℕ
+behind_alt true node = node.idx_next_alt
+behind_alt false node = node.idx_prev_alt
+
+-- what a node exchanges with the base of the join or split that is reached
+abbrev pub swap : Bool → Table → ℕ → ℕ → ℕ → Table
+swap true t curr save found = Backward.swap_split t curr save found
+swap false t curr save found = Forward.swap_join t curr save found
 
 -- the node that a walk doesn't pass to: the end forward, 0 backward
 abbrev pub end_of : Bool → ℕ → ℕ
@@ -48,5 +61,5 @@ abbrev pub relink_walk : Bool → ℕ → Pass → ℕ → ℕ → Answer ℕ
 relink_walk true k p n i = Backward.relink_walk k p i
 relink_walk false k p n i = Forward.relink_walk k p n i
 
-abbrev pub RelinkWalk : Bool → Table → (ℕ → Bool) → ℕ → ℕ → Walked → Type 0
+abbrev pub RelinkWalk : Bool → Table → (ℕ → Bool) → ℕ → ℕ → Option ℕ → Type 0
 RelinkWalk backward t done n i r = WalkAs (relink_walk backward n (pass_of t done) n i) n r

@@ -4,43 +4,149 @@
 ghost use Rattle.std.specs.Prelude.{◌≡◌, not, ◌&&◌, ◌+◌, ◌-◌, ◌≤◌, ◌<◌, length};
 ghost use Rattle.net_node.specs.Table.{node_at, Room};
 ghost use Rattle.net_node.specs.Lent.{table_at_entry, table_seen};
-ghost use Rattle.pass_rules.specs.Checks.{differ, prev_holds, next_holds, fake_holds, node_holds, row14};
+ghost use Rattle.pass_rules.specs.Checks.{prev_holds, next_holds, fake_holds, node_holds, row14};
 ghost use Rattle.pass_rules.specs.Plain.{plain, neighbours_hold};
-ghost use Rattle.pass_rules.specs.Forward.{swap_join};
-ghost use Rattle.pass_rules.specs.Backward.{swap_split};
-ghost use Rattle.pass_rules.specs.Walks.{Inside, done_in, pass_of, ahead, end_of, passable, RelinkWalk};
+ghost use Rattle.pass_rules.specs.Walks.{Inside, done_in, pass_of, ahead, ahead_alt, behind_alt, end_of, swap};
+ghost use Rattle.pass_rules.specs.Walks.{passable, RelinkWalk};
 
 use net_node::EstTime;
+use pass_queue::{Backward, Forward, Order};
 
-// Where a relink walk ends, or that it has passed more Fakes than there are nodes.
-#[derive(Clone, Copy)]
-pub enum Walked {
-    Found(u32),
-    Endless,
+// Along which links a pass goes, and how it links a node and the join or split that it reaches.
+pub trait Links: Order {
+    // The index of the node that a pass goes to: the next forward, the previous backward.
+    fn ahead(node: EstTime) -> u32
+        ensures { result ≡ ahead Self.backward node };
+
+    // The index of a node's alternative on that side.
+    fn ahead_alt(node: EstTime) -> u32
+        ensures { result ≡ ahead_alt Self.backward node };
+
+    // The index of a node's alternative on the other side: a join's forward, a split's backward.
+    fn behind_alt(node: EstTime) -> u32
+        ensures { result ≡ behind_alt Self.backward node };
+
+    // The node that a relink walk doesn't pass to: the end forward, 0 backward.
+    fn end_of(n: usize) -> usize
+        requires { 0 < n }
+        ensures { result ≡ end_of Self.backward n };
+
+    // A node exchanges links with the base of the join or split that is reached.
+    fn swap(
+        floats: &mut [f64],
+        numbers: &mut [u32],
+        n: usize,
+        curr: u32,
+        save: u32,
+        found: u32,
+    )
+        requires room { Room floats.old numbers.old n }
+        requires inside { Inside (node_at floats.old numbers.old) n }
+        requires curr_lt_n { curr < n }
+        requires save_lt_n { save < n }
+        requires found_lt_n { found < n }
+        ensures floats { floats.new ≡ (swap Self.backward (table_at_entry floats numbers) curr save found).floats }
+        ensures numbers { numbers.new ≡ (swap Self.backward (table_at_entry floats numbers) curr save found).numbers };
 }
 
-// Whether one of two holds and the other does not.
-fn is_one(a: bool, b: bool) -> bool
-    ensures { result ≡ differ a b }
-{
-    if a { !b } else { b }
+impl Links for Forward {
+    fn ahead(node: EstTime) -> u32 {
+        node.idx_next
+    }
+
+    fn ahead_alt(node: EstTime) -> u32 {
+        node.idx_next_alt
+    }
+
+    fn behind_alt(node: EstTime) -> u32 {
+        node.idx_prev_alt
+    }
+
+    fn end_of(n: usize) -> usize {
+        n - 1
+    }
+
+    // The node and the base of the join exchange their nexts.
+    fn swap(
+        floats: &mut [f64],
+        numbers: &mut [u32],
+        _n: usize,
+        curr: u32,
+        save: u32,
+        found: u32,
+    ) {
+        let base = net_node::load(floats, numbers, found as usize).idx_prev;
+        net_node::set_next(floats, numbers, curr as usize, found);
+        net_node::set_next(floats, numbers, base as usize, save);
+        net_node::set_prev(floats, numbers, save as usize, base);
+        net_node::set_prev(floats, numbers, found as usize, curr);
+    }
+}
+
+impl Links for Backward {
+    fn ahead(node: EstTime) -> u32 {
+        node.idx_prev
+    }
+
+    fn ahead_alt(node: EstTime) -> u32 {
+        node.idx_prev_alt
+    }
+
+    fn behind_alt(node: EstTime) -> u32 {
+        node.idx_next_alt
+    }
+
+    fn end_of(_n: usize) -> usize {
+        0
+    }
+
+    // The node and the base of the split exchange their previous, and time and distance to next go along.
+    fn swap(
+        floats: &mut [f64],
+        numbers: &mut [u32],
+        _n: usize,
+        curr: u32,
+        save: u32,
+        found: u32,
+    ) {
+        let base = net_node::load(floats, numbers, found as usize).idx_next;
+        net_node::set_prev(floats, numbers, curr as usize, found);
+        net_node::set_prev(floats, numbers, base as usize, save);
+        net_node::set_next(floats, numbers, save as usize, base);
+        net_node::set_next(floats, numbers, found as usize, curr);
+        let a = net_node::load(floats, numbers, save as usize);
+        let b = net_node::load(floats, numbers, found as usize);
+        net_node::set_arc(
+            floats,
+            numbers,
+            save as usize,
+            b.time_to_next,
+            b.dist_to_next,
+        );
+        net_node::set_arc(
+            floats,
+            numbers,
+            found as usize,
+            a.time_to_next,
+            a.dist_to_next,
+        );
+    }
 }
 
 // The checks of a node by itself.
+#[tactic(auto, using(crate::proofs::Held::differ_is), unfolding(crate::specs::Checks::prev_holds, crate::specs::Checks::next_holds, crate::specs::Checks::fake_holds))]
 fn own_links_hold(here: EstTime, n: usize, i: usize) -> bool
     requires { i < n }
     ensures { result ≡ (prev_holds (λ _. here) n i && (next_holds (λ _. here) n i && fake_holds (λ _. here) n i)) }
 {
-    let prev = is_one(!(here.idx_prev == 0), i <= 1);
-    let next = is_one(!(here.idx_next == 0), i == n - 1);
-    let event = here.link_event;
-    let kind = event.est_type;
-    let fake = net_node::is_fake(kind);
-    let alone = !fake | ((here.idx_prev_alt == 0) | (here.idx_next_alt == 0));
+    let prev = (here.idx_prev != 0) != (i <= 1);
+    let next = (here.idx_next != 0) != (i == n - 1);
+    let alone = !here.is_fake() | (here.idx_prev_alt == 0) | (here.idx_next_alt == 0);
     prev & (next & alone)
 }
 
 // The checks of a node by those before and after it.
+#[tactic(auto, unfolding(crate::specs::Plain::neighbours_hold, crate::specs::Checks::prev_leads, crate::specs::Checks::next_leads))]
 fn neighbours_hold(before: EstTime, after: EstTime, n: usize, i: usize) -> bool
     requires { i < n }
     ensures { result ≡ neighbours_hold before after n i }
@@ -49,26 +155,24 @@ fn neighbours_hold(before: EstTime, after: EstTime, n: usize, i: usize) -> bool
     let next_alt = before.idx_next_alt as usize == i;
     let prev_alt = after.idx_prev_alt as usize == i;
     let prev_leads = (before.idx_next as usize == i) | next_alt;
-    let next_leads = (after.idx_prev as usize == i) | (prev_alt | last);
+    let next_leads = (after.idx_prev as usize == i) | prev_alt | last;
     let not_both = !next_alt | (!prev_alt | ((i == 0) | last));
     prev_leads & (next_leads & not_both)
 }
 
 // Whether a node is an event between two nodes that lead to it: then all its checks hold.
+#[tactic(auto, unfolding(crate::specs::Plain::plain))]
 fn is_plain(here: EstTime, before: EstTime, after: EstTime, n: usize, i: usize) -> bool
     requires { i < n }
     ensures { result ≡ plain here before after n i }
 {
-    let event = here.link_event;
-    let kind = event.est_type;
-    let fake = net_node::is_fake(kind);
     (1 < i)
         & ((i < n - 1)
             & (!(here.idx_prev == 0)
                 & (!(here.idx_next == 0)
                     & ((before.idx_next as usize == i)
                         & ((after.idx_prev as usize == i)
-                            & (!(before.idx_next_alt as usize == i) & !fake))))))
+                            & (!(before.idx_next_alt as usize == i) & !here.is_fake()))))))
 }
 
 // Whether all checks of a node hold.
@@ -95,157 +199,59 @@ pub fn checks_fail(floats: &[f64], numbers: &[u32], n: usize) -> bool
     requires inside { Inside (node_at floats.now numbers.now) n }
     ensures { result ≡ row14 (node_at floats.now numbers.now) n }
 {
-    let mut i = 0;
-    while i < n {
+    for i in 0..n {
         if !node_holds(floats, numbers, n, i) {
             return true;
         }
-        i += 1;
     }
     false
 }
 
-// The index along which a relink walk goes: a node's next forward, its previous backward.
-fn ahead(node: EstTime, backward: bool) -> u32
-    ensures { result ≡ ahead backward node }
-{
-    if backward {
-        node.idx_prev
-    } else {
-        node.idx_next
-    }
-}
-
-// The node that a relink walk doesn't pass to: the end forward, 0 backward.
-fn end_of(n: usize, backward: bool) -> usize
-    requires { 0 < n }
-    ensures { result ≡ end_of backward n }
-{
-    if backward { 0 } else { n - 1 }
-}
-
 // Whether a node is a Fake that leads to a node which is neither done nor the walk's end. A node is done (timed
 // forward, passed backward) whose cell is set.
-fn is_passable(
+fn is_passable<L: Links>(
     floats: &[f64],
     numbers: &[u32],
     cells: &[u32],
     done_at: usize,
     n: usize,
-    backward: bool,
     i: u32,
 ) -> bool
     requires room { Room floats.now numbers.now n }
     requires inside { Inside (node_at floats.now numbers.now) n }
     requires n_in_bounds { done_at + n ≤ length cells.now }
     requires i_lt_n { i < n }
-    ensures { result ≡ passable backward (pass_of (table_seen floats numbers)
+    ensures { result ≡ passable L.backward (pass_of (table_seen floats numbers)
         (done_in cells.now done_at)) n i }
 {
     let node = net_node::load(floats, numbers, i as usize);
-    let event = node.link_event;
-    let kind = event.est_type;
-    let fake = net_node::is_fake(kind);
-    let to = ahead(node, backward) as usize;
-    let end = end_of(n, backward);
+    let to = L::ahead(node) as usize;
+    let end = L::end_of(n);
     let done = 0 < cells[done_at + to];
-    fake & (!done & !(to == end))
+    node.is_fake() & (!done & !(to == end))
 }
 
 // The relink walk of a pass: from node i along Fakes that lead to nodes which are neither done nor its end.
-pub fn relink_walk(
+pub fn relink_walk<L: Links>(
     floats: &[f64],
     numbers: &[u32],
     cells: &[u32],
     done_at: usize,
     n: usize,
-    backward: bool,
     i: u32,
-) -> Walked
+) -> Option<u32>
     requires room { Room floats.now numbers.now n }
     requires inside { Inside (node_at floats.now numbers.now) n }
     requires n_in_bounds { done_at + n ≤ length cells.now }
     requires i_lt_n { i < n }
-    ensures { RelinkWalk backward (table_seen floats numbers) (done_in cells.now done_at) n i result }
+    ensures { RelinkWalk L.backward (table_seen floats numbers) (done_in cells.now done_at) n i result }
 {
     let mut at = i;
-    let mut count = 0;
-    loop {
-        if !is_passable(floats, numbers, cells, done_at, n, backward, at) {
-            return Walked::Found(at);
+    for _ in 0..=n {
+        if !is_passable::<L>(floats, numbers, cells, done_at, n, at) {
+            return Some(at);
         }
-        if n <= count {
-            return Walked::Endless;
-        }
-        let node = net_node::load(floats, numbers, at as usize);
-        at = ahead(node, backward);
-        count += 1;
+        at = L::ahead(net_node::load(floats, numbers, at as usize));
     }
-}
-
-// Forward: the node and the base of the join that is reached exchange their nexts.
-pub fn swap_join(
-    floats: &mut [f64],
-    numbers: &mut [u32],
-    n: usize,
-    curr: u32,
-    save: u32,
-    found: u32,
-)
-    requires room { Room floats.old numbers.old n }
-    requires inside { Inside (node_at floats.old numbers.old) n }
-    requires curr_lt_n { curr < n }
-    requires save_lt_n { save < n }
-    requires found_lt_n { found < n }
-    ensures floats { floats.new ≡ (swap_join (table_at_entry floats numbers) curr save found).floats }
-    ensures numbers { numbers.new ≡ (swap_join (table_at_entry floats numbers) curr save found).numbers }
-{
-    let node = net_node::load(floats, numbers, found as usize);
-    let base = node.idx_prev;
-    net_node::set_next(floats, numbers, curr as usize, found);
-    net_node::set_next(floats, numbers, base as usize, save);
-    net_node::set_prev(floats, numbers, save as usize, base);
-    net_node::set_prev(floats, numbers, found as usize, curr);
-}
-
-// Backward: the node and the base of the split that is reached exchange their previous, and time and distance to next
-// go along.
-pub fn swap_split(
-    floats: &mut [f64],
-    numbers: &mut [u32],
-    n: usize,
-    curr: u32,
-    save: u32,
-    found: u32,
-)
-    requires room { Room floats.old numbers.old n }
-    requires inside { Inside (node_at floats.old numbers.old) n }
-    requires curr_lt_n { curr < n }
-    requires save_lt_n { save < n }
-    requires found_lt_n { found < n }
-    ensures floats { floats.new ≡ (swap_split (table_at_entry floats numbers) curr save found).floats }
-    ensures numbers { numbers.new ≡ (swap_split (table_at_entry floats numbers) curr save found).numbers }
-{
-    let node = net_node::load(floats, numbers, found as usize);
-    let base = node.idx_next;
-    net_node::set_prev(floats, numbers, curr as usize, found);
-    net_node::set_prev(floats, numbers, base as usize, save);
-    net_node::set_next(floats, numbers, save as usize, base);
-    net_node::set_next(floats, numbers, found as usize, curr);
-    let a = net_node::load(floats, numbers, save as usize);
-    let b = net_node::load(floats, numbers, found as usize);
-    net_node::set_arc(
-        floats,
-        numbers,
-        save as usize,
-        b.time_to_next,
-        b.dist_to_next,
-    );
-    net_node::set_arc(
-        floats,
-        numbers,
-        found as usize,
-        a.time_to_next,
-        a.dist_to_next,
-    );
+    None
 }

@@ -4,10 +4,10 @@ use Rattle.pass_queue.proofs.Sifts.{popped_only, popped}
 use Rattle.pass_queue.proofs.pop.Goals as goal
 
 pub returns-then-last-eq0 : goal.returns-then-last-eq0
-returns-then-last-eq0 c = popped_only _ _ _ _ _ c.entry_at-top.ensures c.requires.n_nonzero c.if-last-eq0.true
+returns-then-last-eq0 g c = popped_only _ _ _ _ _ c.entry_at-top.ensures c.requires.n_nonzero c.if-last-eq0.true
 
 pub sink-i-requires : goal.sink-i-requires
-sink-i-requires c =
+sink-i-requires g c =
     let r = c.requires in
     let d = c.if-last-eq0.false in
     record {
@@ -18,5 +18,5 @@ sink-i-requires c =
     }
 
 pub returns : goal.returns
-returns c =
+returns g c =
     popped _ _ _ _ _ c.entry_at-top.ensures c.requires.n_nonzero _ _ _ _ _ _ c.sink-i.ensures.held c.put_entry.ensures.times c.put_entry.ensures.nodes

@@ -3,7 +3,7 @@ use Rattle.pass_queue.proofs.Sifts.{Rising}
 use Rattle.pass_queue.proofs.rise.Given as goal
 
 abbrev pub invariant-loop-i : goal.invariant-loop-i
-invariant-loop-i l = Rising l.backward l.initial.times l.initial.nodes l.n l.e l.times l.nodes l.i
+invariant-loop-i g l = Rising g.O.Order.backward l.initial.times l.initial.nodes l.n l.e l.times l.nodes l.i
 
 abbrev pub decreases-loop-i : goal.decreases-loop-i
-decreases-loop-i l = l.i
+decreases-loop-i g l = l.i

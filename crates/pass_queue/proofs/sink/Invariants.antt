@@ -4,7 +4,7 @@ use Rattle.pass_queue.proofs.Sifts.{Sinking}
 use Rattle.pass_queue.proofs.sink.Given as goal
 
 abbrev pub invariant-loop-i : goal.invariant-loop-i
-invariant-loop-i l = Sinking l.backward l.initial.times l.initial.nodes l.n l.e l.times l.nodes l.i
+invariant-loop-i g l = Sinking g.O.Order.backward l.initial.times l.initial.nodes l.n l.e l.times l.nodes l.i
 
 abbrev pub decreases-loop-i : goal.decreases-loop-i
-decreases-loop-i l = l.n - l.i
+decreases-loop-i g l = l.n - l.i

@@ -1,11 +1,11 @@
--- `pass_rules::swap_split` meets its contract.
+-- `Backward::swap` meets its contract.
 use native.Mathlib.Omega.{arith}
 use Rattle.pass_rules.proofs.Sets.{next_inside, split_stored}
-use Rattle.pass_rules.proofs.swap_split.Goals as goal
+use Rattle.pass_rules.proofs.BackwardLinks.swap.Goals as goal
 
 pub set_prev-requires-2 : goal.set_prev-requires-2
 set_prev-requires-2 c =
-    let h = next_inside _ _ c.requires.inside _ c.requires.found_lt_n _ c.load-node.ensures in
+    let h = next_inside _ _ c.requires.inside _ c.requires.found_lt_n _ c.load-base.ensures in
     record {
       float_width_in_bounds = omega (arith, h, c.requires.room.floats, c.set_prev.auto);
       number_width_in_bounds = omega (arith, h, c.requires.room.numbers, c.set_prev.auto);
@@ -51,7 +51,7 @@ shape_of-numbers c =
 
 pub returns : goal.returns
 returns c =
-    let all = split_stored _ _ _ _ _ _ _ _ _ _ _ _ _ _ _ _ _ _ _ _ c.load-node.ensures
+    let all = split_stored _ _ _ _ _ _ _ _ _ _ _ _ _ _ _ _ _ _ _ _ c.load-base.ensures
     (c.set_prev.ensures.floats, c.set_prev.ensures.numbers) (c.set_prev-2.ensures.floats, c.set_prev-2.ensures.numbers)
     (c.set_next.ensures.floats, c.set_next.ensures.numbers) (c.set_next-2.ensures.floats, c.set_next-2.ensures.numbers)
     c.load-a.ensures c.load-b.ensures

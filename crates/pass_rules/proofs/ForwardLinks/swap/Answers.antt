@@ -1,11 +1,11 @@
--- `pass_rules::swap_join` meets its contract.
+-- `Forward::swap` meets its contract.
 use native.Mathlib.Omega.{arith}
 use Rattle.pass_rules.proofs.Sets.{prev_inside, join_stored}
-use Rattle.pass_rules.proofs.swap_join.Goals as goal
+use Rattle.pass_rules.proofs.ForwardLinks.swap.Goals as goal
 
 pub set_next-requires-2 : goal.set_next-requires-2
 set_next-requires-2 c =
-    let h = prev_inside _ _ c.requires.inside _ c.requires.found_lt_n _ c.load-node.ensures in
+    let h = prev_inside _ _ c.requires.inside _ c.requires.found_lt_n _ c.load-base.ensures in
     record {
       float_width_in_bounds = omega (arith, h, c.requires.room.floats, c.set_next.auto);
       number_width_in_bounds = omega (arith, h, c.requires.room.numbers, c.set_next.auto);
@@ -19,7 +19,7 @@ set_prev-requires-2 c = record {
 
 pub returns : goal.returns
 returns c =
-    let all = join_stored _ _ _ _ _ _ _ _ _ _ _ _ _ _ c.load-node.ensures
+    let all = join_stored _ _ _ _ _ _ _ _ _ _ _ _ _ _ c.load-base.ensures
     (c.set_next.ensures.floats, c.set_next.ensures.numbers) (c.set_next-2.ensures.floats, c.set_next-2.ensures.numbers)
     (c.set_prev.ensures.floats, c.set_prev.ensures.numbers) (c.set_prev-2.ensures.floats, c.set_prev-2.ensures.numbers) in
     record {
