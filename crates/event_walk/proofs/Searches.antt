@@ -1,17 +1,23 @@
 -- The searches: among points that never fall for the first that lies beyond an offset, and among samples for the first that reaches one.
 use mathlib.Core.Path.{◌≡◌, refl, sym, ap, ◌∙◌, subst}
 use mathlib.Core.Logic.{◌⊎◌, inl, inr}
+use mathlib.Core.List.{List}
 use mathlib.Core.Bool.{Bool, true, false, not, cond, true≢false}
-use Prim.Native.Nat.{ℕ, zero, suc, ◌+◌, ◌-◌, ◌*◌, ◌/◌, ◌≤◌, ◌<◌}
+use Prim.Native.Nat.{ℕ, zero, suc, ◌+◌, ◌-◌, ◌≤◌, ◌<◌}
 use native.Mathlib.Nat.{le_refl, eq-or-lt_of_le}
 use native.Mathlib.Omega.{arith}
-use lib.Ieee.{Float, lt, le, is_nan}
+use borrow.Author.Tests.{ltb-true, ltb-false}
+use lib.Dec.{ltb}
+use lib.ListN.{length, get_or, take, drop, length-take, length-drop}
+use lib.Ieee.{Float, nan, lt, le, is_nan}
+use Rattle.std.specs.List.Sorted.{IsPartitionedBy, IsPartitionPoint}
+use Rattle.std.proofs.lemmas.List.{get_or-drop, get_or-take, get_or_default}
 use Rattle.laws.proofs.Truth.{none_right}
 use Rattle.floats.specs.Floats.{Size}
 use Rattle.floats.proofs.Order.{not_lt, le_number_right, le_self, le_trans}
 use Rattle.book_format.specs.Rows.{sample_falls}
 use Rattle.event_walk.specs.Course.{Course, Rises}
-use Rattle.event_walk.specs.Search.{Between, Reached}
+use Rattle.event_walk.specs.Search.{NoneBeyond}
 use Rattle.event_walk.specs.Walk.{first_beyond}
 
 -- ---- points that never fall
@@ -47,63 +53,17 @@ module _ {offset : ℕ → Float} {points : ℕ} (r : Rises offset points) where
       let e : j + (k - j) ≡ k = omega arith in
       subst (λ (i : ℕ). le (offset j) (offset i) ≡ true) e (so_many_on (k - j) j (omega arith))
 
-  -- with a point that is not beyond x none before it is, and with one that is each after it
+  -- with a point that is not beyond x none before it is
   pub none_beyond : (x : Float) (at : ℕ) → at < points → le (offset at) x ≡ true → (k : ℕ) → k < at + 1 → le (offset k) x ≡ true
   none_beyond x at h e k g = le_trans (offset k) (offset at) x (rises_le k at (omega arith) h) e
 
-  pub all_beyond : (x : Float) (at : ℕ) → le (offset at) x ≡ false → (k : ℕ) → at ≤ k → k < points → le (offset k) x ≡ false
-  all_beyond x at e k h g = go (le (offset k) x) refl
-    where
-      go : (t : Bool) → le (offset k) x ≡ t → t ≡ false
-      go true f = absurd (true≢false (sym (le_trans (offset at) (offset k) x (rises_le at k h g) f) ∙ e))
-      go false f = refl
-
 -- ---- from the last point back
 
--- each point from `high` on lies beyond x, and a step leads no further than to the first
-pub record Galloping (offset : ℕ → Float) (points : ℕ) (x : Float) (high step : ℕ) : Type 0 where
-  pub inside : high ≤ points
-  pub beyond : (k : ℕ) → high ≤ k → k < points → le (offset k) x ≡ false
-  pub some : 0 < step
-  pub small : 0 < high → high + step ≤ points + 1
+pub gallop_found : {offset : ℕ → Float} {points : ℕ} → Rises offset points → (x : Float) (step : ℕ) → 0 < step → step ≤ points → le (offset (points - step)) x ≡ true → NoneBeyond offset points x (points - step)
+gallop_found {offset} {points} r x step h g f = record { inside = omega arith; before = λ k l. none_beyond r x (points - step) (omega arith) f k (omega arith) }
 
-pub gallop_start : (offset : ℕ → Float) (points : ℕ) (x : Float) → Galloping offset points x points 1
-gallop_start offset points x = record { inside = le_refl points; beyond = λ k h g. absurd (omega arith); some = omega arith; small = λ h. omega arith }
-
-module _ {offset : ℕ → Float} {points : ℕ} {x : Float} {high step : ℕ} (r : Rises offset points) (v : Galloping offset points x high step) (h : 0 < high) (at : ℕ) (e : at ≡ high - step) where
-  pub gallop_inside : at < points
-  gallop_inside = omega (arith, v.inside, v.some)
-
-  pub gallop_less : at < high
-  gallop_less = omega (arith, v.some)
-
-  pub gallop_found : le (offset at) x ≡ true → Between offset points x (at + 1) high
-  gallop_found f = record { order = omega (arith, gallop_less); inside = v.inside; before = none_beyond r x at gallop_inside f; beyond = v.beyond }
-
-  pub gallop_on : le (offset at) x ≡ false → Galloping offset points x at (step * 2)
-  gallop_on f =
-      let s = v.small h in
-      record {
-        inside = omega (arith, gallop_inside);
-        beyond = all_beyond r x at f;
-        some = omega (arith, v.some);
-        small = λ (g : 0 < at). omega arith;
-      }
-
-pub gallop_none : {offset : ℕ → Float} {points : ℕ} {x : Float} {high step : ℕ} → Galloping offset points x high step → (0 < high → ⊥) → Between offset points x 0 high
-gallop_none v h = record { order = omega arith; inside = v.inside; before = λ k g. absurd (omega arith); beyond = v.beyond }
-
--- ---- by halves
-
-module _ {offset : ℕ → Float} {points : ℕ} {x : Float} {low high : ℕ} (r : Rises offset points) (b : Between offset points x low high) (h : low < high) (middle : ℕ) (e : middle ≡ (low + high) / 2) where
-  pub middle_inside : (low ≤ middle) × (middle < high) × (middle < points)
-  middle_inside = (omega arith, omega arith, omega (arith, b.inside))
-
-  pub upper_half : le (offset middle) x ≡ true → Between offset points x (middle + 1) high
-  upper_half f = record { order = omega (arith, middle_inside.1); inside = b.inside; before = none_beyond r x middle middle_inside.2 f; beyond = b.beyond }
-
-  pub lower_half : le (offset middle) x ≡ false → Between offset points x low middle
-  lower_half f = record { order = middle_inside.0; inside = omega (arith, middle_inside.2); before = b.before; beyond = all_beyond r x middle f }
+pub gallop_none : (offset : ℕ → Float) (points : ℕ) (x : Float) → NoneBeyond offset points x 0
+gallop_none offset points x = record { inside = omega arith; before = λ k g. absurd (omega arith) }
 
 -- ---- the first beyond
 
@@ -143,40 +103,58 @@ first_found offset x k (suc n) = go (le (offset k) x) refl (first_found offset x
         at j (inr l) g = f.before j l g
     go false e f = record { after = le_refl k; inside = omega arith; before = λ j h g. absurd (omega arith); beyond = λ h. e }
 
--- the search ends where both ends meet
-pub between_met : {offset : ℕ → Float} {points : ℕ} {x : Float} {low high : ℕ} → Between offset points x low high → (low < high → ⊥) → low ≡ first_beyond offset x 0 points
-between_met {offset} {points} {x} {low} {high} b h =
-    sym (first_is offset x 0 points low
-    (record {
-      after = omega arith;
-      inside = omega (arith, b.order, b.inside);
-      before = λ j g l. b.before j l;
-      beyond = λ (g : low < 0 + points). b.beyond low (omega arith) (omega arith);
-    }))
-
 -- ---- the first sample that reaches an offset
 
--- no sample from `from` on and before i reaches x
-pub record Reaching (offset : ℕ → Float) (samples : ℕ) (x : Float) (from i : ℕ) : Type 0 where
-  pub after : from ≤ i
-  pub inside : from < i → i ≤ samples
-  pub short : (k : ℕ) → from ≤ k → k < i → le x (offset k) ≡ false
-
-pub reach_start : (offset : ℕ → Float) (samples : ℕ) (x : Float) (from : ℕ) → Reaching offset samples x from from
-reach_start offset samples x from = record { after = le_refl from; inside = λ h. absurd (omega arith); short = λ k h g. absurd (omega arith) }
-
-pub reach_on : {offset : ℕ → Float} {samples : ℕ} {x : Float} {from i : ℕ} → Reaching offset samples x from i → i < samples → le x (offset i) ≡ false → Reaching offset samples x from (i + 1)
-reach_on {offset} {samples} {x} {from} {i} v h e = record { after = omega (arith, v.after); inside = λ g. omega arith; short = λ k g l. at k g (eq-or-lt_of_le (less k i l)) }
+-- one sample more that doesn't reach x
+pub short_on : (offset : ℕ → Float) (x : Float) (from i : ℕ) → ((k : ℕ) → from ≤ k → k < i → le x (offset k) ≡ false) → le x (offset i) ≡ false → (k : ℕ) → from ≤ k → k < i + 1 → le x (offset k) ≡ false
+short_on offset x from i s e k g l = go (eq-or-lt_of_le (less k i l))
   where
     less : (k i : ℕ) → k < i + 1 → k ≤ i
     less k i l = omega arith
 
-    at : (k : ℕ) → from ≤ k → (k ≡ i) ⊎ (k < i) → le x (offset k) ≡ false
-    at k g (inl d) = ap (λ (j : ℕ). le x (offset j)) d ∙ e
-    at k g (inr l) = v.short k g l
+    go : (k ≡ i) ⊎ (k < i) → le x (offset k) ≡ false
+    go (inl d) = ap (λ (j : ℕ). le x (offset j)) d ∙ e
+    go (inr m) = s k g m
 
-pub reach_found : {offset : ℕ → Float} {samples : ℕ} {x : Float} {from i : ℕ} → Reaching offset samples x from i → le x (offset i) ≡ true → Reached offset samples x from i
-reach_found v e = record { after = v.after; inside = v.inside; short = v.short; there = λ h. e }
+-- ---- the library's search
 
-pub reach_none : {offset : ℕ → Float} {samples : ℕ} {x : Float} {from i : ℕ} → Reaching offset samples x from i → (i < samples → ⊥) → Reached offset samples x from i
-reach_none v n = record { after = v.after; inside = v.inside; short = v.short; there = λ h. absurd (n h) }
+-- the points from `low` on, as the library's search sees them
+module _ (offsets : List Float) (points low : ℕ) (h : points ≤ length offsets) (x : Float) where
+  abbrev seen : List Float
+  seen = take (points - low) (drop low offsets)
+
+  abbrev at : ℕ → Float
+  at k = get_or offsets k nan
+
+  seen_length : length seen ≡ points - low
+  seen_length = simp (length-take, length-drop) (omega arith)
+
+  seen_at : (k : ℕ) → k < points - low → (d : Float) → get_or seen k d ≡ at (low + k)
+  seen_at k g d = get_or-take (points - low) (drop low offsets) k d g ∙ get_or-drop low offsets k d ∙ get_or_default offsets (low + k) d nan (omega arith)
+
+  pub seen_parted : Rises (λ k. get_or offsets k nan) points → IsPartitionedBy (λ y. le y x) seen
+  seen_parted r i j d g m e =
+      let n : j < points - low = omega (arith, seen_length) in
+      ap (λ (y : Float). le y x) (seen_at i (omega arith) d)
+      ∙ none_beyond r x (low + j) (omega arith) (ap (λ (y : Float). le y x) (sym (seen_at j n d)) ∙ e) (low + i) (omega arith)
+
+  pub first_parted : NoneBeyond (λ k. get_or offsets k nan) points x low → (i : ℕ) → i ≤ length seen → IsPartitionPoint (λ y. le y x ≡ true) (λ y. le y x ≡ false) seen i → low + i ≡ first_beyond (λ k. get_or offsets k nan) x 0 points
+  first_parted b i l p =
+      let n : i ≤ points - low = omega (arith, seen_length) in
+      sym (first_is at x 0 points (low + i)
+      (record {
+        after = omega arith;
+        inside = omega (arith, b.inside);
+        before = λ j g m. before j m (ltb j low) refl;
+        beyond = λ g.
+            let m : i < points - low = omega arith in
+            ap (λ (y : Float). le y x) (sym (seen_at i m nan)) ∙ p.1 i nan (omega arith) (omega (arith, seen_length));
+      }))
+    where
+      before : (j : ℕ) → j < low + i → (t : Bool) → ltb j low ≡ t → le (at j) x ≡ true
+      before j m true e = b.before j (ltb-true j low e)
+      before j m false e =
+          let g : low ≤ j = ltb-false j low e in
+          let d : low + (j - low) ≡ j = omega arith in
+          let k : j - low < points - low = omega (arith, seen_length) in
+          ap (λ (o : ℕ). le (at o) x) (sym d) ∙ ap (λ (y : Float). le y x) (sym (seen_at (j - low) k nan)) ∙ p.0 (j - low) nan (omega arith) (omega arith)

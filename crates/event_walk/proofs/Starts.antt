@@ -1,21 +1,16 @@
 -- Where the walk begins: the front point found among all points is the one found from the back point on, and it is a point of the path.
 use mathlib.Core.Path.{◌≡◌, refl, sym, ap, ◌∙◌, subst}
 use mathlib.Core.Bool.{Bool, true, false, true≢false}
-use mathlib.Core.List.{List}
-use Prim.Native.Nat.{ℕ, ◌+◌, ◌-◌, ◌*◌, ◌≤◌, ◌<◌}
+use Prim.Native.Nat.{ℕ, ◌-◌, ◌≤◌, ◌<◌}
 use native.Mathlib.Omega.{arith}
 use borrow.Author.Tests.{ltb-true, ltb-false}
 use lib.Dec.{ltb}
-use lib.ListN.{length, get_or}
-use lib.Ieee.{Float, nan, binary64, sub, is_nan}
-use Rattle.floats.proofs.Order.{le_trans, le_not_lt, sub_shrinks, sub_number}
+use lib.Ieee.{Float, binary64, sub}
+use Rattle.floats.proofs.Order.{le_trans, le_not_lt, sub_shrinks}
 use Rattle.book_format.specs.declared.Sample.{Sample}
-use Rattle.book_format.specs.Format.{sample_from}
-use Rattle.book_format.specs.Rows.{bad_sample_from}
-use Rattle.event_walk.specs.declared.Movement.{Movement}
-use Rattle.event_walk.specs.Course.{Course, course_of, Held, Walkable}
+use Rattle.event_walk.specs.Course.{Course, Walkable}
 use Rattle.event_walk.specs.Walk.{first_beyond, start_back, start_front, start, Within}
-use Rattle.event_walk.proofs.Searches.{size_number, First, first_is, first_found}
+use Rattle.event_walk.proofs.Searches.{First, first_is, first_found}
 use Rattle.event_walk.proofs.Turns.{heads}
 
 module _ {c : Course} (w : Walkable c) where
@@ -31,12 +26,6 @@ module _ {c : Course} (w : Walkable c) where
 
   abbrev back : ℕ
   back = first_beyond c.offset tail 0 c.points
-
-  pub head_number : is_nan (c.sample 0).offset ≡ false
-  head_number = size_number head (w.sizes 0 w.some)
-
-  pub tail_number : is_nan (sub binary64 (c.sample 0).offset c.length) ≡ false
-  tail_number = sub_number head c.length (w.sizes 0 w.some) w.train w.bounded
 
   front_first : First c.offset head 0 c.points front
   front_first = first_found c.offset head 0 c.points
@@ -78,42 +67,20 @@ module _ {c : Course} (w : Walkable c) where
         beyond = λ h. front_first.beyond (omega (arith, front_inside));
       })
 
-  pub start_is : (b f : ℕ) → b ≡ back → f ≡ front → heads 1 b f ≡ start c
+  start_is : (b f : ℕ) → b ≡ back → f ≡ front → heads 1 b f ≡ start c
   unfolding start start_front start_back
   start_is b f p q = ap (λ (x : ℕ). heads 1 x f) p ∙ ap (heads 1 back) (q ∙ sym from_back)
 
-  pub start_within : (b f : ℕ) → b ≡ back → f ≡ front → Within c (heads 1 b f)
+  start_within : (b f : ℕ) → b ≡ back → f ≡ front → Within c (heads 1 b f)
   start_within b f p q = record { after = omega arith; order = omega (arith, back_first_too); inside = omega (arith, front_inside) }
 
   pub within_start : Within c (start c)
   within_start = subst (Within c) (start_is back front refl refl) (start_within back front refl refl)
 
--- ---- in the code's words
-
-module _ (b : List ℕ) (offsets : List Float) (m : Movement) (w : Walkable (course_of b offsets m)) where
-  at_first : m.at + 0 * 24 ≡ m.at
-  at_first = omega arith
-
-  pub first_held : Held b offsets m → (m.at + 24 ≤ length b) × (bad_sample_from b m.at ≡ false)
-  unfolding course_of
-  first_held h = let s = w.some in (omega (arith, h.bytes), ap (bad_sample_from b) (sym at_first) ∙ h.floats 0 s)
-
-  module _ (s : Sample) (e : s ≡ sample_from b m.at) where
-    first_is_sample : s.offset ≡ ((course_of b offsets m).sample 0).offset
-    unfolding course_of
-    first_is_sample = ap (λ (x : Sample). x.offset) (e ∙ ap (sample_from b) (sym at_first))
-
-    pub first_number_lem : is_nan s.offset ≡ false
-    first_number_lem = ap is_nan first_is_sample ∙ head_number w
-
-    pub end_number : is_nan (sub binary64 s.offset m.length) ≡ false
-    unfolding course_of
-    end_number = ap (λ (x : Float). is_nan (sub binary64 x m.length)) first_is_sample ∙ tail_number w
-
-    pub started : (x y : ℕ) → x ≡ first_beyond (λ k. get_or offsets k nan) (sub binary64 s.offset m.length) 0 m.points → y ≡ first_beyond (λ k. get_or offsets k nan) s.offset 0 m.points
-        → (heads 1 x y ≡ start (course_of b offsets m)) × Within (course_of b offsets m) (heads 1 x y)
-    unfolding course_of
-    started x y p q =
-        let f = p ∙ ap (λ (o : Float). first_beyond (λ k. get_or offsets k nan) (sub binary64 o m.length) 0 m.points) first_is_sample in
-        let g = q ∙ ap (λ (o : Float). first_beyond (λ k. get_or offsets k nan) o 0 m.points) first_is_sample in
-        (start_is w x y f g, start_within w x y f g)
+  -- in the code's words
+  pub started : (s : Sample) → s ≡ c.sample 0 → (b f : ℕ) → b ≡ first_beyond c.offset (sub binary64 s.offset c.length) 0 c.points → f ≡ first_beyond c.offset s.offset 0 c.points
+      → (heads 1 b f ≡ start c) × Within c (heads 1 b f)
+  started s e b f p q =
+      let x = p ∙ ap (λ (o : Sample). first_beyond c.offset (sub binary64 o.offset c.length) 0 c.points) e in
+      let y = q ∙ ap (λ (o : Sample). first_beyond c.offset o.offset 0 c.points) e in
+      (start_is b f x y, start_within b f x y)

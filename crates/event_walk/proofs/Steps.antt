@@ -1,13 +1,13 @@
 -- What the walking code reads and where it stands, in the definition's words.
 use mathlib.Core.Path.{◌≡◌, refl, sym, ap, ◌∙◌, subst}
-use mathlib.Core.Bool.{Bool, true, false, not, true≢false, and-true, and-false}
+use mathlib.Core.Bool.{Bool, true, false, not, true≢false}
 use mathlib.Core.List.{List, [], ◌∷◌}
 use Prim.Native.Nat.{ℕ, zero, suc, ◌+◌, ◌-◌, ◌*◌, ◌≤◌, ◌<◌}
 use native.Mathlib.Nat.{le_refl}
 use native.Mathlib.Numerals.{add-one}
 use native.Mathlib.Omega.{arith}
-use borrow.Author.Tests.{ltb-true, ltb-false, eqb-true, eq-eqb, ne_eqb}
-use lib.Dec.{T, ltb, eqb}
+use borrow.Author.Tests.{eqb-true, eq-eqb, ne_eqb}
+use lib.Dec.{T, eqb}
 use lib.ListN.{length, get_or}
 use lib.Ieee.{Float, nan, binary64, le, of_bits, nan_bits}
 use Rattle.floats.specs.Floats.{book_float}
@@ -23,15 +23,14 @@ use Rattle.book_format.specs.Format.{sample_from}
 use Rattle.book_format.specs.Rows.{bad_sample_from}
 use Rattle.book_format.proofs.Floats.{book_no_nan, sample_floats}
 use Rattle.event_formula.specs.declared.Passing.{Passing}
-use Rattle.event_formula.specs.Event.{event_offset, clears, passing_at, bad_passing}
+use Rattle.event_formula.specs.Event.{passing_at}
 use Rattle.event_walk.specs.declared.Heads.{Heads}
 use Rattle.event_walk.specs.declared.Movement.{Movement}
 use Rattle.event_walk.specs.declared.PassedPoint.{PassedPoint}
-use Rattle.event_walk.specs.declared.Next.{Next}
-use Rattle.event_walk.specs.declared.Next.TheVariants.{Passed, End}
-use Rattle.event_walk.specs.Course.{Course, course_of, Rises, Walkable}
-use Rattle.event_walk.specs.Search.{Reached, unseen, point_with}
-use Rattle.event_walk.specs.Walk.{offset_next, in_range, clears_next, passed_from, reaches_last, bad_point, Within, NextOf}
+use Rattle.std.specs.Prelude.{Option, Some, None}
+use Rattle.event_walk.specs.Course.{Course, course_of, Held, Rises, Walkable}
+use Rattle.event_walk.specs.Search.{Reached, FirstReaching, unseen, point_with}
+use Rattle.event_walk.specs.Walk.{offset_next, in_range, clears_next, passed_from, reaches_last, Within, NextOf}
 use Rattle.event_walk.proofs.Searches.{rises_le}
 use Rattle.event_walk.proofs.Turns.{heads, passed_past, point_clear, point_arrive, within_on, within_clear, within_arrive, passed_on, passed_unseen, passed_clear, passed_arrive}
 
@@ -44,9 +43,8 @@ pub offset_is : (b : List ℕ) (at n : ℕ) → n ≡ u64_at b (at + 8) → of_b
 unfolding sample_from
 offset_is b at n e = ap (of_bits binary64) e
 
-module _ (b : List ℕ) (m : Movement) (h : m.at + m.samples * 24 ≤ length b) (f : (i : ℕ) → i < m.samples → bad_sample_from b (m.at + i * 24) ≡ false) where
-  pub sample_held : (i : ℕ) → i < m.samples → (m.at + i * 24 + 24 ≤ length b) × (bad_sample_from b (m.at + i * 24) ≡ false)
-  sample_held i g = (omega arith, f i g)
+pub sample_held : {b : List ℕ} {offsets : List Float} {m : Movement} → Held b offsets m → (i : ℕ) → i < m.samples → (m.at + i * 24 + 24 ≤ length b) × (bad_sample_from b (m.at + i * 24) ≡ false)
+sample_held h i g = (omega (arith, h.bytes), h.floats i g)
 
 pub point_is : (s before x y : Sample) (p : Passing) (offset : Float) (point : ℕ) (kind : EstType) → x ≡ s → y ≡ before → p ≡ passing_at x y offset
     → record { time = p.time; offset = offset; speed = p.speed; point = point; est_type = kind } ≡ point_with s before offset point kind
@@ -54,10 +52,6 @@ unfolding point_with
 point_is s before x y p offset point kind e f g =
     ap {B = PassedPoint} (λ (q : Passing). record { time = q.time; offset = offset; speed = q.speed; point = point; est_type = kind })
     (g ∙ ap (λ (z : Sample). passing_at z y offset) e ∙ ap (λ (z : Sample). passing_at s z offset) f)
-
-pub bad_point_is : (p : PassedPoint) (r : Bool) → r ≡ bad_passing (record { time = p.time; speed = p.speed }) → r ≡ bad_point p
-unfolding bad_point
-bad_point_is p r e = e
 
 -- ---- samples that reach the last point
 
@@ -88,23 +82,19 @@ reaches_by b offsets m some r x e = ap (le (get_or offsets (m.points - 1) nan)) 
 
 -- ---- the event that is not emitted
 
-module _ (offsets : List Float) (l : Float) (h : Heads) where
-  pub unseen_first : (r : Bool) → h.pt_idx_back ≡ 0 → r ≡ clears (get_or offsets h.pt_idx_front nan) (get_or offsets 0 nan) l → r ≡ unseen offsets l h
+module _ (c : Course) (h : Heads) where
+  pub unseen_later : (h.pt_idx_back ≡ 0 → ⊥) → unseen c h ≡ false
   unfolding unseen
-  unseen_first r z e = e ∙ sym (rw (z, eq-eqb 0 0 refl, and-true (clears (get_or offsets h.pt_idx_front nan) (get_or offsets 0 nan) l)))
+  unseen_later z = rw (ne_eqb h.pt_idx_back 0 z)
 
-  pub unseen_later : (h.pt_idx_back ≡ 0 → ⊥) → unseen offsets l h ≡ false
-  unfolding unseen
-  unseen_later z = rw (ne_eqb h.pt_idx_back 0 z, and-false (clears (get_or offsets h.pt_idx_front nan) (get_or offsets h.pt_idx_back nan) l))
-
-  pub unseen_is : unseen offsets l h ≡ true → (clears (get_or offsets h.pt_idx_front nan) (get_or offsets h.pt_idx_back nan) l ≡ true) × (h.pt_idx_back ≡ 0)
+  pub unseen_is : unseen c h ≡ true → (clears_next c h ≡ true) × (h.pt_idx_back ≡ 0)
   unfolding unseen
   unseen_is e =
-      let s = clears (get_or offsets h.pt_idx_front nan) (get_or offsets h.pt_idx_back nan) l in
-      let t = eqb h.pt_idx_back 0 in
-      (and_left s t e, eqb-true h.pt_idx_back 0 (and_right s t e))
+      let s = eqb h.pt_idx_back 0 in
+      let t = clears_next c h in
+      (and_right s t e, eqb-true h.pt_idx_back 0 (and_left s t e))
 
-  pub seen_later : unseen offsets l h ≡ false → clears (get_or offsets h.pt_idx_front nan) (get_or offsets h.pt_idx_back nan) l ≡ true → h.pt_idx_back ≡ 0 → ⊥
+  pub seen_later : unseen c h ≡ false → clears_next c h ≡ true → h.pt_idx_back ≡ 0 → ⊥
   unfolding unseen
   seen_later e q z = true≢false (sym (rw (q, z, eq-eqb 0 0 refl)) ∙ e)
 
@@ -120,50 +110,54 @@ module _ {c : Course} (w : Walkable c) where
       ∙ skips d (suc i) b f (within_on w v (suc i) (omega arith)) (λ h. omega (arith, l (omega arith))) (λ k g h. r k (omega arith) (omega arith))
       ∙ ap (λ (k : ℕ). passed_from c (heads k b f)) e
 
+  module _ {h : Heads} (v : Within c h) (x : Float) (e : x ≡ offset_next c h) where
+    short : (k : ℕ) → le x (c.sample k).offset ≡ false → in_range c (heads k h.pt_idx_back h.pt_idx_front) ≡ false
+    unfolding in_range offset_next
+    short k f = ap (λ (y : Float). le y (c.sample k).offset) (sym e) ∙ f
+
+    -- no sample is in range
+    pub next_none : FirstReaching (λ k. (c.sample k).offset) c.samples x h.i None → passed_from c h ≡ []
+    next_none f =
+        skips (c.samples - h.i) h.i h.pt_idx_back h.pt_idx_front v (λ (g : 0 < c.samples - h.i). omega arith) (λ k g l. short k (f k g (omega arith)))
+        ∙ passed_past c (heads (h.i + (c.samples - h.i)) h.pt_idx_back h.pt_idx_front) (λ (g : h.i + (c.samples - h.i) < c.samples). omega arith)
+
   module _ {h : Heads} (v : Within c h) (x : Float) (e : x ≡ offset_next c h) (i : ℕ) (r : Reached (λ k. (c.sample k).offset) c.samples x h.i i) where
     abbrev there : Heads
     there = heads i h.pt_idx_back h.pt_idx_front
 
     to_there : passed_from c h ≡ passed_from c there
-    unfolding in_range offset_next passed_from
     to_there =
         let d : h.i + (i - h.i) ≡ i = omega (arith, r.after) in
-        skips (i - h.i) h.i h.pt_idx_back h.pt_idx_front v (λ (g : 0 < i - h.i). omega (arith, r.inside (omega arith)))
-        (λ k g l. ap (λ (y : Float). le y (c.sample k).offset) (sym e) ∙ r.short k g (omega arith))
+        skips (i - h.i) h.i h.pt_idx_back h.pt_idx_front v (λ (g : 0 < i - h.i). omega (arith, r.inside)) (λ k g l. short v x e k (r.short k g (omega arith)))
         ∙ ap (λ (k : ℕ). passed_from c (heads k h.pt_idx_back h.pt_idx_front)) d
 
     within_there : Within c there
     within_there = within_on w v i (omega (arith, v.after, r.after))
 
-    in_range_lem : i < c.samples → in_range c there ≡ true
+    in_range_lem : in_range c there ≡ true
     unfolding in_range offset_next
-    in_range_lem g = ap (λ (y : Float). le y (c.sample i).offset) (sym e) ∙ r.there g
+    in_range_lem = ap (λ (y : Float). le y (c.sample i).offset) (sym e) ∙ r.there
 
-    pub next_none : (i < c.samples → ⊥) → passed_from c h ≡ []
-    next_none g = to_there ∙ passed_past c there g
-
-    pub next_cleared : (p : PassedPoint) → i < c.samples → clears_next c h ≡ true → (h.pt_idx_back ≡ 0 → ⊥) → p ≡ point_with (c.sample i) (c.sample (i - 1)) x h.pt_idx_back Clear
+    pub next_cleared : (p : PassedPoint) → clears_next c h ≡ true → (h.pt_idx_back ≡ 0 → ⊥) → p ≡ point_with (c.sample i) (c.sample (i - 1)) x h.pt_idx_back Clear
         → (passed_from c h ≡ p ∷ passed_from c (heads i (h.pt_idx_back + 1) h.pt_idx_front)) × Within c (heads i (h.pt_idx_back + 1) h.pt_idx_front)
     unfolding clears_next offset_next
-    next_cleared p g q z f =
-        let a = in_range_lem g in
+    next_cleared p q z f =
         subst (λ (n : ℕ). (passed_from c h ≡ p ∷ passed_from c (heads i n h.pt_idx_front)) × Within c (heads i n h.pt_idx_front)) (sym (add-one h.pt_idx_back)) (
           to_there
-              ∙ passed_clear w within_there g a q z
+              ∙ passed_clear w within_there r.inside in_range_lem q z
               ∙ ap (λ (y : PassedPoint). y ∷ passed_from c (heads i (suc h.pt_idx_back) h.pt_idx_front)) (sym (f ∙ point_clear c there x e q)),
           within_clear w within_there q,
         )
 
-    pub next_arrived : (p : PassedPoint) → i < c.samples → clears_next c h ≡ false → p ≡ point_with (c.sample i) (c.sample (i - 1)) x h.pt_idx_front Arrive
+    pub next_arrived : (p : PassedPoint) → clears_next c h ≡ false → p ≡ point_with (c.sample i) (c.sample (i - 1)) x h.pt_idx_front Arrive
         → (passed_from c h ≡ p ∷ passed_from c (heads i h.pt_idx_back (h.pt_idx_front + 1))) × Within c (heads i h.pt_idx_back (h.pt_idx_front + 1))
     unfolding clears_next offset_next
-    next_arrived p g q f =
-        let a = in_range_lem g in
+    next_arrived p q f =
         subst (λ (n : ℕ). (passed_from c h ≡ p ∷ passed_from c (heads i h.pt_idx_back n)) × Within c (heads i h.pt_idx_back n)) (sym (add-one h.pt_idx_front)) (
           to_there
-              ∙ passed_arrive w within_there g a q
+              ∙ passed_arrive w within_there r.inside in_range_lem q
               ∙ ap (λ (y : PassedPoint). y ∷ passed_from c (heads i h.pt_idx_back (suc h.pt_idx_front))) (sym (f ∙ point_arrive c there x e q)),
-          within_arrive w within_there g a q,
+          within_arrive w within_there r.inside in_range_lem q,
         )
 
     -- the first point is passed, and nothing is emitted
@@ -172,20 +166,9 @@ module _ {c : Course} (w : Walkable c) where
     next_unseen q z =
         let one : suc h.pt_idx_back ≡ 1 = ap suc z in
         subst (λ (n : ℕ). (passed_from c h ≡ passed_from c (heads i n h.pt_idx_front)) × Within c (heads i n h.pt_idx_front)) one
-        (to_there ∙ go (ltb i c.samples) refl, within_clear w within_there q)
-      where
-        go : (t : Bool) → ltb i c.samples ≡ t → passed_from c there ≡ passed_from c (heads i (suc h.pt_idx_back) h.pt_idx_front)
-        go true d = let g = ltb-true i c.samples d in passed_unseen w within_there g (in_range_lem g) q z
-        go false d =
-            let g : c.samples ≤ i = ltb-false i c.samples d in
-            passed_past c there (λ (l : i < c.samples). omega arith) ∙ sym (passed_past c (heads i (suc h.pt_idx_back) h.pt_idx_front) (λ (l : i < c.samples). omega arith))
-
--- with the back point the first
-pub unseen_offset : (b : List ℕ) (offsets : List Float) (m : Movement) (h : Heads) (x : Float) → h.pt_idx_back ≡ 0 → x ≡ event_offset (get_or offsets h.pt_idx_front nan) (get_or offsets 0 nan) m.length → x ≡ offset_next (course_of b offsets m) h
-unfolding offset_next course_of
-unseen_offset b offsets m h x z e = e ∙ ap (λ (k : ℕ). event_offset (get_or offsets h.pt_idx_front nan) (get_or offsets k nan) m.length) (sym z)
+        (to_there ∙ passed_unseen w within_there r.inside in_range_lem q z, within_clear w within_there q)
 
 -- what is next from there on is next
-pub next_from : (c : Course) (h g : Heads) → passed_from c h ≡ passed_from c g → (r : Next) → NextOf c g r → NextOf c h r
-next_from c h g e (Passed p k) n = (e ∙ n.0, n.1)
-next_from c h g e End n = e ∙ n
+pub next_from : (c : Course) (h g : Heads) → passed_from c h ≡ passed_from c g → (r : Option (PassedPoint × Heads)) → NextOf c g r → NextOf c h r
+next_from c h g e (Some (p, k)) n = (e ∙ n.0, n.1)
+next_from c h g e None n = e ∙ n

@@ -1,3 +1,4 @@
 pub mod Course
 pub mod Walk
+pub mod Held
 pub mod Search

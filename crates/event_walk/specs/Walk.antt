@@ -1,7 +1,7 @@
 -- The walk of the source's `update_est_times_add`: which points are passed, in order, and when. The back point is the
 -- next that the train's end reaches, the front point the next that its front reaches; the event that comes first is
 -- emitted and its point moves on, sample by sample.
-use Rattle.std.specs.Prelude.{◌≡◌, Bool, true, false, not, ◌&&◌, ◌||◌, cond, List, [], ◌∷◌, ℕ, zero, suc, ◌+◌, ◌-◌, ◌≤◌, ◌<◌, ltb, eqb, Float}
+use Rattle.std.specs.Prelude.{◌≡◌, Bool, true, false, not, ◌&&◌, ◌||◌, cond, List, [], ◌∷◌, ℕ, zero, suc, ◌+◌, ◌-◌, ◌≤◌, ◌<◌, ltb, eqb, Float, Option, Some, None}
 use Rattle.std.specs.Float.{binary64}
 use Rattle.std.specs.Float.Ieee.{sub, le}
 use Rattle.laws.specs.Below.{some_below}
@@ -10,8 +10,6 @@ use Rattle.event_formula.specs.declared.Passing.{Passing}
 use Rattle.event_formula.specs.Event.{event_offset, clears, passing_at, bad_passing}
 use Rattle.event_walk.specs.declared.Heads.{Heads}
 use Rattle.event_walk.specs.declared.PassedPoint.{PassedPoint}
-use Rattle.event_walk.specs.declared.Next.{Next}
-use Rattle.event_walk.specs.declared.Next.TheVariants.{Passed, End}
 use Rattle.event_walk.specs.Course.{Course}
 
 -- ---- where the walk begins
@@ -167,6 +165,6 @@ pub record Within (c : Course) (h : Heads) : Type 0 where
   pub inside : h.pt_idx_front < c.points
 
 -- the next point passed and the heads behind it, or that there is none
-abbrev pub NextOf : Course → Heads → Next → Type 0
-NextOf c h (Passed p g) = (passed_from c h ≡ p ∷ passed_from c g) × Within c g
-NextOf c h End = passed_from c h ≡ []
+abbrev pub NextOf : Course → Heads → Option (PassedPoint × Heads) → Type 0
+NextOf c h (Some (p, g)) = (passed_from c h ≡ p ∷ passed_from c g) × Within c g
+NextOf c h None = passed_from c h ≡ []

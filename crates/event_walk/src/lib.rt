@@ -3,15 +3,18 @@
 
 ghost use Rattle.std.specs.Prelude.{◌≡◌, true, false, ℕ, ◌+◌, ◌-◌, ◌*◌, ◌≤◌, ◌<◌, length, get_or};
 ghost use Rattle.std.specs.Float.{nan};
-ghost use Rattle.std.specs.Float.Ieee.{is_nan};
+ghost use Rattle.std.proofs.Props.{props};
 ghost use Rattle.book_format.specs.Format.{sample_from, sample_width};
 ghost use Rattle.book_format.specs.Rows.{bad_sample_from};
 ghost use Rattle.event_walk.specs.Course.{course_of, Held, Rises, Walkable};
-ghost use Rattle.event_walk.specs.Search.{Between, Reached, unseen, sample_of, point_with};
-ghost use Rattle.event_walk.specs.Walk.{first_beyond, start, reaches_last, bad_point, Within, NextOf};
+ghost use Rattle.event_walk.specs.Search.{NoneBeyond, FirstReaching, unseen, point_with};
+ghost use Rattle.event_walk.specs.Walk.{first_beyond, start, reaches_last, points_passed, bad_point, Within, NextOf};
+ghost use Rattle.event_walk.specs.Walk.{offset_next, clears_next};
 
+use book_format::Sample;
 use event_formula::Passing;
 use net_node::EstType;
+use std::marker::Model;
 
 // A train's samples, which stand in bytes from `at` on, its path's points, and its length.
 #[derive(Clone, Copy)]
@@ -20,6 +23,17 @@ pub struct Movement {
     pub samples: usize,
     pub points: usize,
     pub length: f64,
+}
+
+// What the walk of a leg looks at: the bytes in which its samples stand, and the offsets of its path's points. Rows 3, 4
+// and 7 let both through, and no sample reaches the last point.
+#[derive(Clone, Copy)]
+pub struct Course<'a> {
+    pub samples: &'a [u8],
+    pub offsets: &'a [f64],
+    pub movement: Movement,
+    ghost held: { Held samples.now offsets.now movement } by { Prim.hlevel props },
+    ghost walkable: { Walkable (course_of samples.now offsets.now movement) } by { Prim.hlevel props },
 }
 
 // The sample up to which the walk looks, and the next point for the train's end and for its front.
@@ -40,11 +54,54 @@ pub struct PassedPoint {
     pub est_type: EstType,
 }
 
-// The next event and the heads behind it, or that there is none.
-#[derive(Clone, Copy)]
-pub enum Next {
-    Passed(PassedPoint, Heads),
-    End,
+impl PassedPoint {
+    // Row 11: whether an event's speed or time is no number, or its time too large.
+    #[tactic(auto, unfolding(crate::specs::Walk::bad_point))]
+    pub fn is_bad(self) -> bool
+        ensures { result ≡ bad_point self }
+    {
+        event_formula::is_bad(Passing {
+            time: self.time,
+            speed: self.speed,
+        })
+    }
+}
+
+// The points that a leg's samples have still to pass, in order: its events. A contract sees their list.
+#[derive(Drop)]
+pub struct PassedPoints<'a> {
+    course: Course<'a>,
+    heads: Heads,
+}
+
+impl<'a> Model for PassedPoints<'a> {
+    ghost use Rattle.std.specs.Prelude.{List};
+    ghost use Rattle.event_walk.specs.declared.PassedPoint.{PassedPoint};
+    ghost use Rattle.event_walk.specs.Walk.{passed_from, Within};
+    ghost use Rattle.event_walk.specs.Held.{course_held};
+
+    ghost Value = { List PassedPoint };
+
+    ghost view = { λ p. passed_from (course_held p.course) p.heads };
+
+    ghost invariant = { λ p. Within (course_held p.course) p.heads };
+}
+
+// The next point that is passed.
+impl<'a> Iterator for PassedPoints<'a> {
+    type Item = PassedPoint;
+
+    ghost use Rattle.std.specs.Iterator.{YieldsFirst, item_count};
+
+    ghost next_gives = { YieldsFirst (λ points. points) };
+
+    ghost remaining = { item_count (λ points. points) };
+
+    fn next(&mut self) -> Option<PassedPoint> {
+        let (point, heads) = self.course.next_event(self.heads)?;
+        self.heads = heads;
+        Some(point)
+    }
 }
 
 // Whether a sample reaches the last point (row 11). Offsets never fall, so the last sample tells for all.
@@ -59,78 +116,31 @@ pub fn reaches_last(book: &[u8], offsets: &[f64], m: Movement) -> bool
     offsets[m.points - 1] <= farthest
 }
 
-// The points from `low` on and below `high`: the first that lies beyond an offset is among them, or it is `high`.
-#[derive(Clone, Copy)]
-struct Span {
-    low: usize,
-    high: usize,
-}
-
-// The point that stands so many before another, or the first.
-fn points_before(high: usize, step: usize) -> usize
-    ensures { result ≡ high - step }
-{
-    if step < high { high - step } else { 0 }
-}
-
-// From the last point back by steps that double, until a point is not beyond x: the cost doesn't grow with the points
-// behind it.
-fn gallop(offsets: &[f64], points: usize, x: f64) -> Span
+// A point with none beyond x before it, sought from the last point back by steps that double: the cost doesn't grow with
+// the points behind it.
+fn gallop(offsets: &[f64], points: usize, x: f64) -> usize
     requires points_in_bounds { points ≤ length offsets.now }
     requires rises { Rises (λ k. get_or offsets.now k nan) points }
-    requires x_value { is_nan x ≡ false }
-    ensures { Between (λ k. get_or offsets.now k nan) points x result.low result.high }
+    ensures { NoneBeyond (λ k. get_or offsets.now k nan) points x result }
 {
-    let mut high = points;
     let mut step = 1;
-    while 0 < high {
-        let at = points_before(high, step);
-        if offsets[at] <= x {
-            return Span { low: at + 1, high };
+    while step <= points {
+        if offsets[points - step] <= x {
+            return points - step;
         }
-        high = at;
-        step = step * 2;
+        step *= 2;
     }
-    Span { low: 0, high }
+    0
 }
 
 // The first of the points that lies beyond x, or their number.
 fn first_beyond(offsets: &[f64], points: usize, x: f64) -> usize
     requires points_in_bounds { points ≤ length offsets.now }
     requires rises { Rises (λ k. get_or offsets.now k nan) points }
-    requires x_value { is_nan x ≡ false }
     ensures { result ≡ first_beyond (λ k. get_or offsets.now k nan) x 0 points }
 {
-    let span = gallop(offsets, points, x);
-    let mut low = span.low;
-    let mut high = span.high;
-    while low < high {
-        let middle = (low + high) / 2;
-        if offsets[middle] <= x {
-            low = middle + 1;
-        } else {
-            high = middle;
-        }
-    }
-    low
-}
-
-// Where the walk begins.
-pub fn start_heads(book: &[u8], offsets: &[f64], m: Movement) -> Heads
-    requires held { Held book.now offsets.now m }
-    requires walkable { Walkable (course_of book.now offsets.now m) }
-    ensures is { result ≡ start (course_of book.now offsets.now m) }
-    ensures within { Within (course_of book.now offsets.now m) result }
-{
-    let first = book_format::sample_from(book, m.at);
-    let end = first.offset - m.length;
-    let pt_idx_back = first_beyond(offsets, m.points, end);
-    let pt_idx_front = first_beyond(offsets, m.points, first.offset);
-    Heads {
-        i: 1,
-        pt_idx_back,
-        pt_idx_front,
-    }
+    let low = gallop(offsets, points, x);
+    low + offsets[low..points].partition_point(|offset| *offset <= x)
 }
 
 // The offset of the sample whose first byte is at `at`.
@@ -142,136 +152,162 @@ fn sample_offset(book: &[u8], at: usize) -> f64
     f64::from_bits(fields::u64_at(book, at + 8))
 }
 
-// The first sample from `from` on that reaches x, or where the samples end.
-fn first_reaching(book: &[u8], m: Movement, from: usize, x: f64) -> usize
-    requires sample_width_in_bounds { m.at + m.samples * sample_width ≤ length book.now }
-    requires by_index { (i : ℕ) → i < m.samples → bad_sample_from book.now (m.at + i * sample_width) ≡ false }
-    ensures { Reached (λ i. (sample_of book.now m i).offset) m.samples x from result }
-{
-    let mut i = from;
-    while i < m.samples {
-        let offset = sample_offset(book, m.at + i * book_format::SAMPLE_WIDTH);
-        if x <= offset {
-            return i;
+impl<'a> Course<'a> {
+    ghost use Rattle.event_walk.specs.Held.{course_held};
+
+    // The points that the samples pass, in order: the leg's events.
+    #[tactic(auto, unfolding(crate::specs::Walk::points_passed))]
+    pub fn passed_points(&self) -> PassedPoints<'a>
+        ensures { result ≡ points_passed (course_held self.now) }
+    {
+        PassedPoints {
+            course: *self,
+            heads: self.start_heads(),
         }
-        i += 1;
     }
-    i
-}
 
-// A point that is passed at an offset on the way to sample i.
-fn passed_at(
-    book: &[u8],
-    m: Movement,
-    i: usize,
-    offset: f64,
-    point: usize,
-    est_type: EstType,
-) -> PassedPoint
-    requires sample_width_in_bounds { m.at + m.samples * sample_width ≤ length book.now }
-    requires by_index { (k : ℕ) → k < m.samples → bad_sample_from book.now (m.at + k * sample_width) ≡ false }
-    requires i_nonzero { 0 < i }
-    requires i_lt_samples { i < m.samples }
-    ensures { result ≡ point_with (sample_of book.now m i) (sample_of book.now m (i - 1))
-        offset point est_type }
-{
-    let s = book_format::sample_from(book, m.at + i * book_format::SAMPLE_WIDTH);
-    let before = book_format::sample_from(book, m.at + (i - 1) * book_format::SAMPLE_WIDTH);
-    let p = event_formula::pass_at(s, before, offset);
-    PassedPoint {
-        time: p.time,
-        offset,
-        speed: p.speed,
-        point,
-        est_type,
+    // Sample i.
+    #[tactic(auto, unfolding(crate::specs::Course::course_of))]
+    fn sample(&self, i: usize) -> Sample
+        requires { i < (course_held self.now).samples }
+        ensures { result ≡ (course_held self.now).sample i }
+    {
+        book_format::sample_from(
+            self.samples,
+            self.movement.at + i * book_format::SAMPLE_WIDTH,
+        )
     }
-}
 
-// Whether the next event is that the train's end passes the first point: the back index becomes 1, and nothing is
-// emitted.
-fn is_unseen(offsets: &[f64], m: Movement, h: Heads) -> bool
-    requires pt_idx_back_in_bounds { h.pt_idx_back < length offsets.now }
-    requires pt_idx_front_in_bounds { h.pt_idx_front < length offsets.now }
-    ensures { result ≡ unseen offsets.now m.length h }
-{
-    let pt_idx_front = h.pt_idx_front;
-    if h.pt_idx_back == 0 {
-        event_formula::is_clear(offsets[pt_idx_front], offsets[0], m.length)
-    } else {
-        false
+    // Where the walk begins.
+    #[tactic(auto, unfolding(crate::specs::Course::course_of))]
+    fn start_heads(&self) -> Heads
+        ensures is { result ≡ start (course_held self.now) }
+        ensures within { Within (course_held self.now) result }
+    {
+        let m = self.movement;
+        let first = self.sample(0);
+        let end = first.offset - m.length;
+        Heads {
+            i: 1,
+            pt_idx_back: first_beyond(self.offsets, m.points, end),
+            pt_idx_front: first_beyond(self.offsets, m.points, first.offset),
+        }
     }
-}
 
-// The next point that is passed, where the next event is emitted.
-fn seen_event(book: &[u8], offsets: &[f64], m: Movement, h: Heads) -> Next
-    requires held { Held book.now offsets.now m }
-    requires walkable { Walkable (course_of book.now offsets.now m) }
-    requires within { Within (course_of book.now offsets.now m) h }
-    requires h_value { unseen offsets.now m.length h ≡ false }
-    ensures { NextOf (course_of book.now offsets.now m) h result }
-{
-    let pt_idx_back = h.pt_idx_back;
-    let pt_idx_front = h.pt_idx_front;
-    let back = offsets[pt_idx_back];
-    let front = offsets[pt_idx_front];
-    let offset_next = event_formula::event_offset(front, back, m.length);
-    let i = first_reaching(book, m, h.i, offset_next);
-    if i >= m.samples {
-        return Next::End;
+    // The first sample from `from` on that reaches x.
+    #[tactic(auto, unfolding(crate::specs::Course::course_of))]
+    fn first_reaching(&self, from: usize, x: f64) -> Option<usize>
+        ensures { FirstReaching (λ i. ((course_held self.now).sample i).offset) (course_held self.now).samples x from result }
+    {
+        let m = self.movement;
+        for i in from..m.samples {
+            let offset = sample_offset(self.samples, m.at + i * book_format::SAMPLE_WIDTH);
+            if x <= offset {
+                return Some(i);
+            }
+        }
+        None
     }
-    if event_formula::is_clear(front, back, m.length) {
-        let p = passed_at(book, m, i, offset_next, pt_idx_back, EstType::Clear);
-        return Next::Passed(
+
+    // A point that is passed at an offset on the way to sample i.
+    #[tactic(auto, unfolding(crate::specs::Search::point_with))]
+    fn passed_at(&self, i: usize, offset: f64, point: usize, est_type: EstType) -> PassedPoint
+        requires i_nonzero { 0 < i }
+        requires i_lt_samples { i < (course_held self.now).samples }
+        ensures { result ≡ point_with ((course_held self.now).sample i) ((course_held self.now).sample (i - 1))
+            offset point est_type }
+    {
+        let s = self.sample(i);
+        let before = self.sample(i - 1);
+        let p = event_formula::pass_at(s, before, offset);
+        PassedPoint {
+            time: p.time,
+            offset,
+            speed: p.speed,
+            point,
+            est_type,
+        }
+    }
+
+    // Where the next event is.
+    #[tactic(auto, unfolding(crate::specs::Course::course_of, crate::specs::Walk::offset_next))]
+    fn offset_next(&self, h: Heads) -> f64
+        requires within { Within (course_held self.now) h }
+        ensures { result ≡ offset_next (course_held self.now) h }
+    {
+        let front = self.offsets[h.pt_idx_front];
+        let back = self.offsets[h.pt_idx_back];
+        event_formula::event_offset(front, back, self.movement.length)
+    }
+
+    // Whether the next event is a Clear.
+    #[tactic(auto, unfolding(crate::specs::Course::course_of, crate::specs::Walk::clears_next))]
+    fn clears_next(&self, h: Heads) -> bool
+        requires within { Within (course_held self.now) h }
+        ensures { result ≡ clears_next (course_held self.now) h }
+    {
+        let front = self.offsets[h.pt_idx_front];
+        let back = self.offsets[h.pt_idx_back];
+        event_formula::is_clear(front, back, self.movement.length)
+    }
+
+    // Whether the next event is that the train's end passes the first point: the back index becomes 1, and nothing is
+    // emitted.
+    #[tactic(auto, unfolding(crate::specs::Search::unseen))]
+    fn is_unseen(&self, h: Heads) -> bool
+        requires within { Within (course_held self.now) h }
+        ensures { result ≡ unseen (course_held self.now) h }
+    {
+        h.pt_idx_back == 0 && self.clears_next(h)
+    }
+
+    // The next point that is passed, where the next event is emitted.
+    #[tactic(auto, unfolding(crate::specs::Course::course_of))]
+    fn seen_event(&self, h: Heads) -> Option<(PassedPoint, Heads)>
+        requires within { Within (course_held self.now) h }
+        requires h_value { unseen (course_held self.now) h ≡ false }
+        ensures { NextOf (course_held self.now) h result }
+    {
+        let offset_next = self.offset_next(h);
+        let i = self.first_reaching(h.i, offset_next)?;
+        if self.clears_next(h) {
+            let p = self.passed_at(i, offset_next, h.pt_idx_back, EstType::Clear);
+            let pt_idx_back = h.pt_idx_back + 1;
+            return Some((
+                p,
+                Heads {
+                    i,
+                    pt_idx_back,
+                    ..h
+                },
+            ));
+        }
+        let p = self.passed_at(i, offset_next, h.pt_idx_front, EstType::Arrive);
+        let pt_idx_front = h.pt_idx_front + 1;
+        Some((
             p,
             Heads {
                 i,
-                pt_idx_back: pt_idx_back + 1,
                 pt_idx_front,
+                ..h
             },
-        );
+        ))
     }
-    let p = passed_at(book, m, i, offset_next, pt_idx_front, EstType::Arrive);
-    Next::Passed(
-        p,
-        Heads {
+
+    // The next point that is passed, and the heads behind it.
+    fn next_event(&self, h: Heads) -> Option<(PassedPoint, Heads)>
+        requires within { Within (course_held self.now) h }
+        ensures { NextOf (course_held self.now) h result }
+    {
+        if !self.is_unseen(h) {
+            return self.seen_event(h);
+        }
+        let i = self.first_reaching(h.i, self.offset_next(h))?;
+        let pt_idx_back = 1;
+        self.seen_event(Heads {
             i,
             pt_idx_back,
-            pt_idx_front: pt_idx_front + 1,
-        },
-    )
-}
-
-// The next point that is passed, and the heads behind it.
-pub fn next_event(book: &[u8], offsets: &[f64], m: Movement, h: Heads) -> Next
-    requires held { Held book.now offsets.now m }
-    requires walkable { Walkable (course_of book.now offsets.now m) }
-    requires within { Within (course_of book.now offsets.now m) h }
-    ensures { NextOf (course_of book.now offsets.now m) h result }
-{
-    if is_unseen(offsets, m, h) {
-        let pt_idx_front = h.pt_idx_front;
-        let offset_next = event_formula::event_offset(offsets[pt_idx_front], offsets[0], m.length);
-        let i = first_reaching(book, m, h.i, offset_next);
-        return seen_event(
-            book,
-            offsets,
-            m,
-            Heads {
-                i,
-                pt_idx_back: 1,
-                pt_idx_front,
-            },
-        );
+            ..h
+        })
     }
-    seen_event(book, offsets, m, h)
-}
-
-// Row 11: whether an event's speed or time is no number, or its time too large.
-pub fn is_bad_point(p: PassedPoint) -> bool
-    ensures { result ≡ bad_point p }
-{
-    event_formula::is_bad(Passing {
-        time: p.time,
-        speed: p.speed,
-    })
 }

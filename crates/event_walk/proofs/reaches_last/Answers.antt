@@ -5,7 +5,7 @@ use Rattle.event_walk.proofs.reaches_last.Goals as goal
 
 pub sample_offset-farthest-requires : goal.sample_offset-farthest-requires
 sample_offset-farthest-requires c = let q = c.requires in
-    let all = sample_held _ c.args.m q.held.bytes q.held.floats _ (omega (arith, q.samples_nonzero)) in
+    let all = sample_held q.held _ (omega (arith, q.samples_nonzero)) in
     record {
       sample_width_in_bounds = all.0;
       at_value = all.1;
