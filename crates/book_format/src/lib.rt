@@ -438,7 +438,7 @@ impl<'a> ValidBook<'a> {
     // The book, whose rows 4 and 5 have passed.
     pub fn book(&self) -> &Book<'a>
         ensures is { result.now ≡ self.now }
-        ensures valid { Valid result.now }
+        ensures valid { Valid self.now }
     {
         &self.book
     }
