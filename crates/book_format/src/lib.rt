@@ -114,7 +114,7 @@ pub struct Sample {
 }
 
 // The patterns of a sample's floats, whatever they are.
-#[derive(Clone, Copy)]
+#[derive(Clone, Copy, PartialEq, Eq)]
 pub struct SamplePatterns {
     pub time: u64,
     pub offset: u64,
@@ -485,7 +485,7 @@ impl<'a> ReadableBook<'a> {
     // The book, valid as it is.
     pub fn valid(&self) -> &ValidBook<'a>
         ensures is { result.now ≡ self.now }
-        ensures readable { Readable self.now }
+        ensures readable { Readable result.now }
     {
         &self.book
     }
@@ -493,7 +493,7 @@ impl<'a> ReadableBook<'a> {
     // The book, whose legs can be followed.
     pub fn book(&self) -> &Book<'a>
         ensures is { result.now ≡ self.now }
-        ensures readable { Readable self.now }
+        ensures readable { Readable result.now }
     {
         self.book.book()
     }

@@ -1,5 +1,5 @@
 -- What a readable book says of one leg: its parent stands above it, it has a sample, and its samples lie within the book's.
-use mathlib.Core.Path.{◌≡◌, refl, sym, ap, ◌∙◌, subst}
+use mathlib.Core.Path.{◌≡◌, refl, sym, ap, ◌∙◌}
 use mathlib.Core.Bool.{Bool, true, false, not, ◌||◌, or-true, or-false}
 use mathlib.Core.List.{List}
 use Prim.Native.Nat.{ℕ, zero, suc, ◌+◌, ◌≤◌, ◌<◌}
@@ -7,13 +7,11 @@ use native.Mathlib.Omega.{arith}
 use lib.Dec.{eqb}
 use borrow.Author.Tests.{eqb-false}
 use Rattle.laws.proofs.Below.{none_at, sum_more, sum_part}
-use Rattle.book_format.specs.declared.Sections.{Sections}
 use Rattle.book_format.specs.declared.Leg.{Leg}
 use Rattle.book_format.specs.Format.{legs, samples, leg_parent, leg_samples, first_sample, leg_at}
 use Rattle.book_format.specs.Rows.{begins, leg_begins, leg_falls}
 use Rattle.book_format.specs.Chains.{Readable}
 use Rattle.book_format.proofs.Given.{limits, leg_above, leg_parent_lem, leg_samples_lem}
-use Rattle.book_format.proofs.Places.{sized_legs}
 use Rattle.book_legs.specs.Legs.{begins_at, falls_from}
 
 -- ---- where a leg's samples stand
@@ -36,13 +34,7 @@ pub record LegIn (b : List ℕ) (i : ℕ) : Type 0 where
   pub limit : samples b ≤ 1000000
   pub number : i + 1 ≤ 65535
 
-module _ {b : List ℕ} {s : Sections} (r : Readable b s) where
-  pub leg_within : (i : ℕ) → i < legs b → i < s.legs
-  leg_within i h = subst (λ (n : ℕ). i < n) (sym (sized_legs r.sized)) h
-
-  pub leg_under : (i : ℕ) → i < s.legs → i < legs b
-  leg_under i h = subst (λ (n : ℕ). i < n) (sized_legs r.sized) h
-
+module _ {b : List ℕ} (r : Readable b) where
   some_sample : (i : ℕ) → i < legs b → 1 ≤ leg_samples b i
   some_sample i h =
       let e : leg_samples b i ≡ 0 → ⊥ = eqb-false (leg_samples b i) 0 (none_at (legs b) (λ j. eqb (leg_samples b j) 0) i h r.counted.some) in

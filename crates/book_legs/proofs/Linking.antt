@@ -11,7 +11,6 @@ use Rattle.laws.proofs.Below.{none_more, some_at}
 use Rattle.laws.proofs.Truth.{or_left, or_right, none_left, none_right, neither}
 use Rattle.space.specs.Space.{zeros}
 use Rattle.space.proofs.Zeros.{zeros_length}
-use Rattle.book_format.specs.declared.Sections.{Sections}
 use Rattle.book_format.specs.declared.Leg.{Leg}
 use Rattle.book_format.specs.Format.{legs, leg_parent, first_sample, leg_at}
 use Rattle.book_format.specs.Rows.{leg_falls, leg_begins}
@@ -35,7 +34,7 @@ linking_start b cells z = record { is = z; begun = refl; falls = refl; begins = 
 pub linking_length : {b : List ℕ} {len : ℕ} {cells : List ℕ} {i first : ℕ} → Linking b len cells i first → length cells ≡ len
 linking_length {b} {len} {cells} {i} l = ap length l.is ∙ linked_length b i (zeros len) ∙ zeros_length len
 
-pub room_of : {b : List ℕ} {s : Sections} → Readable b s → (len : ℕ) → (legs b + 1) * 8 ≤ len → Room b len
+pub room_of : {b : List ℕ} → Readable b → (len : ℕ) → (legs b + 1) * 8 ≤ len → Room b len
 room_of r len h = record { room = h; parents = λ i g. (leg_in_lem r i g).parent }
 
 -- the parent's end, as the cells have it

@@ -15,7 +15,7 @@ use Rattle.book_format.specs.declared.Leg.{Leg}
 use Rattle.book_format.specs.Format.{links, legs, leg_link, leg_parent, leg_at}
 use Rattle.book_format.specs.Chains.{leg_below}
 use Rattle.book_format.proofs.Given.{leg_link_lem, leg_parent_lem}
-use Rattle.book_legs.specs.declared.LegSearch.TheVariants.{Found, Missing}
+use Rattle.std.proofs.Common.{Some, None}
 use Rattle.book_legs.specs.Legs.{search_of, leg_search, Started, Named, SameBut}
 
 -- ---- one leg after the other
@@ -100,9 +100,9 @@ search_as : (b : List ℕ) (l n : ℕ) → n ≡ leg_below b (legs b) 0 l → se
 unfolding leg_search
 search_as b l n e = ap search_of e
 
-pub start_missing : (b marks : List ℕ) (l : ℕ) → Started b marks → l < links b → get_or marks (links b + l) 0 ≡ 0 → Missing ≡ leg_search b 0 l
+pub start_missing : (b marks : List ℕ) (l : ℕ) → Started b marks → l < links b → get_or marks (links b + l) 0 ≡ 0 → None ≡ leg_search b 0 l
 start_missing b marks l s h e = search_as b l 0 (sym e ∙ s.starts l h)
 
-pub start_found : (b marks : List ℕ) (l n : ℕ) → Started b marks → l < links b → get_or marks (links b + l) 0 ≡ n → (n ≡ 0 → ⊥) → Found n ≡ leg_search b 0 l
+pub start_found : (b marks : List ℕ) (l n : ℕ) → Started b marks → l < links b → get_or marks (links b + l) 0 ≡ n → (n ≡ 0 → ⊥) → Some n ≡ leg_search b 0 l
 start_found b marks l zero s h e some = absurd (some refl)
 start_found b marks l (suc n) s h e some = search_as b l (suc n) (sym e ∙ s.starts l h)

@@ -9,11 +9,10 @@ use lib.Dec.{eqb}
 use lib.ListN.{get_or}
 use Rattle.book_format.specs.Format.{legs, leg_link, leg_parent, first_sample}
 use Rattle.book_format.specs.Chains.{leg_below, Chained}
-use Rattle.book_legs.specs.declared.LegSearch.{LegSearch}
-use Rattle.book_legs.specs.declared.LegSearch.TheVariants.{Found, Missing}
 use Rattle.book_legs.specs.declared.TakenLeg.{TakenLeg}
-use Rattle.book_legs.specs.declared.Taken.{Taken}
-use Rattle.book_legs.specs.declared.Taken.TheVariants.{Leg, Refused}
+use Rattle.std.proofs.Common.{Option, Some, None, Result, Ok, Err}
+use Rattle.refusals.specs.declared.Refusal.{Refusal}
+use Rattle.refusals.specs.declared.Refusal.TheVariants.{MissingLeg}
 use Rattle.book_legs.specs.Legs.{search_of, leg_search, taken_by, taken_leg, InCells}
 
 below_most : (b : List ℕ) (n p l : ℕ) → leg_below b n p l ≤ n
@@ -26,7 +25,7 @@ below_most b (suc n) p l = go (eqb (leg_parent b n) p && eqb (leg_link b n) l) (
     go false h = omega arith
 
 -- a leg that the search finds is one of the book's, so its unit is among the cells
-pub search_in : {f : LegSearch} (b : List ℕ) (p l n : ℕ) → f ≡ leg_search b p l → (legs b + 1) * 8 ≤ n → InCells n f
+pub search_in : {f : Option ℕ} (b : List ℕ) (p l n : ℕ) → f ≡ leg_search b p l → (legs b + 1) * 8 ≤ n → InCells n f
 unfolding leg_search
 search_in {f} b p l n e h = subst (InCells n) (sym e) (go (leg_below b (legs b) p l) (below_most b (legs b) p l))
   where
@@ -35,10 +34,10 @@ search_in {f} b p l n e h = subst (InCells n) (sym e) (go (leg_below b (legs b) 
     go (suc k) m = (omega arith, omega arith)
 
 -- what a search found, once its case is known
-pub found_told : {n j : ℕ} (f : LegSearch) → InCells n f → f ≡ Found j → (0 < j) × (j * 8 + 8 ≤ n)
+pub found_told : {n j : ℕ} (f : Option ℕ) → InCells n f → f ≡ Some j → (0 < j) × (j * 8 + 8 ≤ n)
 found_told {n} f h e = subst (InCells n) e h
 
-pub taken_missing : (f : LegSearch) (b : List ℕ) → f ≡ Missing → Refused 10 ≡ taken_by b f
+pub taken_missing : (f : Option ℕ) (b : List ℕ) → f ≡ None → Err MissingLeg ≡ taken_by b f
 taken_missing f b e = ap (taken_by b) (sym e)
 
 -- the cells of a leg say where its samples stand
@@ -49,11 +48,11 @@ leg_of {t} b cells j c h q =
     let y : get_or cells (j * 8 + 2) 0 ≡ first_sample b j = c.ends j h in
     q ∙ (λ i. record { number = j; first = x i; end = y i })
 
-pub taken_found : {t : TakenLeg} (f : LegSearch) (b cells : List ℕ) (j : ℕ) → Chained b cells → InCells ((legs b + 1) * 8) f → f ≡ Found j
-    → t ≡ record { number = j; first = get_or cells ((j - 1) * 8 + 2) 0; end = get_or cells (j * 8 + 2) 0 } → Leg t ≡ taken_by b f
-taken_found {t} f b cells j c h d q = ap Leg (leg_of b cells j c (omega (arith, (found_told f h d).1)) q) ∙ ap (taken_by b) (sym d)
+pub taken_found : {t : TakenLeg} (f : Option ℕ) (b cells : List ℕ) (j : ℕ) → Chained b cells → InCells ((legs b + 1) * 8) f → f ≡ Some j
+    → t ≡ record { number = j; first = get_or cells ((j - 1) * 8 + 2) 0; end = get_or cells (j * 8 + 2) 0 } → Ok t ≡ taken_by b f
+taken_found {t} f b cells j c h d q = ap Ok (leg_of b cells j c (omega (arith, (found_told f h d).1)) q) ∙ ap (taken_by b) (sym d)
 
 -- what is taken of the search for a parent and a link
-pub taken_sought : {t : Taken} (f : LegSearch) (b : List ℕ) (p l : ℕ) → f ≡ leg_search b p l → (InCells ((legs b + 1) * 8) f → t ≡ taken_by b f) → t ≡ taken_leg b p l
+pub taken_sought : {t : Result TakenLeg Refusal} (f : Option ℕ) (b : List ℕ) (p l : ℕ) → f ≡ leg_search b p l → (InCells ((legs b + 1) * 8) f → t ≡ taken_by b f) → t ≡ taken_leg b p l
 unfolding taken_leg
 taken_sought f b p l e h = h (search_in b p l ((legs b + 1) * 8) e (le_refl ((legs b + 1) * 8))) ∙ ap (taken_by b) e

@@ -6,7 +6,7 @@ use native.Mathlib.Omega.{arith}
 use lib.ListN.{get_or}
 use Rattle.book_format.specs.Format.{legs, leg_link, leg_parent}
 use Rattle.book_format.specs.Chains.{last_child, leg_below, Chained}
-use Rattle.book_legs.specs.declared.LegSearch.TheVariants.{Found, Missing}
+use Rattle.std.proofs.Common.{Some, None}
 use Rattle.book_legs.specs.Legs.{search_of, leg_search}
 use Rattle.book_legs.proofs.Chains.{below_last, last_is, below_found, below_passed}
 
@@ -60,13 +60,13 @@ search_is : (b : List ℕ) (p l n : ℕ) → leg_below b (legs b) p l ≡ n → 
 unfolding leg_search
 search_is b p l n e = ap search_of (sym e)
 
-pub walking_found : {b : List ℕ} {p l j : ℕ} → Walking b p l j → 0 < j → leg_link b (j - 1) ≡ l → Found j ≡ leg_search b p l
+pub walking_found : {b : List ℕ} {p l j : ℕ} → Walking b p l j → 0 < j → leg_link b (j - 1) ≡ l → Some j ≡ leg_search b p l
 walking_found {b} {p} {l} {j} w h e =
     let i = j - 1 in
     let q = walking_row w h in
     let s : suc i ≡ j = omega arith in
-    ap Found (sym s) ∙ search_is b p l (suc i) (sym w.same ∙ ap (λ (k : ℕ). leg_below b k p l) (sym s) ∙ below_found b i p l q.0 e)
+    ap Some (sym s) ∙ search_is b p l (suc i) (sym w.same ∙ ap (λ (k : ℕ). leg_below b k p l) (sym s) ∙ below_found b i p l q.0 e)
 
-pub walking_end : {b : List ℕ} {p l j : ℕ} → Walking b p l j → (0 < j → ⊥) → Missing ≡ leg_search b p l
+pub walking_end : {b : List ℕ} {p l j : ℕ} → Walking b p l j → (0 < j → ⊥) → None ≡ leg_search b p l
 unfolding leg_below
 walking_end {b} {p} {l} {j} w h = let e : j ≡ 0 = omega arith in search_is b p l 0 (sym w.same ∙ ap (λ (k : ℕ). leg_below b k p l) e)

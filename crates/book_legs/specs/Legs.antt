@@ -1,37 +1,36 @@
 -- The leg search: what it answers, document 01's number for each answer, and what the driver takes of it.
 -- And what is asked of one leg's samples, by where they stand.
-use Rattle.std.specs.Prelude.{◌≡◌, Bool, not, ◌||◌, cond, List, ℕ, zero, suc, ◌+◌, ◌-◌, ◌*◌, ◌≤◌, ◌<◌, eqb, get_or, set}
+use Rattle.std.specs.Prelude.{◌≡◌, Bool, not, ◌||◌, cond, List, ℕ, zero, suc, ◌+◌, ◌-◌, ◌*◌, ◌≤◌, ◌<◌, eqb, get_or, set, Option, Some, None, Result, Ok, Err}
 use Rattle.laws.specs.Below.{some_below}
 use Rattle.book_format.specs.declared.Leg.{Leg}
 use Rattle.book_format.specs.Format.{links, legs, departure_bits, sample_time, first_sample}
 use Rattle.book_format.specs.Rows.{falls, same_sample, leg_falls, leg_begins}
 use Rattle.book_format.specs.Chains.{leg_below, Chained}
-use Rattle.book_legs.specs.declared.LegSearch.{LegSearch}
-use Rattle.book_legs.specs.declared.LegSearch.TheVariants.{Found, Missing}
+use Rattle.refusals.specs.declared.Refusal.{Refusal}
+use Rattle.refusals.specs.declared.Refusal.TheVariants.{MissingLeg}
+use Rattle.refusals.specs.Refusals.{refusal_number}
 use Rattle.book_legs.specs.declared.TakenLeg.{TakenLeg}
-use Rattle.book_legs.specs.declared.Taken.{Taken}
-use Rattle.book_legs.specs.declared.Taken.TheVariants as taken
 
 -- a leg number, 0 being none
-abbrev pub search_of : ℕ → LegSearch
-search_of zero = Missing
-search_of (suc j) = Found (suc j)
+abbrev pub search_of : ℕ → Option ℕ
+search_of zero = None
+search_of (suc j) = Some (suc j)
 
 -- "The leg is found or the book is refused with 10": the leg with this parent and link
-unfoldable pub leg_search : List ℕ → ℕ → ℕ → LegSearch
+unfoldable pub leg_search : List ℕ → ℕ → ℕ → Option ℕ
 leg_search b parent link = search_of (leg_below b (legs b) parent link)
 
 -- Row 10: "no leg with the needed parent and link"
-abbrev pub search_number : LegSearch → ℕ
-search_number (Found j) = 0
-search_number Missing = 10
+abbrev pub search_number : Option ℕ → ℕ
+search_number (Some j) = 0
+search_number None = refusal_number MissingLeg
 
 -- What the driver takes: the leg's number and where its samples begin and end, or the refusal.
-abbrev pub taken_by : List ℕ → LegSearch → Taken
-taken_by b (Found j) = taken.Leg (record { number = j; first = first_sample b (j - 1); end = first_sample b j })
-taken_by b Missing = taken.Refused (search_number Missing)
+abbrev pub taken_by : List ℕ → Option ℕ → Result TakenLeg Refusal
+taken_by b (Some j) = Ok (record { number = j; first = first_sample b (j - 1); end = first_sample b j })
+taken_by b None = Err MissingLeg
 
-unfoldable pub taken_leg : List ℕ → ℕ → ℕ → Taken
+unfoldable pub taken_leg : List ℕ → ℕ → ℕ → Result TakenLeg Refusal
 taken_leg b parent link = taken_by b (leg_search b parent link)
 
 -- The starting legs by their links: behind the links' own marks each link has one, the number of the leg that starts
@@ -67,12 +66,12 @@ leg_in cells number = record {
 }
 
 -- a leg that was found has its unit among so many cells
-abbrev pub InCells : ℕ → LegSearch → Type 0
-InCells n (Found j) = (0 < j) × (j * 8 + 8 ≤ n)
-InCells n Missing = Unit
+abbrev pub InCells : ℕ → Option ℕ → Type 0
+InCells n (Some j) = (0 < j) × (j * 8 + 8 ≤ n)
+InCells n None = Unit
 
 -- what is taken of a search, by cells that have a book's chains
-abbrev pub TakenFrom : List ℕ → LegSearch → Taken → Type 0
+abbrev pub TakenFrom : List ℕ → Option ℕ → Result TakenLeg Refusal → Type 0
 TakenFrom cells found r = (b : List ℕ) → Chained b cells → InCells ((legs b + 1) * 8) found → r ≡ taken_by b found
 
 -- ---- row 7

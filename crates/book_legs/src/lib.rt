@@ -4,20 +4,15 @@
 
 ghost use Rattle.std.specs.Prelude.{◌≡◌, false, not, ◌||◌, List, ℕ, ◌+◌, ◌*◌, ◌-◌, ◌≤◌, ◌<◌, length};
 ghost use Rattle.space.specs.Space.{zeros};
-ghost use Rattle.book_format.specs.Format.{Sized, links, legs, samples, leg_parent, first_sample};
-ghost use Rattle.book_format.specs.Rows.{falls, same_sample, leg_falls, leg_begins};
-ghost use Rattle.book_format.specs.Chains.{Readable, Chained, with_leg, all_linked};
+ghost use Rattle.book_format.specs.Format.{links, legs, samples, leg_parent, first_sample};
+ghost use Rattle.book_format.specs.Rows.{same_sample, leg_falls, leg_begins};
+ghost use Rattle.book_format.specs.Chains.{Chained, with_leg, all_linked};
 ghost use Rattle.book_legs.specs.Legs.{leg_search, taken_leg, Started, samples_fail, begins_at, falls_from};
 ghost use Rattle.book_legs.specs.Legs.{named_start, Named, SameButStarts, leg_in, InCells, TakenFrom};
 
-use book_format::{Leg, Sections};
-
-// A leg that was sought: its number, or that there is none.
-#[derive(Clone, Copy)]
-pub enum LegSearch {
-    Found(u32),
-    Missing,
-}
+use book_format::{Book, Leg, ReadableBook};
+use refusals::Refusal;
+use space::Zero;
 
 // A leg that is taken: its number, and its samples from the first up to where they end.
 #[derive(Clone, Copy)]
@@ -27,72 +22,42 @@ pub struct TakenLeg {
     pub end: usize,
 }
 
-// What the driver gets for a leg that it needs: the leg, or a refusal's number.
-#[derive(Clone, Copy)]
-pub enum Taken {
-    Leg(TakenLeg),
-    Refused(u32),
-}
-
-// Whether the sample after k is no later, or further back.
-fn sample_falls(book: &[u8], s: Sections, k: usize) -> bool
-    requires readable { Readable book.now s }
-    requires k_bound { k + 1 < samples book.now }
-    ensures { result ≡ falls book.now k }
-{
-    let a = book_format::sample_at(book, s, k);
-    let b = book_format::sample_at(book, s, k + 1);
-    book_format::sample_falls(a, b)
-}
-
-// Whether some sample of a leg falls.
-fn leg_falls(book: &[u8], s: Sections, first: usize, count: usize) -> bool
-    requires readable { Readable book.now s }
+// Whether some sample of a leg is no later than the one before it, or further back.
+fn leg_falls(book: &ReadableBook, first: usize, count: usize) -> bool
     requires count_bound { first + count ≤ samples book.now }
     ensures { result ≡ falls_from book.now first count }
 {
-    let mut k = 0;
-    while k + 1 < count {
-        if sample_falls(book, s, first + k) {
+    let rows = book.valid();
+    for k in 0..count.saturating_sub(1) {
+        let before = rows.sample_at(first + k);
+        let after = rows.sample_at(first + k + 1);
+        if book_format::sample_falls(before, after) {
             return true;
         }
-        k += 1;
     }
     false
 }
 
 // Whether two samples are alike, bit for bit.
-fn same_sample(book: &[u8], s: Sections, j: usize, k: usize) -> bool
-    requires readable { Readable book.now s }
+fn same_sample(book: &Book, j: usize, k: usize) -> bool
     requires j_bound { j < samples book.now }
     requires k_bound { k < samples book.now }
     ensures { result ≡ same_sample book.now j k }
 {
-    let a = book_format::sample_patterns(book, s, j);
-    let b = book_format::sample_patterns(book, s, k);
-    if a.time != b.time {
-        return false;
-    }
-    if a.offset != b.offset {
-        return false;
-    }
-    a.speed == b.speed
+    book.sample_patterns(j) == book.sample_patterns(k)
 }
 
 // Whether a leg's first sample is its parent's last, or a starting leg's first time the departure.
-fn leg_begins(book: &[u8], s: Sections, parent: usize, end: usize, first: usize) -> bool
-    requires readable { Readable book.now s }
+fn leg_begins(book: &Book, parent: usize, end: usize, first: usize) -> bool
     requires end_bound { end - 1 < samples book.now }
     requires first_bound { first < samples book.now }
     requires end_nonzero { 0 < parent → 0 < end }
     ensures { result ≡ begins_at book.now parent end first }
 {
     if parent == 0 {
-        let h = book_format::head_patterns(book, s);
-        let f = book_format::sample_patterns(book, s, first);
-        return f.time == h.departure;
+        return book.sample_patterns(first).time == book.head_patterns().departure;
     }
-    same_sample(book, s, end - 1, first)
+    same_sample(book, end - 1, first)
 }
 
 // Puts leg number j in front of its parent's children, and notes where its samples end.
@@ -110,18 +75,16 @@ fn link_leg(cells: &mut [u32], j: usize, parent: usize, end: usize)
 }
 
 // Row 7 for the samples of the leg in row i: whether they fall, or don't begin where they must.
-fn leg_fails(book: &[u8], s: Sections, i: usize, end: usize, first: usize) -> bool
-    requires readable { Readable book.now s }
+fn leg_fails(book: &ReadableBook, i: usize, end: usize, first: usize) -> bool
     requires i_bound { i < legs book.now }
     requires end_value { end ≡ first_sample book.now (leg_parent book.now i) }
     requires first_value { first ≡ first_sample book.now i }
     ensures { result ≡ (leg_falls book.now i || not (leg_begins book.now i)) }
 {
-    let leg = book_format::leg_at(book, s, i);
-    let parent = leg.parent as usize;
-    let count = leg.samples as usize;
-    if leg_begins(book, s, parent, end, first) {
-        leg_falls(book, s, first, count)
+    let rows = book.book();
+    let leg = rows.leg_at(i);
+    if leg_begins(rows, leg.parent as usize, end, first) {
+        leg_falls(book, first, leg.samples as usize)
     } else {
         true
     }
@@ -129,32 +92,29 @@ fn leg_fails(book: &[u8], s: Sections, i: usize, end: usize, first: usize) -> bo
 
 // Links each leg to its parent in the cells, and tells whether some leg's samples fall or don't begin where they must
 // (row 7).
-pub fn link_legs(book: &[u8], s: Sections, cells: &mut [u32]) -> bool
-    requires readable { Readable book.now s }
+pub fn link_legs(book: &ReadableBook, cells: &mut [u32]) -> bool
     requires book_in_bounds { (legs book.now + 1) * 8 ≤ length cells.old }
     requires cells_value { cells.old ≡ zeros (length cells.old) }
     ensures answer { result ≡ samples_fail book.now }
     ensures chains { result ≡ false → cells.new ≡ all_linked book.now cells.old }
 {
-    let mut i = 0;
+    let rows = book.book();
     let mut first = 0;
-    while i < s.legs {
-        let leg = book_format::leg_at(book, s, i);
+    for i in 0..rows.legs() {
+        let leg = rows.leg_at(i);
         let parent = leg.parent as usize;
         let parent_end = cells[parent * 8 + 2] as usize;
-        if leg_fails(book, s, i, parent_end, first) {
+        if leg_fails(book, i, parent_end, first) {
             return true;
         }
         first = first + leg.samples as usize;
         link_leg(cells, i + 1, parent, first);
-        i += 1;
     }
     false
 }
 
 // The leg with this parent and link: a walk along the parent's children.
-pub fn find_leg(book: &[u8], s: Sections, cells: &[u32], parent: u32, link_idx: u32) -> LegSearch
-    requires sized { Sized book.now s }
+pub fn find_leg(book: &Book, cells: &[u32], parent: u32, link_idx: u32) -> Option<u32>
     requires chained { Chained book.now cells.now }
     requires parent_bound { parent ≤ legs book.now }
     ensures { result ≡ leg_search book.now parent link_idx }
@@ -162,13 +122,13 @@ pub fn find_leg(book: &[u8], s: Sections, cells: &[u32], parent: u32, link_idx: 
     let mut j = cells[parent as usize * 8];
     while 0 < j {
         let at = j as usize;
-        let leg = book_format::leg_at(book, s, at - 1);
+        let leg = book.leg_at(at - 1);
         if leg.link_idx == link_idx {
-            return LegSearch::Found(j);
+            return Some(j);
         }
         j = cells[at * 8 + 1];
     }
-    LegSearch::Missing
+    None
 }
 
 // The leg of a number: its samples begin where those of the leg before it end.
@@ -184,26 +144,21 @@ pub fn leg_samples(cells: &[u32], number: u32) -> TakenLeg
 }
 
 // A leg that was sought, to be taken: "The leg is found or the book is refused with 10".
-fn take_found(cells: &[u32], found: LegSearch) -> Taken
+fn take_found(cells: &[u32], found: Option<u32>) -> Result<TakenLeg, Refusal>
     requires { InCells (length cells.now) found }
     ensures { TakenFrom cells.now found result }
 {
-    let LegSearch::Found(number) = found else {
-        return Taken::Refused(10);
-    };
-    let leg = leg_samples(cells, number);
-    Taken::Leg(leg)
+    let number = found.ok_or(Refusal::MissingLeg)?;
+    Ok(leg_samples(cells, number))
 }
 
 // The leg with this parent and link, to be taken.
-pub fn take_leg(book: &[u8], s: Sections, cells: &[u32], parent: u32, link_idx: u32) -> Taken
-    requires sized { Sized book.now s }
+pub fn take_leg(book: &Book, cells: &[u32], parent: u32, link_idx: u32) -> Result<TakenLeg, Refusal>
     requires chained { Chained book.now cells.now }
     requires parent_bound { parent ≤ legs book.now }
     ensures { result ≡ taken_leg book.now parent link_idx }
 {
-    let found = find_leg(book, s, cells, parent, link_idx);
-    take_found(cells, found)
+    take_found(cells, find_leg(book, cells, parent, link_idx))
 }
 
 // ---- the starting legs by their links
@@ -219,59 +174,53 @@ fn name_start(starts: &mut [u32], leg: Leg, number: u32)
 }
 
 // Names each starting leg at its link, in a slice that is zero.
-fn name_starts(book: &[u8], s: Sections, starts: &mut [u32])
-    requires readable { Readable book.now s }
+fn name_starts(book: &ReadableBook, starts: &mut [u32])
     requires book_in_bounds { links book.now ≤ length starts.old }
     requires starts_value { starts.old ≡ zeros (length starts.old) }
     ensures { Named book.now (legs book.now) starts.new }
 {
-    let mut i = 0;
-    while i < s.legs {
-        let leg = book_format::leg_at(book, s, i);
-        name_start(starts, leg, i as u32 + 1);
-        i += 1;
+    let rows = book.book();
+    for i in 0..rows.legs() {
+        name_start(starts, rows.leg_at(i), i as u32 + 1);
     }
 }
 
 // Names each starting leg at its link, in the marks behind the links' own: so the leg of an origin is found without
 // a walk.
-pub fn mark_starts(book: &[u8], s: Sections, marks: &mut [u32])
-    requires readable { Readable book.now s }
+pub fn mark_starts(book: &ReadableBook, marks: &mut [u32])
     requires book_in_bounds { 2 * links book.now ≤ length marks.old }
     ensures starts { Started book.now marks.new }
     ensures others { SameButStarts book.now marks.old marks.new }
 {
-    let from = s.links;
-    let to = 2 * s.links;
-    let starts = &mut marks[from..to];
-    space::clear_numbers(starts);
-    name_starts(book, s, starts);
+    let links = book.book().links();
+    let starts = &mut marks[links..2 * links];
+    Zero::clear(starts);
+    name_starts(book, starts);
 }
 
 // The leg that starts over a link, as the marks name it.
-fn find_start(book: &[u8], s: Sections, marks: &[u32], link_idx: u32) -> LegSearch
-    requires sized { Sized book.now s }
+fn find_start(book: &Book, marks: &[u32], link_idx: u32) -> Option<u32>
     requires started { Started book.now marks.now }
     requires book_in_bounds { 2 * links book.now ≤ length marks.now }
     requires link_idx_bound { link_idx < links book.now }
     ensures { result ≡ leg_search book.now 0 link_idx }
 {
-    let number = marks[s.links + link_idx as usize];
-    if number == 0 {
-        return LegSearch::Missing;
-    }
-    LegSearch::Found(number)
+    let number = marks[book.links() + link_idx as usize];
+    if number == 0 { None } else { Some(number) }
 }
 
 // The leg that starts over a link, to be taken.
-pub fn take_start(book: &[u8], s: Sections, cells: &[u32], marks: &[u32], link_idx: u32) -> Taken
-    requires sized { Sized book.now s }
+pub fn take_start(
+    book: &Book,
+    cells: &[u32],
+    marks: &[u32],
+    link_idx: u32,
+) -> Result<TakenLeg, Refusal>
     requires chained { Chained book.now cells.now }
     requires started { Started book.now marks.now }
     requires book_in_bounds { 2 * links book.now ≤ length marks.now }
     requires link_idx_bound { link_idx < links book.now }
     ensures { result ≡ taken_leg book.now 0 link_idx }
 {
-    let found = find_start(book, s, marks, link_idx);
-    take_found(cells, found)
+    take_found(cells, find_start(book, marks, link_idx))
 }

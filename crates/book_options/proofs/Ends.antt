@@ -12,7 +12,8 @@ use Rattle.book_format.specs.Format.{links, destinations, destination_link}
 use Rattle.book_options.specs.Options.{Search, member, search, options_of, in_set, kept_origins, none, row8, link_options, OptionsIn}
 use Rattle.book_options.specs.Turns.{stack_at, outside_set, Walking}
 use Rattle.book_options.specs.declared.Walk.{Walk}
-use Rattle.book_options.specs.declared.LinkOptions.TheVariants.{Kept, NoPath}
+use Rattle.std.proofs.Common.{Ok, Err}
+use Rattle.refusals.specs.declared.Refusal.TheVariants.{NoPath}
 use Rattle.book_options.proofs.Walks.{search_empty}
 
 module _ {b m : List ℕ} {w : Walk} (v : Walking b m w) (h : w.top ≡ 0) where
@@ -55,7 +56,7 @@ module _ {b m : List ℕ} {w : Walk} (v : Walking b m w) (h : w.top ≡ 0) where
       empty [] d = refl
       empty (x ∷ s) d = absurd (omega arith)
 
-  pub walk_some : some_below (destinations b) (λ i. eqb (destination_link b i) 0) ≡ false → (w.kept ≡ 0 → ⊥) → Kept w.kept ≡ link_options b
+  pub walk_some : some_below (destinations b) (λ i. eqb (destination_link b i) 0) ≡ false → (w.kept ≡ 0 → ⊥) → Ok w.kept ≡ link_options b
   unfolding link_options row8
   walk_some d n =
       let z : none (kept_origins b) ≡ false = ap none found_kept ∙ filled v.kept (λ (o : length v.kept ≡ 0). n (v.holds.many ∙ o)) in
@@ -71,6 +72,6 @@ pub zero_refused : (b : List ℕ) → some_below (destinations b) (λ i. eqb (de
 unfolding row8
 zero_refused b h = ap (λ (t : Bool). t || none (kept_origins b)) h
 
-pub refused : (b m : List ℕ) → row8 b ≡ true → (NoPath ≡ link_options b) × (row8 b ≡ false → OptionsIn b m)
+pub refused : (b m : List ℕ) → row8 b ≡ true → (Err NoPath ≡ link_options b) × (row8 b ≡ false → OptionsIn b m)
 unfolding link_options
 refused b m h = (rw h, λ e. absurd (true≢false (sym h ∙ e)))

@@ -7,7 +7,8 @@ use Rattle.fields.specs.Fields.{u32_at}
 use Rattle.laws.specs.Below.{some_below}
 use Rattle.book_format.specs.Format.{links, origins, destinations, origins_at_of, destinations_at_of, link_prev, link_prev_alt, origin_link, destination_link}
 use Rattle.book_options.specs.Options.{member, origin_below, stacked, pushed, options_of, kept_origins, link_options}
-use Rattle.book_options.specs.declared.LinkOptions.TheVariants.{Kept, NoPath}
+use Rattle.std.proofs.Common.{Ok, Err}
+use Rattle.refusals.specs.declared.Refusal.TheVariants.{NoPath}
 
 -- a number below 256
 abbrev word : ℕ → List ℕ
@@ -49,9 +50,9 @@ record Examples : Type 0 where
   followed : options_of first ≡ record { stack = []; set = 1 ∷ 2 ∷ []; kept = 0 ∷ [] }
   alternative_first : options_of both ≡ record { stack = []; set = 1 ∷ 2 ∷ 3 ∷ []; kept = 1 ∷ 0 ∷ [] }
   last_destination_first : options_of ends ≡ record { stack = []; set = 1 ∷ 2 ∷ []; kept = 0 ∷ 1 ∷ [] }
-  found : link_options both ≡ Kept 2
-  no_real_previous : link_options alternative ≡ NoPath
-  no_destination : link_options zero_end ≡ NoPath
+  found : link_options both ≡ Ok 2
+  no_real_previous : link_options alternative ≡ Err NoPath
+  no_destination : link_options zero_end ≡ Err NoPath
 
 examples : Examples
 unfolding link_options options_of kept_origins stacked member origin_below pushed some_below links origins destinations origins_at_of destinations_at_of origin_link destination_link link_prev link_prev_alt u32_at

@@ -5,11 +5,11 @@
 -- after a real previous." So not every link from which a destination can be reached is in the set: nothing is pushed
 -- behind an origin (links 1 to 2 to 3, origins 1 and 2, destination 3: origin 1 is dropped), nor an alternative alone.
 -- Only the kept part's order is ever read, so the definition appends to it and swaps nothing.
-use Rattle.std.specs.Prelude.{◌≡◌, Bool, true, false, ◌||◌, cond, List, [], ◌∷◌, ◌++◌, ℕ, zero, suc, ◌+◌, ◌*◌, ◌%◌, ◌<◌, eqb, length, get_or}
+use Rattle.std.specs.Prelude.{◌≡◌, Bool, true, false, ◌||◌, cond, List, [], ◌∷◌, ◌++◌, ℕ, zero, suc, ◌+◌, ◌*◌, ◌%◌, ◌<◌, eqb, length, get_or, Result, Ok, Err}
 use Rattle.laws.specs.Below.{some_below}
+use Rattle.refusals.specs.declared.Refusal.{Refusal}
+use Rattle.refusals.specs.declared.Refusal.TheVariants.{NoPath}
 use Rattle.book_format.specs.Format.{links, origins, destinations, link_prev, link_prev_alt, origin_link, destination_link}
-use Rattle.book_options.specs.declared.LinkOptions.{LinkOptions}
-use Rattle.book_options.specs.declared.LinkOptions.TheVariants.{Kept, NoPath}
 
 -- whether a link is in a list of links
 unfoldable pub member : ℕ → List ℕ → Bool
@@ -81,14 +81,10 @@ destination_zero b = some_below (destinations b) (λ i. eqb (destination_link b 
 unfoldable pub row8 : List ℕ → Bool
 row8 b = destination_zero b || none (kept_origins b)
 
--- what the search answers, and document 01's number for it
-unfoldable pub link_options : List ℕ → LinkOptions
+-- what the search answers: how many origins are kept, or the refusal
+unfoldable pub link_options : List ℕ → Result ℕ Refusal
 unfolding row8
-link_options b = cond (row8 b) NoPath (Kept (length (kept_origins b)))
-
-abbrev pub options_number : LinkOptions → ℕ
-options_number NoPath = 8
-options_number (Kept n) = 0
+link_options b = cond (row8 b) (Err NoPath) (Ok (length (kept_origins b)))
 
 -- ---- the search's part of the work space
 

@@ -13,7 +13,6 @@ use Rattle.laws.specs.Below.{some_below}
 use Rattle.laws.proofs.Truth.{both, equal_or_not}
 use Rattle.laws.proofs.Below.{none_at, none_all, some_at}
 use Rattle.space.specs.Space.{zeros}
-use Rattle.book_format.specs.declared.Sections.{Sections}
 use Rattle.book_format.specs.declared.Leg.{Leg}
 use Rattle.book_format.specs.Format.{links, legs, leg_link, leg_parent, leg_at}
 use Rattle.book_format.specs.Rows.{leg_repeats}
@@ -106,7 +105,7 @@ module _ {b m₀ m : List ℕ} {p j : ℕ} (w : Walk b m₀ m p j) (h : 0 < j) (
   link_is : g.link_idx ≡ leg_link b (j - 1)
   link_is = leg_link_lem b (j - 1) g e
 
-  pub walk_link : {s : Sections} → Readable b s → links b ≤ length m₀ → g.link_idx < length m
+  pub walk_link : Readable b → links b ≤ length m₀ → g.link_idx < length m
   walk_link r l = omega (arith, link_is, leg_named b r.indices (j - 1) (omega (arith, w.within)), w.kept)
 
   -- a link that has the mark is a repeat: the child that left it has this child above it
@@ -232,5 +231,5 @@ parents_on {b} {m₀} {m} {n} {p} w k u e = record { kept = k ∙ w.kept; under 
         less : (a c : ℕ) → a < c + 1 → (a ≡ c → ⊥) → a < c
         less a c l d = omega arith
 
-pub parents_all : {b m₀ m : List ℕ} {s : Sections} {p : ℕ} → Readable b s → Parents b m₀ m p → legs b ≤ p → false ≡ some_below (legs b) (leg_repeats b)
-parents_all {b} {m₀} {m} {s} {p} r w h = sym (none_all (legs b) (leg_repeats b) (λ i l. w.none i l (omega (arith, leg_above b r.single i l))))
+pub parents_all : {b m₀ m : List ℕ} {p : ℕ} → Readable b → Parents b m₀ m p → legs b ≤ p → false ≡ some_below (legs b) (leg_repeats b)
+parents_all {b} {m₀} {m} {p} r w h = sym (none_all (legs b) (leg_repeats b) (λ i l. w.none i l (omega (arith, leg_above b r.single i l))))

@@ -11,19 +11,11 @@ use borrow.Author.Tests.{eq-eqb, eqb-true}
 use Rattle.laws.specs.Below.{some_below}
 use Rattle.laws.proofs.Below.{some_more, none_more, some_at}
 use Rattle.space.specs.Space.{zeros}
-use Rattle.book_format.specs.declared.Sections.{Sections}
 use Rattle.book_format.specs.declared.Origin.{Origin}
-use Rattle.book_format.specs.Format.{Sized, links, origins, origin_link, origin_at}
+use Rattle.book_format.specs.Format.{links, origins, origin_link, origin_at}
 use Rattle.book_format.specs.Rows.{row5, origin_repeats}
 use Rattle.book_format.proofs.Given.{origin_named, origin_link_lem}
-use Rattle.book_format.proofs.Places.{sized_origins}
 use Rattle.book_repeats.proofs.Marks.{Marked, mark_none, mark_more, zero_under}
-
--- ---- one origin
-
-module _ {b : List ℕ} {s : Sections} {i : ℕ} (z : Sized b s) (h : i < s.origins) where
-  pub within : i < origins b
-  within = subst (λ (n : ℕ). i < n) (sized_origins z) h
 
 -- ---- the sweep
 
@@ -43,17 +35,17 @@ unfolding some_below
 swept_start b m z = record { kept = refl; none = refl; marks = mark_none (zero_under m z) (λ l e. true≢false (sym e)); within = omega arith }
 
 -- a turn, in which the origin o was read
-module _ {b m₀ m : List ℕ} {s : Sections} {i : ℕ} (w : Swept b m₀ m i) (z : Sized b s) (h : i < s.origins) (o : Origin) (r : o ≡ origin_at b i) where
+module _ {b m₀ m : List ℕ} {i : ℕ} (w : Swept b m₀ m i) (h : i < origins b) (o : Origin) (r : o ≡ origin_at b i) where
   link_is : o.link_idx ≡ origin_link b i
   link_is = origin_link_lem b i r
 
   pub swept_link : row5 b ≡ false → links b ≤ length m₀ → o.link_idx < length m
-  swept_link e l = omega (arith, link_is, origin_named b e i (within z h), w.kept)
+  swept_link e l = omega (arith, link_is, origin_named b e i h, w.kept)
 
   -- a link that was seen is a repeat
   pub swept_found : get_or m o.link_idx 0 ≡ 1 → true ≡ some_below (origins b) (origin_repeats b)
   unfolding origin_repeats
-  swept_found t = sym (some_at (origins b) (origin_repeats b) i (within z h) (subst (Seen b i) link_is (w.marks.found o.link_idx t)))
+  swept_found t = sym (some_at (origins b) (origin_repeats b) i h (subst (Seen b i) link_is (w.marks.found o.link_idx t)))
 
   pub swept_on : o.link_idx < length m → (get_or m o.link_idx 0 ≡ 1 → ⊥) → Swept b m₀ (set m o.link_idx 1) (i + 1)
   unfolding origin_repeats
@@ -61,7 +53,7 @@ module _ {b m₀ m : List ℕ} {s : Sections} {i : ℕ} (w : Swept b m₀ m i) (
     kept = length-set m link 1 ∙ w.kept;
     none = none_more i (origin_repeats b) w.none (new (some_below i (λ j. eqb (origin_link b j) (origin_link b i))) refl);
     marks = mark_more link w.marks l (some_at (i + 1) (λ j. eqb (origin_link b j) link) i (omega arith) (eq-eqb (origin_link b i) link (sym link_is))) old back;
-    within = omega (arith, within z h);
+    within = omega arith;
   }
     where
       link : ℕ

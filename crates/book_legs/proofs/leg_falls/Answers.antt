@@ -1,30 +1,34 @@
--- `book_legs::leg_falls` meets its contract: `Falling` is the loop's invariant.
-use mathlib.Core.Path.{sym, ◌∙◌}
-use native.Mathlib.Omega.{arith}
-use Rattle.book_format.proofs.Places.{sized_samples}
-use Rattle.book_legs.proofs.Samples.{falling_start, falling_on, falling_found, falling_none}
+-- `book_legs::leg_falls` meets its contract: no sample before the loop's falls.
+use Rattle.std.proofs.Common.{refl, sym, ap, ◌∙◌, arith}
+use Rattle.laws.specs.Below.{some_below}
+use Rattle.laws.proofs.Below.{none_more}
+use Rattle.book_format.specs.Format.{samples}
+use Rattle.book_format.proofs.Given.{limits}
+use Rattle.book_legs.proofs.Samples.{falls_is, falling_found, falling_none}
 use Rattle.book_legs.proofs.leg_falls.Goals as goal
 
 pub loop-k-init : goal.loop-k-init
-loop-k-init c = falling_start _ _ _
-
-pub overflow_add-k : goal.overflow_add-k
-overflow_add-k c = omega (arith, c.loop-k.invariant.within)
+unfolding some_below
+loop-k-init c = refl
 
 pub overflow_add-first : goal.overflow_add-first
-overflow_add-first c = omega (arith, c.requires.count_bound, sized_samples c.requires.readable.sized)
+overflow_add-first c = omega (arith, limits _ c.valid-rows.ensures.readable.counted.counts, ap samples c.valid-rows.ensures.is)
 
-pub sample_falls-requires : goal.sample_falls-requires
-sample_falls-requires c = record {
-  readable = c.requires.readable;
-  k_bound = omega (arith, c.requires.count_bound);
-}
+pub overflow_add-first-in-loop-k : goal.overflow_add-first-in-loop-k
+overflow_add-first-in-loop-k c = omega (arith, limits _ c.valid-rows.ensures.readable.counted.counts, ap samples c.valid-rows.ensures.is)
+
+pub overflow_add-first-in-loop-k-2 : goal.overflow_add-first-in-loop-k-2
+overflow_add-first-in-loop-k-2 c = omega (arith, limits _ c.valid-rows.ensures.readable.counted.counts, ap samples c.valid-rows.ensures.is)
 
 pub returns-then-sample_falls : goal.returns-then-sample_falls
-returns-then-sample_falls c = falling_found _ _ _ _ c.loop-k-test.true (sym c.sample_falls.ensures ∙ c.if-sample_falls.true)
+returns-then-sample_falls c =
+    rw (← c.valid-rows.ensures.is) (falling_found _ _ _ c.loop-k.k (omega arith)
+    (sym (falls_is _ _ _ _ _ _ c.sample_at-before.ensures refl c.sample_at-after.ensures c.sample_falls.ensures) ∙ c.if-sample_falls.true))
 
 pub loop-k-preserved : goal.loop-k-preserved
-loop-k-preserved c = falling_on c.loop-k.invariant c.loop-k-test.true (sym c.sample_falls.ensures ∙ c.if-sample_falls.false)
+loop-k-preserved c =
+    none_more _ _ c.loop-k.invariant
+    (sym (falls_is _ _ _ _ _ _ c.sample_at-before.ensures refl c.sample_at-after.ensures c.sample_falls.ensures) ∙ c.if-sample_falls.false)
 
 pub returns : goal.returns
-returns c = falling_none c.loop-k.invariant (λ h. omega arith)
+returns c = rw (← c.valid-rows.ensures.is) (falling_none _ _ _ c.loop-k.k (omega arith) c.loop-k.invariant)

@@ -1,10 +1,8 @@
--- `book_legs::leg_falls` meets its contract: `Falling` is the loop's invariant.
-use Prim.Native.Nat.{◌-◌}
-use Rattle.book_legs.proofs.Samples.{Falling}
+-- `book_legs::leg_falls` meets its contract: no sample before the loop's falls.
+use Rattle.std.proofs.Common.{◌≡◌, false, ◌+◌}
+use Rattle.laws.specs.Below.{some_below}
+use Rattle.book_format.specs.Rows.{falls}
 use Rattle.book_legs.proofs.leg_falls.Given as goal
 
 abbrev pub invariant-loop-k : goal.invariant-loop-k
-invariant-loop-k l = Falling l.book l.first l.count l.k
-
-abbrev pub decreases-loop-k : goal.decreases-loop-k
-decreases-loop-k l = l.count - l.k
+invariant-loop-k l = some_below l.k (λ j. falls l.rows (l.first + j)) ≡ false

@@ -1,31 +1,18 @@
--- `book_legs::same_sample` meets its contract.
-use Rattle.book_legs.proofs.Samples.{sample_within, other_time, other_offset, by_speed}
+-- `book_legs::same_sample` meets its contract: patterns are alike where all their parts are.
+use Rattle.std.proofs.Common.{◌≡◌, refl, Bool, true, false, ◌&&◌, eqb}
+use Rattle.book_format.specs.Format.{sample_patterns, sample_time, sample_offset, sample_speed}
+use Rattle.book_format.specs.Rows.{same_sample}
 use Rattle.book_legs.proofs.same_sample.Goals as goal
 
-pub sample_patterns-a-requires : goal.sample_patterns-a-requires
-sample_patterns-a-requires c = record {
-  sized = c.requires.readable.sized;
-  i_lt_samples = sample_within c.requires.readable _ c.requires.j_bound;
-}
-
-pub sample_patterns-b-requires : goal.sample_patterns-b-requires
-sample_patterns-b-requires c = record {
-  sized = c.requires.readable.sized;
-  i_lt_samples = sample_within c.requires.readable _ c.requires.k_bound;
-}
-
-pub returns-then-a-b : goal.returns-then-a-b
-returns-then-a-b c =
-    other_time _ _ _ c.sample_patterns-a.result c.sample_patterns-b.result
-    c.sample_patterns-a.ensures c.sample_patterns-b.ensures c.if-a-b.true
-
-pub returns-then-a-b-2 : goal.returns-then-a-b-2
-returns-then-a-b-2 c =
-    other_offset _ _ _ c.sample_patterns-a.result c.sample_patterns-b.result
-    c.sample_patterns-a.ensures c.sample_patterns-b.ensures c.if-a-b.false c.if-a-b-2.true
+joined : (a b c : Bool) → (a && (b && c)) ≡ (a && b && c)
+joined true b c = refl
+joined false b c = refl
 
 pub returns : goal.returns
+unfolding same_sample sample_patterns
 returns c =
-    by_speed _ _ _ c.sample_patterns-a.result c.sample_patterns-b.result
-    c.sample_patterns-a.ensures c.sample_patterns-b.ensures
-    c.if-a-b.false c.if-a-b-2.false
+    let b = c.args.book.now in
+    let j = c.args.j in
+    let k = c.args.k in
+    rw (c.eq.ensures, c.sample_patterns.ensures, c.sample_patterns-2.ensures)
+    (joined (eqb (sample_time b j) (sample_time b k)) (eqb (sample_offset b j) (sample_offset b k)) (eqb (sample_speed b j) (sample_speed b k)))

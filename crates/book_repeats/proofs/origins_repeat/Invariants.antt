@@ -1,10 +1,6 @@
 -- `book_repeats::origins_repeat` meets its contract: `Swept` is the loop's invariant.
-use Prim.Native.Nat.{◌-◌}
 use Rattle.book_repeats.proofs.Origins.{Swept}
 use Rattle.book_repeats.proofs.origins_repeat.Given as goal
 
 abbrev pub invariant-loop-i : goal.invariant-loop-i
 invariant-loop-i l = Swept l.book l.initial.marks l.marks l.i
-
-abbrev pub decreases-loop-i : goal.decreases-loop-i
-decreases-loop-i l = l.s.origins - l.i
