@@ -12,7 +12,9 @@ use Rattle.net_node.specs.declared.TimedEvent.{TimedEvent}
 use Rattle.net_node.specs.Table.{same_event, node_at, put_floats, put_numbers, blank, Table, table_of, at, with_arc, with_speed, with_next, with_next_alt, with_prev, with_event}
 use Rattle.net_insertion.specs.declared.Place.{Place}
 use Rattle.net_insertion.specs.declared.Seek.TheVariants.{Match, Split}
-use Rattle.net_insertion.specs.declared.Inserted.TheVariants.{Added, Moved, Refused}
+use Rattle.std.specs.Prelude.{Ok, Err}
+use Rattle.refusals.specs.declared.Refusal.TheVariants.{NoPlace, BadEnd}
+use Rattle.net_insertion.specs.declared.Insertion.TheVariants.{Added, Moved}
 use Rattle.net_insertion.specs.Insertion.{linked_to, event_node, split_fake, add_behind, split_at, place_at, sought_in, inserted, inserted_table}
 
 abbrev 0s : Float
@@ -84,23 +86,23 @@ record Examples : Type 0 where
   other_kind : sought_in arrived 3 1s (here 1) (event 1s Clear 1) ≡ Split 1
   other_link : sought_in arrived 3 1s (here 1) (event 1s Arrive 2) ≡ Split 1
   -- the run moves, and takes the event's own time and offset
-  moved : inserted arrived 3 5 unended 1s (here 1) (event 1s Arrive 1) ≡ Moved (then 2)
+  moved : inserted arrived 3 5 unended 1s (here 1) (event 1s Arrive 1) ≡ Ok (Moved (then 2))
   -- a split makes a Fake with the run's own time and offset, then up to the event; the node keeps its own
-  split_made : inserted arrived 3 5 unended 1s (here 1) (event 2s Arrive 1) ≡ Added (then 4) true
+  split_made : inserted arrived 3 5 unended 1s (here 1) (event 2s Arrive 1) ≡ Ok (Added (then 4) true)
   split_node : at (inserted_table arrived 3 1s (here 1) (event 2s Arrive 1)) 1 ≡ node Fake 0 2 3
   split_fake_lem : at (inserted_table arrived 3 1s (here 1) (event 2s Arrive 1)) 3 ≡ whole 2s 1s 0s 4 0 1 Fake 0
   split_event : at (inserted_table arrived 3 1s (here 1) (event 2s Arrive 1)) 4 ≡ whole 4s 4s 2s 0 0 3 Arrive 1
   -- behind a node without a next, whose held time and offset become those up to the event
-  open_made : inserted arrived 3 5 unended 1s (here 2) (event 1s Clear 1) ≡ Added (then 3) false
+  open_made : inserted arrived 3 5 unended 1s (here 2) (event 1s Clear 1) ≡ Ok (Added (then 3) false)
   open_node : at (inserted_table arrived 3 1s (here 2) (event 1s Clear 1)) 2 ≡ whole 3s 3s 1s 3 0 0 Arrive 1
   -- a join's Fake is not followed, although its next matches: a split, or an alternative's next
   fake_not_followed : sought_in joined 4 1s (here 1) (event 1s Clear 1) ≡ Split 1
   fake_passed : sought_in split 6 1s (here 1) (event 1s Clear 1) ≡ Match 5
   -- 12 without room, for a split's two nodes too, and before 13
-  full : inserted arrived 3 3 unended 1s (here 2) (event 1s Clear 1) ≡ Refused 12
-  full_at_end : inserted arrived 3 3 ended 1s (here 2) (event 1s Clear 1) ≡ Refused 12
-  full_at_split : inserted arrived 3 4 unended 1s (here 1) (event 2s Arrive 1) ≡ Refused 12
-  at_end : inserted arrived 3 4 ended 1s (here 2) (event 1s Clear 1) ≡ Refused 13
+  full : inserted arrived 3 3 unended 1s (here 2) (event 1s Clear 1) ≡ Err NoPlace
+  full_at_end : inserted arrived 3 3 ended 1s (here 2) (event 1s Clear 1) ≡ Err NoPlace
+  full_at_split : inserted arrived 3 4 unended 1s (here 1) (event 2s Arrive 1) ≡ Err NoPlace
+  at_end : inserted arrived 3 4 ended 1s (here 2) (event 1s Clear 1) ≡ Err BadEnd
 
 examples : Examples
 unfolding inserted inserted_table gap same_event node_at put_floats put_numbers linked_to event_node split_fake add_behind split_at place_at sub lt of_bits

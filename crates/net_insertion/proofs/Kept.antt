@@ -15,8 +15,10 @@ use Rattle.net_node.specs.Table.{node_at, Indexed, Table, at, with_next_alt}
 use Rattle.net_insertion.specs.declared.Place.{Place}
 use Rattle.net_insertion.specs.declared.Seek.{Seek}
 use Rattle.net_insertion.specs.declared.Seek.TheVariants.{Open, Match, Split}
-use Rattle.net_insertion.specs.declared.Inserted.{Inserted}
-use Rattle.net_insertion.specs.declared.Inserted.TheVariants.{Added, Moved, Refused}
+use Rattle.std.specs.Prelude.{Result, Ok, Err}
+use Rattle.refusals.specs.declared.Refusal.{Refusal}
+use Rattle.net_insertion.specs.declared.Insertion.{Insertion}
+use Rattle.net_insertion.specs.declared.Insertion.TheVariants.{Added, Moved}
 use Rattle.net_insertion.specs.Insertion.{matches, linked_to, event_node, split_fake, add_behind, split_at, place_at, added_as, inserted_as, table_as, sought_in, inserted, inserted_table, InsertedInto}
 use Rattle.net_insertion.proofs.Seeking.{Found, sought_found}
 use Rattle.net_insertion.proofs.Puts.{add_found, add_new, add_indexed, add_other, add_room, split_found, split_new, split_indexed, split_other, split_room}
@@ -91,13 +93,13 @@ module _ (t : Table) (n places : ℕ) (ended : ℕ → Bool) (join : Float) (p :
     pub others : (j : ℕ) → j ≢ node → j ≢ n → j ≢ n + 1 → at after j ≡ at t j
     pub grown : Grown after (n + 2) places q
 
-  abbrev pub Kept : Table → Inserted → Type 0
-  Kept after (Moved q) = MovedTo after q
-  Kept after (Added q false) = AddedBehind after q
-  Kept after (Added q true) = AddedBySplit after q
-  Kept after (Refused r) = Unit
+  abbrev pub Kept : Table → Result Insertion Refusal → Type 0
+  Kept after (Ok (Moved q)) = MovedTo after q
+  Kept after (Ok (Added q false)) = AddedBehind after q
+  Kept after (Ok (Added q true)) = AddedBySplit after q
+  Kept after (Err r) = Unit
 
-  pub added_grown : (after : Table) (q : Place) (split : Bool) → Kept after (Added q split) → Grown after (n + more split) places q
+  pub added_grown : (after : Table) (q : Place) (split : Bool) → Kept after (Ok (Added q split)) → Grown after (n + more split) places q
   added_grown after q false k = k.grown
   added_grown after q true k = k.grown
 
@@ -172,21 +174,21 @@ module _ (t : Table) (n places : ℕ) (ended : ℕ → Bool) (join : Float) (p :
         go (Open i) s f = behind i s f (ltb n places) (ended i) refl refl
         go (Split i) s f = split i s f (ltb (n + 1) places) refl
 
-    pub kept_as : (a : Inserted) → inserted t n places ended join p e ≡ a → Kept (inserted_table t n join p e) a
+    pub kept_as : (a : Result Insertion Refusal) → inserted t n places ended join p e ≡ a → Kept (inserted_table t n join p e) a
     kept_as a f = subst (Kept (inserted_table t n join p e)) f inserted_kept
 
-    pub grown_as : (q : Place) (split : Bool) → inserted t n places ended join p e ≡ Added q split → Grown (inserted_table t n join p e) (n + more split) places q
-    grown_as q split f = added_grown (inserted_table t n join p e) q split (kept_as (Added q split) f)
+    pub grown_as : (q : Place) (split : Bool) → inserted t n places ended join p e ≡ Ok (Added q split) → Grown (inserted_table t n join p e) (n + more split) places q
+    grown_as q split f = added_grown (inserted_table t n join p e) q split (kept_as (Ok (Added q split)) f)
 
     -- the same from what the function promises
-    pub call_kept : (fs : List Float) (us : List ℕ) (a : Inserted) → a ≡ inserted t n places ended join p e → InsertedInto t n join p e fs us a → Kept (record { floats = fs; numbers = us }) a
+    pub call_kept : (fs : List Float) (us : List ℕ) (a : Result Insertion Refusal) → a ≡ inserted t n places ended join p e → InsertedInto t n join p e fs us a → Kept (record { floats = fs; numbers = us }) a
     call_kept fs us a f = go a (kept_as a (sym f))
       where
         same : (fs ≡ (inserted_table t n join p e).floats) × (us ≡ (inserted_table t n join p e).numbers) → ◌≡◌ {A = Table} (inserted_table t n join p e) (record { floats = fs; numbers = us })
         same l = λ k. record { floats = sym l.0 k; numbers = sym l.1 k }
 
-        go : (a : Inserted) → Kept (inserted_table t n join p e) a → InsertedInto t n join p e fs us a → Kept (record { floats = fs; numbers = us }) a
-        go (Moved q) v l = subst (λ (x : Table). Kept x (Moved q)) (same l) v
-        go (Added q false) v l = subst (λ (x : Table). Kept x (Added q false)) (same l) v
-        go (Added q true) v l = subst (λ (x : Table). Kept x (Added q true)) (same l) v
-        go (Refused r) v l = tt
+        go : (a : Result Insertion Refusal) → Kept (inserted_table t n join p e) a → InsertedInto t n join p e fs us a → Kept (record { floats = fs; numbers = us }) a
+        go (Ok (Moved q)) v l = subst (λ (x : Table). Kept x (Ok (Moved q))) (same l) v
+        go (Ok (Added q false)) v l = subst (λ (x : Table). Kept x (Ok (Added q false))) (same l) v
+        go (Ok (Added q true)) v l = subst (λ (x : Table). Kept x (Ok (Added q true))) (same l) v
+        go (Err r) v l = tt

@@ -1,4 +1,4 @@
--- The numbers of a refused insertion: 12 or 13.
+-- Why an insertion is refused: no place is left, or a run ends there.
 use mathlib.Core.Path.{◌≡◌, refl}
 use mathlib.Core.Logic.{◌⊎◌, inl, inr}
 use mathlib.Core.Bool.{Bool, true, false}
@@ -10,14 +10,16 @@ use Rattle.net_node.specs.declared.TimedEvent.{TimedEvent}
 use Rattle.net_insertion.specs.declared.Place.{Place}
 use Rattle.net_insertion.specs.declared.Seek.{Seek}
 use Rattle.net_insertion.specs.declared.Seek.TheVariants.{Open, Match, Split}
-use Rattle.net_insertion.specs.declared.Inserted.{Inserted}
-use Rattle.net_insertion.specs.declared.Inserted.TheVariants.{Added, Moved, Refused}
+use Rattle.std.specs.Prelude.{Result, Ok, Err}
+use Rattle.refusals.specs.declared.Refusal.{Refusal}
+use Rattle.refusals.specs.declared.Refusal.TheVariants.{NoPlace, BadEnd}
+use Rattle.net_insertion.specs.declared.Insertion.{Insertion}
+use Rattle.net_insertion.specs.declared.Insertion.TheVariants.{Added}
 use Rattle.net_insertion.specs.Insertion.{place_at, added_as, inserted_as, sought_in, inserted}
 
-abbrev pub RefusesAs : Inserted → Type 0
-RefusesAs (Refused k) = (k ≡ 12) ⊎ (k ≡ 13)
-RefusesAs (Moved q) = Unit
-RefusesAs (Added q split) = Unit
+abbrev pub RefusesAs : Result Insertion Refusal → Type 0
+RefusesAs (Err r) = (r ≡ NoPlace) ⊎ (r ≡ BadEnd)
+RefusesAs (Ok i) = Unit
 
 added_as_lem : (room ended : Bool) (q : Place) (split : Bool) → RefusesAs (added_as room ended (Added q split))
 added_as_lem false ended q split = inl refl

@@ -2,7 +2,7 @@
 -- event and speed gap strictly below J: move there. Else follow the next alternative, or add a Fake (a split) and add
 -- behind it." The network is a function from index to node where it is only read, and the table's two lists where it
 -- changes.
-use Rattle.std.specs.Prelude.{◌≡◌, Bool, true, false, ◌&&◌, List, ℕ, zero, suc, ◌+◌, ◌*◌, eqb, ltb, get_or, Float}
+use Rattle.std.specs.Prelude.{◌≡◌, Bool, true, false, ◌&&◌, List, ℕ, zero, suc, ◌+◌, ◌*◌, eqb, ltb, get_or, Float, Result, Ok, Err}
 use Rattle.std.specs.Float.{binary64}
 use Rattle.std.specs.Float.Ieee.{sub, lt}
 use Rattle.floats.specs.Floats.{gap}
@@ -13,8 +13,10 @@ use Rattle.net_node.specs.Table.{with_event}
 use Rattle.net_insertion.specs.declared.Place.{Place}
 use Rattle.net_insertion.specs.declared.Seek.{Seek}
 use Rattle.net_insertion.specs.declared.Seek.TheVariants.{Open, Match, Split}
-use Rattle.net_insertion.specs.declared.Inserted.{Inserted}
-use Rattle.net_insertion.specs.declared.Inserted.TheVariants.{Added, Moved, Refused}
+use Rattle.net_insertion.specs.declared.Insertion.{Insertion}
+use Rattle.net_insertion.specs.declared.Insertion.TheVariants.{Added, Moved}
+use Rattle.refusals.specs.declared.Refusal.{Refusal}
+use Rattle.refusals.specs.declared.Refusal.TheVariants.{NoPlace, BadEnd}
 
 -- ---- where the event goes
 
@@ -82,16 +84,16 @@ unfoldable pub place_at : ℕ → TimedEvent → Place
 place_at i e = record { time_to_next = e.time; dist_to_next = e.offset; idx_prev = i }
 
 -- by whether there is room and whether the node is a finished run's
-abbrev pub added_as : Bool → Bool → Inserted → Inserted
-added_as false ended added = Refused 12
-added_as true true added = Refused 13
-added_as true false added = added
+abbrev pub added_as : Bool → Bool → Insertion → Result Insertion Refusal
+added_as false ended added = Err NoPlace
+added_as true true added = Err BadEnd
+added_as true false added = Ok added
 
 -- What is answered by what was found, with n nodes in so many places. Row 12: no place for the node, or for a split's
 -- Fake and the node. Row 13: "addition behind a finished run's event". A Fake is no run's event, so nothing is added
 -- behind a finished run's by a split.
-abbrev pub inserted_as : Seek → ℕ → ℕ → (ℕ → Bool) → TimedEvent → Inserted
-inserted_as (Match i) n places ended e = Moved (place_at i e)
+abbrev pub inserted_as : Seek → ℕ → ℕ → (ℕ → Bool) → TimedEvent → Result Insertion Refusal
+inserted_as (Match i) n places ended e = Ok (Moved (place_at i e))
 inserted_as (Open i) n places ended e = added_as (ltb n places) (ended i) (Added (place_at n e) false)
 inserted_as (Split i) n places ended e = added_as (ltb (n + 1) places) false (Added (place_at (n + 1) e) true)
 
@@ -107,7 +109,7 @@ unfolding at seek
 sought_in t n join p e = seek n (at t) join e p.idx_prev
 
 -- `insert_est_time`: the answer
-unfoldable pub inserted : Table → ℕ → ℕ → (ℕ → Bool) → Float → Place → TimedEvent → Inserted
+unfoldable pub inserted : Table → ℕ → ℕ → (ℕ → Bool) → Float → Place → TimedEvent → Result Insertion Refusal
 unfolding sought_in
 inserted t n places ended join p e = inserted_as (sought_in t n join p e) n places ended e
 
@@ -117,18 +119,10 @@ unfolding sought_in
 inserted_table t n join p e = table_as (sought_in t n join p e) t n p e
 
 -- what an answer says of the table's lists, which were t before: a refusal leaves them as they were
-abbrev pub InsertedInto : Table → ℕ → Float → Place → TimedEvent → List Float → List ℕ → Inserted → Type 0
-InsertedInto t n join p e floats numbers (Refused r) = (floats ≡ t.floats) × (numbers ≡ t.numbers)
-InsertedInto t n join p e floats numbers (Moved q) =
+abbrev pub InsertedInto : Table → ℕ → Float → Place → TimedEvent → List Float → List ℕ → Result Insertion Refusal → Type 0
+InsertedInto t n join p e floats numbers (Err r) = (floats ≡ t.floats) × (numbers ≡ t.numbers)
+InsertedInto t n join p e floats numbers (Ok i) =
     (floats ≡ (inserted_table t n join p e).floats) × (numbers ≡ (inserted_table t n join p e).numbers)
-InsertedInto t n join p e floats numbers (Added q split) =
-    (floats ≡ (inserted_table t n join p e).floats) × (numbers ≡ (inserted_table t n join p e).numbers)
-
--- document 01's number for each answer
-abbrev pub inserted_number : Inserted → ℕ
-inserted_number (Added p split) = 0
-inserted_number (Moved p) = 0
-inserted_number (Refused n) = n
 
 -- which nodes end a finished run, as the work space has it: a cell for each node, 8 apart
 unfoldable pub flagged : List ℕ → ℕ → ℕ → Bool

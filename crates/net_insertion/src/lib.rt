@@ -2,12 +2,13 @@
 #![tactic(auto)]
 
 ghost use Rattle.std.specs.Prelude.{◌≡◌, ◌+◌, ◌*◌, ◌≤◌, ◌<◌, length};
-ghost use Rattle.net_node.specs.Table.{node_at, Room, Indexed, with_next_alt, float_width, number_width};
+ghost use Rattle.net_node.specs.Table.{node_at, Room, Indexed, float_width, number_width};
 ghost use Rattle.net_node.specs.Lent.{table_at_entry};
 ghost use Rattle.net_insertion.specs.Insertion.{matches, seek, linked_to, event_node, split_fake, add_behind};
 ghost use Rattle.net_insertion.specs.Insertion.{split_at, place_at, inserted, InsertedInto, flagged};
 
 use net_node::{EstTime, TimedEvent};
+use refusals::Refusal;
 
 // A run's place, the source's `est_alt`: a node, and the time and offset of the run's own event there.
 #[derive(Clone, Copy)]
@@ -26,20 +27,20 @@ enum Seek {
     Split(u32),
 }
 
-// What insertion answers: the place behind an event that was added, and whether by a split; the place that the run
-// moved to; or a refusal's number.
+// What insertion does: an event is added, maybe by a split, or the run moves to a node; with the place that the run has
+// then.
 #[derive(Clone, Copy)]
-pub enum Inserted {
-    Added(Place, bool),
+pub enum Insertion {
+    Added { place: Place, split: bool },
     Moved(Place),
-    Refused(u32),
 }
 
 // Whether a node is the event's, at nearly its speed.
+#[tactic(auto, using(net_node::proofs::Events::event_eq), unfolding(crate::specs::Insertion::matches))]
 fn is_match(join: f64, e: TimedEvent, node: EstTime) -> bool
     ensures { result ≡ matches join e node }
 {
-    let same = net_node::same_event(node.link_event, e.link_event);
+    let same = node.link_event == e.link_event;
     let gap = floats::speed_gap(e.speed, node.speed);
     same & (gap < join)
 }
@@ -79,39 +80,44 @@ fn seek_place(
 }
 
 // A node to which the next is set: the time and offset it holds become those up to the event that follows.
+#[tactic(auto, unfolding(crate::specs::Insertion::linked_to))]
 pub fn link_to(node: EstTime, next: u32, e: TimedEvent) -> EstTime
     ensures { result ≡ linked_to node next e }
 {
-    let mut linked = node;
-    linked.time_to_next = e.time - node.time_to_next;
-    linked.dist_to_next = e.offset - node.dist_to_next;
-    linked.idx_next = next;
-    linked
+    EstTime {
+        time_to_next: e.time - node.time_to_next,
+        dist_to_next: e.offset - node.dist_to_next,
+        idx_next: next,
+        ..node
+    }
 }
 
 // An event's own node behind node prev.
+#[tactic(auto, unfolding(crate::specs::Insertion::event_node))]
 fn event_node(e: TimedEvent, prev: u32) -> EstTime
     ensures { result ≡ event_node e prev }
 {
-    let link_event = e.link_event;
-    let mut node = net_node::blank_node();
-    node.time_to_next = e.time;
-    node.dist_to_next = e.offset;
-    node.speed = e.speed;
-    node.link_event = link_event;
-    node.idx_prev = prev;
-    node
+    EstTime {
+        time_to_next: e.time,
+        dist_to_next: e.offset,
+        speed: e.speed,
+        link_event: e.link_event,
+        idx_prev: prev,
+        ..EstTime::BLANK
+    }
 }
 
 // A split's Fake behind node prev, which holds the run's own time and offset.
+#[tactic(auto, unfolding(crate::specs::Insertion::split_fake))]
 fn split_fake(place: Place, prev: u32) -> EstTime
     ensures { result ≡ split_fake place prev }
 {
-    let mut node = net_node::blank_node();
-    node.time_to_next = place.time_to_next;
-    node.dist_to_next = place.dist_to_next;
-    node.idx_prev = prev;
-    node
+    EstTime {
+        time_to_next: place.time_to_next,
+        dist_to_next: place.dist_to_next,
+        idx_prev: prev,
+        ..EstTime::BLANK
+    }
 }
 
 // Adds an event as node k behind node i.
@@ -138,13 +144,17 @@ fn split_at(floats: &mut [f64], numbers: &mut [u32], i: u32, k: u32, place: Plac
     ensures numbers { numbers.new ≡ (split_at (table_at_entry floats numbers) i k place).numbers }
 {
     let node = net_node::load(floats, numbers, i as usize);
-    let before = net_node::with_next_alt(node, k);
+    let before = EstTime {
+        idx_next_alt: k,
+        ..node
+    };
     net_node::store(floats, numbers, i as usize, before);
     let fake = split_fake(place, i);
     net_node::store(floats, numbers, k as usize, fake);
 }
 
 // The place behind an event.
+#[tactic(auto, unfolding(crate::specs::Insertion::place_at))]
 fn place_at(i: u32, e: TimedEvent) -> Place
     ensures { result ≡ place_at i e }
 {
@@ -166,7 +176,7 @@ pub fn insert_est_time(
     join: f64,
     est_alt: Place,
     est_insert: TimedEvent,
-) -> Inserted
+) -> Result<Insertion, Refusal>
     requires room { Room floats.old numbers.old places }
     requires n_le_places { n ≤ places }
     requires indexed { Indexed (node_at floats.old numbers.old) n }
@@ -187,26 +197,32 @@ pub fn insert_est_time(
         est_alt.idx_prev,
     );
     match found {
-        Seek::Match(i) => Inserted::Moved(place_at(i, est_insert)),
+        Seek::Match(i) => Ok(Insertion::Moved(place_at(i, est_insert))),
         Seek::Open(i) => {
             if places <= n {
-                return Inserted::Refused(12);
+                return Err(Refusal::NoPlace);
             }
             if 0 < cells[ends_at + i as usize * 8] {
-                return Inserted::Refused(13);
+                return Err(Refusal::BadEnd);
             }
             let k = n as u32;
             add_behind(floats, numbers, i, k, est_insert);
-            Inserted::Added(place_at(k, est_insert), false)
+            Ok(Insertion::Added {
+                place: place_at(k, est_insert),
+                split: false,
+            })
         }
         Seek::Split(i) => {
             if places <= n + 1 {
-                return Inserted::Refused(12);
+                return Err(Refusal::NoPlace);
             }
             let k = n as u32;
             split_at(floats, numbers, i, k, est_alt);
             add_behind(floats, numbers, k, k + 1, est_insert);
-            Inserted::Added(place_at(k + 1, est_insert), true)
+            Ok(Insertion::Added {
+                place: place_at(k + 1, est_insert),
+                split: true,
+            })
         }
     }
 }

@@ -1,5 +1,5 @@
 -- Laws of lists of entries: the node of an entry, and how an answer is read.
-use mathlib.Core.Path.{◌≡◌, refl, ap, ◌∙◌}
+use mathlib.Core.Path.{◌≡◌, refl, sym, ap, ◌∙◌, subst}
 use mathlib.Core.List.{List, [], ◌∷◌, ◌++◌}
 use mathlib.Core.Option.{Option, none, some}
 use Prim.{Unit}
@@ -25,11 +25,6 @@ node_last [] x zero h = refl
 node_last [] x (suc k) h = absurd (omega arith)
 node_last (y ∷ xs) x zero h = absurd (omega arith)
 node_last (y ∷ xs) x (suc k) h = node_last xs x k (omega arith)
-
-pub node_read : (xs : List EstJoinPath) (k : ℕ) (x : EstJoinPath) → k < length xs → x ≡ get_or xs k x → x.est_idx_next ≡ node_of xs k
-node_read [] k x h e = absurd (not-suc-le-zero h)
-node_read (y ∷ xs) zero x h e = ap (λ (z : EstJoinPath). z.est_idx_next) e
-node_read (y ∷ xs) (suc k) x h e = node_read xs k x (omega arith) e
 
 -- the same of more nodes
 pub valid_wider : {es : List EstJoinPath} {n : ℕ} (places : ℕ) → n ≤ places → Valid es n → Valid es places
@@ -61,6 +56,10 @@ got_node : (xs : List EstJoinPath) (k : ℕ) → (get_or xs k (record { link_idx
 got_node [] k = refl
 got_node (x ∷ xs) zero = refl
 got_node (x ∷ xs) (suc k) = got_node xs k
+
+-- it names a node where the list does
+pub valid_at : (es : List EstJoinPath) (n k : ℕ) → Valid es n → k < length es → (get_or es k (record { link_idx_match = 0; est_idx_next = 0 })).est_idx_next < n
+valid_at es n k v h = subst (λ (i : ℕ). i < n) (sym (got_node es k)) (v.node k h)
 
 pub node_got : (m : ℕ) (xs ys : List EstJoinPath) (k : ℕ) → ys ≡ xs → entry m (get_or ys k (record { link_idx_match = 0; est_idx_next = 0 })).est_idx_next ≡ entry m (node_of xs k)
 node_got m xs ys k e = ap (entry m) (got_node ys k ∙ ap (λ (zs : List EstJoinPath). node_of zs k) e)

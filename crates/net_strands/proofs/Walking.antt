@@ -61,6 +61,11 @@ not_none s s' x p h = let g : x ∷ reverse s' ≡ [] = sym (stack_push s' s x p
 none_on : (s : List ℕ) (i : ℕ) (is : List ℕ) → s ≡ [] → reverse s ≡ i ∷ is → ⊥
 none_on s i is z h = let g : [] ≡ i ∷ is = sym (ap reverse z) ∙ h in subst IsCons (sym g) tt
 
+-- a stack is empty from which nothing can be popped
+pub nothing_left : (s : List ℕ) → (0 < length s → false ≡ true) → s ≡ []
+nothing_left [] h = refl
+nothing_left (i ∷ s) h = absurd (true≢false (sym (h (omega arith))))
+
 -- one number less
 shorter : (s s' : List ℕ) (x : ℕ) → s ≡ s' ++ (x ∷ []) → length s ≡ length s' + 1
 shorter s s' x h = ap length h ∙ length-append s' (x ∷ [])
@@ -75,8 +80,8 @@ module _ (node : ℕ → EstTime) (nodes : ℕ) (e : LinkEvent) where
   closes_gives v = record { rises = v.inside; inside = omega arith; gives = v.gives }
 
   -- as it is noted
-  pub closes_says : {list : List EstJoinPath} {left i begin opened : ℕ} → Closes node nodes e list left i begin opened (pops node e) → length list ≤ 1024 → Walks node e list i (span_number begin (length list)) (opened - left)
-  closes_says {list} {left} {i} {begin} {opened} v h = says_span (λ b t. WalkGives node e list i b t (opened - left)) begin (length list) h (closes_gives v)
+  pub closes_says : {list : List EstJoinPath} {left i begin opened : ℕ} → Closes node nodes e list left i begin opened (pops node e) → (at : ℕ) → at ≡ length list → at ≤ 1024 → Walks node e list i (span_number begin at) (opened - left)
+  closes_says {list} {left} {i} {begin} {opened} v at f h = says_span (λ b t. WalkGives node e list i b t (opened - left)) begin at h (subst (λ (k : ℕ). WalkGives node e list i begin k (opened - left)) (sym f) (closes_gives v))
 
   -- what is noted of a node
   pub known_gives : {cells : List ℕ} {list : List EstJoinPath} {w : Layout} {here : ℕ} → Given cells w node nodes e list → here < nodes → (s : Span) → Some s ≡ span_in (note_in cells w here strands_column) → (nexts : ℕ) → nexts ≡ note_in cells w here nexts_column → WalkGives node e list here s.begin s.end nexts

@@ -84,15 +84,7 @@ fn follow_matched(
         }
     }
     let begin = list.len();
-    follow_alternatives(
-        floats,
-        numbers,
-        nodes,
-        event,
-        link_idx_match,
-        start,
-        list,
-    )?;
+    follow_alternatives(floats, numbers, nodes, event, link_idx_match, start, list)?;
     if several {
         let span = Span {
             begin,

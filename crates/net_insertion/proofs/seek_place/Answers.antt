@@ -1,30 +1,13 @@
 -- `net_insertion::seek_place` meets its contract: `Seeking` is the loop's invariant, and each alternative is later.
 use mathlib.Core.Path.{sym, ◌∙◌}
-use native.Mathlib.Omega.{arith}
-use Rattle.net_insertion.proofs.Seeking.{seeking_start, next_within, seeking_open, seeking_match, seeking_split, alternative_later, seeking_on}
+use Rattle.net_insertion.proofs.Seeking.{seeking_start, seeking_open, seeking_match, seeking_split, seeking_on}
 use Rattle.net_insertion.proofs.seek_place.Goals as goal
 
 pub loop-e-init : goal.loop-e-init
 loop-e-init c = seeking_start _ _ _ _ _ c.requires.start_lt_n
 
-pub load-node-requires : goal.load-node-requires
-load-node-requires c = let r = c.requires in
-    record {
-      float_width_in_bounds = omega (arith, c.loop-e.invariant.within, r.room.floats, r.n_le_places);
-      number_width_in_bounds = omega (arith, c.loop-e.invariant.within, r.room.numbers, r.n_le_places);
-    }
-
 pub returns-then-next-eq0 : goal.returns-then-next-eq0
 returns-then-next-eq0 c = seeking_open c.requires.indexed c.loop-e.invariant _ c.load-node.ensures c.if-next-eq0.true
-
-pub load-there-requires : goal.load-there-requires
-load-there-requires c =
-    let r = c.requires in
-    let h = next_within r.indexed c.loop-e.invariant _ c.load-node.ensures in
-    record {
-      float_width_in_bounds = omega (arith, h, r.room.floats, r.n_le_places);
-      number_width_in_bounds = omega (arith, h, r.room.numbers, r.n_le_places);
-    }
 
 pub returns-then-is_match : goal.returns-then-is_match
 returns-then-is_match c =
@@ -35,13 +18,6 @@ pub returns-then-node-eq0 : goal.returns-then-node-eq0
 returns-then-node-eq0 c =
     seeking_split c.requires.indexed c.loop-e.invariant _ c.load-node.ensures
     c.if-next-eq0.false _ c.load-there.ensures (sym c.is_match.ensures ∙ c.if-is_match.false) c.if-node-eq0.true
-
-pub loop-e-smaller : goal.loop-e-smaller
-loop-e-smaller c =
-    let v = c.loop-e.invariant in
-    let h = alternative_later c.requires.indexed v _ c.load-node.ensures
-    c.if-next-eq0.false _ c.load-there.ensures c.if-node-eq0.false in
-    omega (arith, h, v.within)
 
 pub loop-e-preserved : goal.loop-e-preserved
 loop-e-preserved c =

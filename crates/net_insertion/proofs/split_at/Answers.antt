@@ -1,19 +1,10 @@
 -- `net_insertion::split_at` meets its contract.
-use native.Mathlib.Omega.{arith}
+use mathlib.Core.Path.{refl}
 use Rattle.net_insertion.proofs.Puts.{split_stored}
 use Rattle.net_insertion.proofs.split_at.Goals as goal
 
-pub store-requires-2 : goal.store-requires-2
-store-requires-2 c = record {
-  float_width_in_bounds = omega (arith, c.requires, c.store.auto);
-  number_width_in_bounds = omega (arith, c.requires, c.store.auto);
-}
-
 pub returns : goal.returns
 returns c =
-    let all = split_stored _ _ _ _ _ _ _ _ _ _ _ c.load-node.ensures c.with_next_alt-before.ensures c.split_fake-fake.ensures
+    let all = split_stored _ _ _ _ _ _ _ _ _ _ _ c.load-node.ensures refl c.split_fake-fake.ensures
     (record { floats = c.store.ensures.floats; numbers = c.store.ensures.numbers; floats_then = c.store-2.ensures.floats; numbers_then = c.store-2.ensures.numbers }) in
-    record {
-      floats = all.0;
-      numbers = all.1;
-    }
+    record { floats = all.0; numbers = all.1 }

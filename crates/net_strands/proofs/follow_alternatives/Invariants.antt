@@ -5,9 +5,9 @@ use Rattle.net_strands.specs.Space.{alternatives}
 use Rattle.net_strands.proofs.Alternatives.{Following}
 use Rattle.net_strands.proofs.follow_alternatives.Given as goal
 
-abbrev pub invariant-loop-node : goal.invariant-loop-node
-invariant-loop-node l =
+abbrev pub invariant-loop-x : goal.invariant-loop-x
+invariant-loop-x l =
     Following (node_at l.floats l.numbers) l.nodes l.event l.link_idx_match (alternatives l.nodes (node_at l.floats l.numbers) l.event l.link_idx_match l.start l.initial.list.items) l.list.items l.i
 
-abbrev pub decreases-loop-node : goal.decreases-loop-node
-decreases-loop-node l = l.nodes - l.i
+abbrev pub decreases-loop-x : goal.decreases-loop-x
+decreases-loop-x l = l.nodes - l.i
