@@ -7,13 +7,12 @@ use native.Mathlib.Omega.{arith}
 use lib.Dec.{eqb}
 use lib.ListN.{length, set, length-set}
 use lib.Ieee.{Float, binary64, of_bits, is_nan}
+use Rattle.std.specs.Prelude.{Option, Some, None}
 use Rattle.net_node.specs.Table.{node_at, Room}
 use Rattle.pass_queue.specs.declared.Entry.{Entry}
 use Rattle.pass_rules.specs.Net.{Pass, also_done}
 use Rattle.pass_rules.specs.Walks.{Inside, done_in}
 use Rattle.pass_rules.specs.Backward.{turns, last_two, backward}
-use Rattle.pass_state.specs.declared.Passed.{Passed}
-use Rattle.pass_state.specs.declared.Passed.TheVariants.{Queued, Fails}
 use Rattle.pass_state.specs.Held.{slices, PassIn, EnqueuedAs}
 use Rattle.pass_state.proofs.Left.{done_other}
 use Rattle.pass_rules.proofs.Sets.{table_of}
@@ -37,33 +36,29 @@ last_two_lem done n e = λ t k. go (eqb k (n - 1)) (eqb k (n - 2)) (done k) (e k
     go false true c h = refl
     go false false c h = h
 
--- a flag set keeps the length
-pub flag_length : (cells : List ℕ) (base n : ℕ) → length (set (set cells (base + (n - 2)) 1) (base + (n - 1)) 1) ≡ length cells
-flag_length cells base n = length-set (set cells (base + (n - 2)) 1) (base + (n - 1)) 1 ∙ length-set cells (base + (n - 2)) 1
-
-module _ (fs : List Float) (us cells : List ℕ) (n base : ℕ) {ts ts' : List Float} {ns ns' : List ℕ} (r : Passed) (q : EnqueuedAs true ts ns ts' ns' 0 (last_of n) r) where
+module _ (fs : List Float) (us flags : List ℕ) (n : ℕ) where
   -- both floats of the entry are numbers
-  pub start_fails : r ≡ Fails → {A : Type 0} → A
-  start_fails e =
-      let t : (is_nan (of_bits binary64 0) || is_nan (of_bits binary64 0)) ≡ true = (subst (EnqueuedAs true ts ns ts' ns' 0 (last_of n)) e q).told in
-      let z : true ≡ false = sym t ∙ numbers in
+  pub start_queued : {ts ts' : List Float} {ns ns' : List ℕ} {A : Type 0} → EnqueuedAs true ts ns ts' ns' 0 (last_of n) None → A
+  start_queued q =
+      let z : true ≡ false = sym q.told ∙ numbers in
       let o : ◌≡◌ {A = ℕ} 0 1 = cc in
       absurd (omega arith)
 
-  module _ (count : ℕ) (e : r ≡ Queued count) where
-    -- the pass at its start
-    abbrev pub started : Pass
-    started = flagged_at (flagged_at (record { table = table_of fs us; done = done_in cells base; queue = last_of n ∷ [] }) (n - 2)) (n - 1)
+  -- the pass at its start
+  abbrev pub started : Pass
+  started = flagged_at (flagged_at (record { table = table_of fs us; done = done_in flags; queue = last_of n ∷ [] }) (n - 2)) (n - 1)
 
-    pub start_is : ((i : ℕ) → done_in cells base i ≡ false) → backward (table_of fs us) n ≡ turns n n started.table started.done started.queue
+  module _ (f : (i : ℕ) → done_in flags i ≡ false) where
+    pub start_is : backward (table_of fs us) n ≡ turns n n started.table started.done started.queue
     unfolding backward
-    start_is f = ap (λ (d : ℕ → Bool). turns n n (table_of fs us) d (last_of n ∷ [])) (sym (last_two_lem (done_in cells base) n f))
+    start_is = ap (λ (d : ℕ → Bool). turns n n (table_of fs us) d (last_of n ∷ [])) (sym (last_two_lem (done_in flags) n f))
 
-    pub start_in : Room fs us n → Inside (node_at fs us) n → 3 ≤ n → base + n ≤ length cells → ((i : ℕ) → done_in cells base i ≡ false) → n * 2 ≤ length ts → n ≤ length ns → length ts ≡ length ts' → length ns ≡ length ns'
-        → PassIn true n base cells (slices fs us (set (set cells (base + (n - 2)) 1) (base + (n - 1)) 1) ts' ns') count (n - 1) started
-    start_in room inside three flags f lts lns lt ln =
-        let v0 = in_start true n base (slices fs us cells ts ns) room inside flags lts lns in
-        let v1 = queued_in v0 (last_of n) (omega arith) (subst (EnqueuedAs true ts ns ts' ns' 0 (last_of n)) e q) lt ln (n + 1) (omega arith) in
-        let v2 = in_flag_new v1 (n - 2) (omega arith) (set cells (base + (n - 2)) 1) refl (f (n - 2)) n (omega arith) in
-        let un : also_done (done_in cells base) (n - 2) (n - 1) ≡ false = done_other (done_in cells base) (n - 2) (n - 1) (λ (o : n - 1 ≡ n - 2). omega arith) ∙ f (n - 1) in
-        in_flag_new v2 (n - 1) (omega arith) (set (set cells (base + (n - 2)) 1) (base + (n - 1)) 1) refl un (n - 1) (omega arith)
+    pub start_in : {ts ts' : List Float} {ns ns' : List ℕ} {count : ℕ} → EnqueuedAs true ts ns ts' ns' 0 (last_of n) (Some count)
+        → Room fs us n → Inside (node_at fs us) n → 3 ≤ n → n ≤ length flags → n * 2 ≤ length ts → n ≤ length ns → length ts ≡ length ts' → length ns ≡ length ns'
+        → PassIn true n (slices fs us (set (set flags (n - 2) 1) (n - 1) 1) ts' ns') count (n - 1) started
+    start_in {ts} {ts'} {ns} {ns'} {count} q room inside three l lts lns lt ln =
+        let v0 = in_start true n (slices fs us flags ts ns) room inside l lts lns in
+        let v1 = queued_in v0 (last_of n) (omega arith) q lt ln (n + 1) (omega arith) in
+        let v2 = in_flag_new v1 (n - 2) (omega arith) (set flags (n - 2) 1) refl (f (n - 2)) n (omega arith) in
+        let un : also_done (done_in flags) (n - 2) (n - 1) ≡ false = done_other (done_in flags) (n - 2) (n - 1) (λ (o : n - 1 ≡ n - 2). omega arith) ∙ f (n - 1) in
+        in_flag_new v2 (n - 1) (omega arith) (set (set flags (n - 2) 1) (n - 1) 1) refl un (n - 1) (omega arith)

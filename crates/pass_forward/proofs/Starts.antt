@@ -6,19 +6,18 @@ use Prim.Native.Nat.{ℕ, zero, suc, ◌+◌, ◌*◌, ◌-◌, ◌≤◌}
 use native.Mathlib.Omega.{arith}
 use lib.ListN.{length, set}
 use lib.Ieee.{Float, binary64, of_bits, is_nan}
+use Rattle.std.specs.Prelude.{Option, Some, None}
 use Rattle.net_node.specs.Table.{node_at, Room, set_time}
 use Rattle.pass_queue.specs.declared.Entry.{Entry}
 use Rattle.laws.specs.Answer.{refused}
 use Rattle.pass_rules.specs.Net.{asserting, Pass, also_done}
 use Rattle.pass_rules.specs.Walks.{Inside, done_in}
 use Rattle.pass_rules.specs.Forward.{turns, first_two, forward}
-use Rattle.pass_state.specs.declared.Passed.{Passed}
-use Rattle.pass_state.specs.declared.Passed.TheVariants.{Queued, Fails}
 use Rattle.pass_state.specs.Held.{slices, PassIn, EnqueuedAs}
 use Rattle.pass_state.proofs.Left.{done_same, done_other}
 use Rattle.pass_rules.proofs.Sets.{table_of}
 use Rattle.pass_state.proofs.Kept.{done_at_of, in_start, queued_in, in_done_new}
-use Rattle.pass_forward.proofs.Entries.{zero_number}
+use Rattle.pass_state.proofs.Both.{zero_number}
 
 abbrev pub first_of : Float → Entry
 first_of departure = record { time = departure; sub = of_bits binary64 0; node = 1 }
@@ -32,36 +31,33 @@ first_two_lem done e = λ t k. go k t
     go (suc zero) = done_same (also_done done 0) 1
     go (suc (suc k)) = done_other (also_done done 0) 1 (suc (suc k)) (λ (o : suc (suc k) ≡ 1). omega arith) ∙ done_other done 0 (suc (suc k)) (λ (o : suc (suc k) ≡ 0). omega arith) ∙ e (suc (suc k))
 
-module _ (fs : List Float) (us cells : List ℕ) (n base : ℕ) (departure : Float) {ts ts' : List Float} {ns ns' : List ℕ} (r : Passed) (q : EnqueuedAs false ts ns ts' ns' 0 (first_of departure) r) where
+module _ (fs : List Float) (us flags : List ℕ) (n : ℕ) (departure : Float) where
   -- the departure is no number
-  pub start_fails : r ≡ Fails → forward (table_of fs us) n departure ≡ refused 15
+  pub start_fails : {ts ts' : List Float} {ns ns' : List ℕ} → EnqueuedAs false ts ns ts' ns' 0 (first_of departure) None → forward (table_of fs us) n departure ≡ refused 15
   unfolding forward
-  start_fails e =
-      let t : is_nan departure ≡ true = sym (zero_number departure) ∙ (subst (EnqueuedAs false ts ns ts' ns' 0 (first_of departure)) e q).told in
+  start_fails q =
+      let t : is_nan departure ≡ true = sym (zero_number departure) ∙ q.told in
       ap (λ (b : Bool). asserting (not b) (turns n n (set_time (set_time (table_of fs us) 0 departure) 1 departure) first_two (first_of departure ∷ []))) t
 
-  module _ (count : ℕ) (e : r ≡ Queued count) where
-    queued_as : EnqueuedAs false ts ns ts' ns' 0 (first_of departure) (Queued count)
-    queued_as = subst (EnqueuedAs false ts ns ts' ns' 0 (first_of departure)) e q
+  -- the pass at its start
+  abbrev pub started : Pass
+  started = done_at_of (done_at_of (record { table = table_of fs us; done = done_in flags; queue = first_of departure ∷ [] }) 0 departure) 1 departure
 
-    -- the pass at its start
-    abbrev pub started : Pass
-    started = done_at_of (done_at_of (record { table = table_of fs us; done = done_in cells base; queue = first_of departure ∷ [] }) 0 departure) 1 departure
-
-    pub start_is : ((i : ℕ) → done_in cells base i ≡ false) → forward (table_of fs us) n departure ≡ turns n n started.table started.done started.queue
+  module _ {ts ts' : List Float} {ns ns' : List ℕ} {count : ℕ} (q : EnqueuedAs false ts ns ts' ns' 0 (first_of departure) (Some count)) (f : (i : ℕ) → done_in flags i ≡ false) where
+    pub start_is : forward (table_of fs us) n departure ≡ turns n n started.table started.done started.queue
     unfolding forward
-    start_is f =
-        let t : is_nan departure ≡ false = sym (zero_number departure) ∙ queued_as.told.0 in
+    start_is =
+        let t : is_nan departure ≡ false = sym (zero_number departure) ∙ q.told.0 in
         ap (λ (b : Bool). asserting (not b) (turns n n (set_time (set_time (table_of fs us) 0 departure) 1 departure) first_two (first_of departure ∷ []))) t
-        ∙ ap (λ (d : ℕ → Bool). turns n n (set_time (set_time (table_of fs us) 0 departure) 1 departure) d (first_of departure ∷ [])) (sym (first_two_lem (done_in cells base) f))
+        ∙ ap (λ (d : ℕ → Bool). turns n n (set_time (set_time (table_of fs us) 0 departure) 1 departure) d (first_of departure ∷ [])) (sym (first_two_lem (done_in flags) f))
 
-    pub start_in : Room fs us n → Inside (node_at fs us) n → 3 ≤ n → base + n ≤ length cells → ((i : ℕ) → done_in cells base i ≡ false) → n * 2 ≤ length ts → n ≤ length ns → length ts ≡ length ts' → length ns ≡ length ns'
-        → {f1 : List Float} {u1 c1 : List ℕ} → (f1 ≡ (set_time (table_of fs us) 0 departure).floats) × ((u1 ≡ (set_time (table_of fs us) 0 departure).numbers) × (c1 ≡ set cells (base + 0) 1))
-        → {f2 : List Float} {u2 c2 : List ℕ} → (f2 ≡ (set_time (table_of f1 u1) 1 departure).floats) × ((u2 ≡ (set_time (table_of f1 u1) 1 departure).numbers) × (c2 ≡ set c1 (base + 1) 1))
-        → PassIn false n base cells (slices f2 u2 c2 ts' ns') count (n - 1) started
-    start_in room inside three flags f lts lns lt ln {f1} {u1} {c1} a {f2} {u2} {c2} b =
-        let v0 = in_start false n base (slices fs us cells ts ns) room inside flags lts lns in
-        let v1 = queued_in v0 (first_of departure) (omega arith) queued_as lt ln (n + 1) (omega arith) in
+    pub start_in : Room fs us n → Inside (node_at fs us) n → 3 ≤ n → n ≤ length flags → n * 2 ≤ length ts → n ≤ length ns → length ts ≡ length ts' → length ns ≡ length ns'
+        → {f1 : List Float} {u1 c1 : List ℕ} → (f1 ≡ (set_time (table_of fs us) 0 departure).floats) × ((u1 ≡ (set_time (table_of fs us) 0 departure).numbers) × (c1 ≡ set flags 0 1))
+        → {f2 : List Float} {u2 c2 : List ℕ} → (f2 ≡ (set_time (table_of f1 u1) 1 departure).floats) × ((u2 ≡ (set_time (table_of f1 u1) 1 departure).numbers) × (c2 ≡ set c1 1 1))
+        → PassIn false n (slices f2 u2 c2 ts' ns') count (n - 1) started
+    start_in room inside three l lts lns lt ln {f1} {u1} {c1} a {f2} {u2} {c2} b =
+        let v0 = in_start false n (slices fs us flags ts ns) room inside l lts lns in
+        let v1 = queued_in v0 (first_of departure) (omega arith) q lt ln (n + 1) (omega arith) in
         let v2 = in_done_new v1 0 (omega arith) departure f1 u1 c1 a (f 0) n (omega arith) in
-        let un : also_done (done_in cells base) 0 1 ≡ false = done_other (done_in cells base) 0 1 (λ (o : ◌≡◌ {A = ℕ} 1 0). omega arith) ∙ f 1 in
+        let un : also_done (done_in flags) 0 1 ≡ false = done_other (done_in flags) 0 1 (λ (o : ◌≡◌ {A = ℕ} 1 0). omega arith) ∙ f 1 in
         in_done_new v2 1 (omega arith) departure f2 u2 c2 b un (n - 1) (omega arith)

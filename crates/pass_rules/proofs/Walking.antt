@@ -42,24 +42,24 @@ and_three : (a b c : Bool) → (a && (b && c)) ≡ (a && b && c)
 and_three true b c = refl
 and_three false b c = refl
 
-module _ (t : Table) (cells : List ℕ) (base : ℕ) (i : ℕ) (x : EstTime) (l : x ≡ node_at t.floats t.numbers i) (fake : Bool) (f : fake ≡ is_fake x) where
-  passable_is : (d : Bool) (n : ℕ) → (fake && (not (ltb 0 (get_or cells (base + ahead d x) 0)) && not (eqb (ahead d x) (end_of d n)))) ≡ passable d (pass_of t (done_in cells base)) n i
+module _ (t : Table) (flags : List ℕ) (i : ℕ) (x : EstTime) (l : x ≡ node_at t.floats t.numbers i) (fake : Bool) (f : fake ≡ is_fake x) where
+  passable_is : (d : Bool) (n : ℕ) → (fake && (not (ltb 0 (get_or flags (ahead d x) 0)) && not (eqb (ahead d x) (end_of d n)))) ≡ passable d (pass_of t (done_in flags)) n i
   unfolding Forward.is_passable Backward.is_passable done_in at
   passable_is d n =
-      ap (λ (b : Bool). b && (not (ltb 0 (get_or cells (base + ahead d x) 0)) && not (eqb (ahead d x) (end_of d n)))) f
-      ∙ ap (λ (z : EstTime). is_fake z && (not (ltb 0 (get_or cells (base + ahead d z) 0)) && not (eqb (ahead d z) (end_of d n)))) l
-      ∙ and_three (is_fake (at t i)) (not (done_in cells base (ahead d (at t i)))) (not (eqb (ahead d (at t i)) (end_of d n)))
+      ap (λ (b : Bool). b && (not (ltb 0 (get_or flags (ahead d x) 0)) && not (eqb (ahead d x) (end_of d n)))) f
+      ∙ ap (λ (z : EstTime). is_fake z && (not (ltb 0 (get_or flags (ahead d z) 0)) && not (eqb (ahead d z) (end_of d n)))) l
+      ∙ and_three (is_fake (at t i)) (not (done_in flags (ahead d (at t i)))) (not (eqb (ahead d (at t i)) (end_of d n)))
       ∙ told d
     where
-      told : (d : Bool) → (is_fake (at t i) && not (done_in cells base (ahead d (at t i))) && not (eqb (ahead d (at t i)) (end_of d n))) ≡ passable d (pass_of t (done_in cells base)) n i
+      told : (d : Bool) → (is_fake (at t i) && not (done_in flags (ahead d (at t i))) && not (eqb (ahead d (at t i)) (end_of d n))) ≡ passable d (pass_of t (done_in flags)) n i
       told true = refl
       told false = refl
 
   -- by where the node leads and where the walk ends
-  pub passable_by : (d : Bool) (n to end : ℕ) → to ≡ ahead d x → end ≡ end_of d n → (fake && (not (ltb 0 (get_or cells (base + to) 0)) && not (eqb to end))) ≡ passable d (pass_of t (done_in cells base)) n i
+  pub passable_by : (d : Bool) (n to end : ℕ) → to ≡ ahead d x → end ≡ end_of d n → (fake && (not (ltb 0 (get_or flags to 0)) && not (eqb to end))) ≡ passable d (pass_of t (done_in flags)) n i
   passable_by d n to end g h =
-      ap (λ (k : ℕ). fake && (not (ltb 0 (get_or cells (base + k) 0)) && not (eqb k end))) g
-      ∙ ap (λ (k : ℕ). fake && (not (ltb 0 (get_or cells (base + ahead d x) 0)) && not (eqb (ahead d x) k))) h
+      ap (λ (k : ℕ). fake && (not (ltb 0 (get_or flags k 0)) && not (eqb k end))) g
+      ∙ ap (λ (k : ℕ). fake && (not (ltb 0 (get_or flags (ahead d x) 0)) && not (eqb (ahead d x) k))) h
       ∙ passable_is d n
 
 -- where a walk goes is a node
@@ -96,19 +96,19 @@ module _ (walk : ℕ → ℕ → Answer ℕ) (n start : ℕ) where
 
 -- ---- each way a turn ends
 
-abbrev pub walk_of : Bool → List Float → List ℕ → List ℕ → ℕ → ℕ → ℕ → ℕ → Answer ℕ
-walk_of d fs us cells base n k i = relink_walk d k (pass_of (table_of fs us) (done_in cells base)) n i
+abbrev pub walk_of : Bool → List Float → List ℕ → List ℕ → ℕ → ℕ → ℕ → Answer ℕ
+walk_of d fs us flags n k i = relink_walk d k (pass_of (table_of fs us) (done_in flags)) n i
 
-module _ (d : Bool) (fs : List Float) (us cells : List ℕ) (base n start i count : ℕ) (v : Walking (walk_of d fs us cells base n) n start i count) (r : Bool)
-    (e : r ≡ passable d (pass_of (table_of fs us) (done_in cells base)) n i) where
-  pub walk_found : r ≡ false → (walk_of d fs us cells base n n start ≡ given i) × (i < n)
-  walk_found h = walking_found (walk_of d fs us cells base n) n start i count v (walk_stops (pass_of (table_of fs us) (done_in cells base)) n i d (n - count) (sym e ∙ h))
+module _ (d : Bool) (fs : List Float) (us flags : List ℕ) (n start i count : ℕ) (v : Walking (walk_of d fs us flags n) n start i count) (r : Bool)
+    (e : r ≡ passable d (pass_of (table_of fs us) (done_in flags)) n i) where
+  pub walk_found : r ≡ false → (walk_of d fs us flags n n start ≡ given i) × (i < n)
+  walk_found h = walking_found (walk_of d fs us flags n) n start i count v (walk_stops (pass_of (table_of fs us) (done_in flags)) n i d (n - count) (sym e ∙ h))
 
-  pub walk_endless : r ≡ true → n ≤ count → walk_of d fs us cells base n n start ≡ refused 15
-  walk_endless h g = walking_endless (walk_of d fs us cells base n) n start i count v g (walk_ends (pass_of (table_of fs us) (done_in cells base)) n i d (sym e ∙ h))
+  pub walk_endless : r ≡ true → n ≤ count → walk_of d fs us flags n n start ≡ refused 15
+  walk_endless h g = walking_endless (walk_of d fs us flags n) n start i count v g (walk_ends (pass_of (table_of fs us) (done_in flags)) n i d (sym e ∙ h))
 
-  pub walk_on : r ≡ true → count < n → Inside (node_at fs us) n → (x : EstTime) → x ≡ node_at fs us i → (j : ℕ) → j ≡ ahead d x → Walking (walk_of d fs us cells base n) n start j (count + 1)
+  pub walk_on : r ≡ true → count < n → Inside (node_at fs us) n → (x : EstTime) → x ≡ node_at fs us i → (j : ℕ) → j ≡ ahead d x → Walking (walk_of d fs us flags n) n start j (count + 1)
   unfolding at
   walk_on h g w x l j z =
-      walking_on (walk_of d fs us cells base n) n start i count v g j (subst (λ (k : ℕ). k < n) (sym z) (ahead_inside d fs us w i v.within x l))
-      (walk_goes (pass_of (table_of fs us) (done_in cells base)) n i d (n - (count + 1)) (sym e ∙ h) ∙ ap (λ (y : EstTime). walk_of d fs us cells base n (n - (count + 1)) (ahead d y)) (sym l) ∙ ap (walk_of d fs us cells base n (n - (count + 1))) (sym z))
+      walking_on (walk_of d fs us flags n) n start i count v g j (subst (λ (k : ℕ). k < n) (sym z) (ahead_inside d fs us w i v.within x l))
+      (walk_goes (pass_of (table_of fs us) (done_in flags)) n i d (n - (count + 1)) (sym e ∙ h) ∙ ap (λ (y : EstTime). walk_of d fs us flags n (n - (count + 1)) (ahead d y)) (sym l) ∙ ap (walk_of d fs us flags n (n - (count + 1))) (sym z))

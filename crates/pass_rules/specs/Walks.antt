@@ -1,5 +1,5 @@
 -- What the code of the relink walks answers, and what it asks of a network. Only contracts use these words.
-use Rattle.std.specs.Prelude.{◌≡◌, Bool, true, false, List, [], ℕ, ◌+◌, ◌-◌, ◌<◌, ltb, get_or, Option, Some, None}
+use Rattle.std.specs.Prelude.{◌≡◌, Bool, true, false, List, [], ℕ, ◌-◌, ◌<◌, ltb, get_or, Option, Some, None}
 use Rattle.net_node.specs.Table.{Table}
 use Rattle.net_node.specs.declared.EstTime.{EstTime}
 use Rattle.laws.specs.Answer.{Answer, given}
@@ -14,9 +14,9 @@ pub record Inside (node : ℕ → EstTime) (n : ℕ) : Type 0 where
   pub prev : (i : ℕ) → i < n → (node i).idx_prev < n
   pub prev_alt : (i : ℕ) → i < n → (node i).idx_prev_alt < n
 
--- whether a node is done (timed forward, passed backward): its cell, one for each node from `base` on, is set
-unfoldable pub done_in : List ℕ → ℕ → ℕ → Bool
-done_in cells base i = ltb 0 (get_or cells (base + i) 0)
+-- whether a node is done (timed forward, passed backward): its flag is set
+unfoldable pub done_in : List ℕ → ℕ → Bool
+done_in flags i = ltb 0 (get_or flags i 0)
 
 -- a pass's table and done nodes; the walks don't look at the queue
 abbrev pub pass_of : Table → (ℕ → Bool) → Pass

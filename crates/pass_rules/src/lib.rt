@@ -208,26 +208,25 @@ pub fn checks_fail(floats: &[f64], numbers: &[u32], n: usize) -> bool
 }
 
 // Whether a node is a Fake that leads to a node which is neither done nor the walk's end. A node is done (timed
-// forward, passed backward) whose cell is set.
+// forward, passed backward) whose flag is set.
 fn is_passable<L: Links>(
     floats: &[f64],
     numbers: &[u32],
-    cells: &[u32],
-    done_at: usize,
+    flags: &[u32],
     n: usize,
     i: u32,
 ) -> bool
     requires room { Room floats.now numbers.now n }
     requires inside { Inside (node_at floats.now numbers.now) n }
-    requires n_in_bounds { done_at + n ≤ length cells.now }
+    requires n_in_bounds { n ≤ length flags.now }
     requires i_lt_n { i < n }
     ensures { result ≡ passable L.backward (pass_of (table_seen floats numbers)
-        (done_in cells.now done_at)) n i }
+        (done_in flags.now)) n i }
 {
     let node = net_node::load(floats, numbers, i as usize);
     let to = L::ahead(node) as usize;
     let end = L::end_of(n);
-    let done = 0 < cells[done_at + to];
+    let done = 0 < flags[to];
     node.is_fake() & (!done & !(to == end))
 }
 
@@ -235,20 +234,19 @@ fn is_passable<L: Links>(
 pub fn relink_walk<L: Links>(
     floats: &[f64],
     numbers: &[u32],
-    cells: &[u32],
-    done_at: usize,
+    flags: &[u32],
     n: usize,
     i: u32,
 ) -> Option<u32>
     requires room { Room floats.now numbers.now n }
     requires inside { Inside (node_at floats.now numbers.now) n }
-    requires n_in_bounds { done_at + n ≤ length cells.now }
+    requires n_in_bounds { n ≤ length flags.now }
     requires i_lt_n { i < n }
-    ensures { RelinkWalk L.backward (table_seen floats numbers) (done_in cells.now done_at) n i result }
+    ensures { RelinkWalk L.backward (table_seen floats numbers) (done_in flags.now) n i result }
 {
     let mut at = i;
     for _ in 0..=n {
-        if !is_passable::<L>(floats, numbers, cells, done_at, n, at) {
+        if !is_passable::<L>(floats, numbers, flags, n, at) {
             return Some(at);
         }
         at = L::ahead(net_node::load(floats, numbers, at as usize));

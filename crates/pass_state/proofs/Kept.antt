@@ -6,8 +6,8 @@ use Prim.Native.Nat.{ℕ, ◌+◌, ◌*◌, ◌-◌, ◌≤◌, ◌<◌}
 use native.Mathlib.Nat.{not-suc-le-zero, suc-ne-zero}
 use native.Mathlib.Omega.{arith}
 use lib.ListN.{length, get_or, set, length-set}
-use lib.Seq.{get_or-set_other}
 use lib.Ieee.{Float, is_nan}
+use Rattle.std.specs.Prelude.{Option, Some, None}
 use Rattle.net_node.specs.declared.EstTime.{EstTime}
 use Rattle.net_node.specs.Table.{node_at, Room, Table, at, set_time}
 use Rattle.pass_queue.specs.declared.Entry.{Entry}
@@ -18,8 +18,6 @@ use Rattle.pass_rules.specs.Net.{Pass, also_done}
 use Rattle.pass_rules.proofs.Sets.{table_of}
 use Rattle.pass_rules.specs.Walks.{Inside, done_in}
 use Rattle.pass_rules.specs.Backward.{queued}
-use Rattle.pass_state.specs.declared.Passed.{Passed}
-use Rattle.pass_state.specs.declared.Passed.TheVariants.{Queued, Fails}
 use Rattle.pass_state.specs.Held.{PassSlices, slices, table_in, left, PassIn, Working, PassBy, PassAs, EnqueuedAs}
 use Rattle.pass_state.proofs.Left.{left_most, left_kept, left_falls, flags_set}
 use Rattle.pass_state.proofs.Links.{Linked, linked_time}
@@ -37,19 +35,18 @@ done_at_of p i x = record { table = set_time p.table i x; done = also_done p.don
 abbrev pub queueing : Pass → List Entry → Pass
 queueing p es = record { table = p.table; done = p.done; queue = es }
 
-module _ {backward : Bool} {n base : ℕ} {start : List ℕ} {held : PassSlices} {count most : ℕ} {p : Pass}
-    (v : PassIn backward n base start held count most p) where
-  pub works : Working backward n base held count most
-  works = record { pass = p; start = start; holds = v }
+module _ {backward : Bool} {n : ℕ} {held : PassSlices} {count most : ℕ} {p : Pass}
+    (v : PassIn backward n held count most p) where
+  pub works : Working backward n held count most
+  works = record { pass = p; holds = v }
 
-  pub in_more : (more : ℕ) → most ≤ more → PassIn backward n base start held count more p
+  pub in_more : (more : ℕ) → most ≤ more → PassIn backward n held count more p
   in_more more h = record {
     table = v.table;
     room = v.room;
     inside = v.inside;
     flags = v.flags;
     done = v.done;
-    elsewhere = v.elsewhere;
     queue = v.queue;
     named = v.named;
     times = v.times;
@@ -63,7 +60,7 @@ module _ {backward : Bool} {n base : ℕ} {start : List ℕ} {held : PassSlices}
   unfolding at
   node_in i x e = e ∙ ap (λ (t : Table). at t i) (sym v.table)
 
-  pub done_in_lem : (i : ℕ) (r : Bool) → r ≡ done_in held.cells base i → p.done i ≡ r
+  pub done_in_lem : (i : ℕ) (r : Bool) → r ≡ done_in held.flags i → p.done i ≡ r
   done_in_lem i r e = ap (λ (f : ℕ → Bool). f i) v.done ∙ sym e
 
   pub linked_in : Linked p.table n
@@ -72,7 +69,7 @@ module _ {backward : Bool} {n base : ℕ} {start : List ℕ} {held : PassSlices}
 
   -- ---- the table
 
-  pub in_table : (t : Table) (gs : List Float) (vs : List ℕ) → gs ≡ t.floats → vs ≡ t.numbers → Linked t n → PassIn backward n base start (slices gs vs held.cells held.times held.nodes) count most (tabled p t)
+  pub in_table : (t : Table) (gs : List Float) (vs : List ℕ) → gs ≡ t.floats → vs ≡ t.numbers → Linked t n → PassIn backward n (slices gs vs held.flags held.times held.nodes) count most (tabled p t)
   unfolding at
   in_table t gs vs f u l =
       let e : t ≡ table_of gs vs = λ j. record { floats = sym f j; numbers = sym u j } in
@@ -83,7 +80,6 @@ module _ {backward : Bool} {n base : ℕ} {start : List ℕ} {held : PassSlices}
         inside = l'.inside;
         flags = v.flags;
         done = v.done;
-        elsewhere = v.elsewhere;
         queue = v.queue;
         named = v.named;
         times = v.times;
@@ -93,17 +89,16 @@ module _ {backward : Bool} {n base : ℕ} {start : List ℕ} {held : PassSlices}
 
   -- ---- a node done
 
-  flagged_with : (i : ℕ) → i < n → (cells' : List ℕ) → cells' ≡ set held.cells (base + i) 1 → (less : ℕ) → count + left (also_done p.done i) n ≤ less
-      → PassIn backward n base start (slices held.floats held.numbers cells' held.times held.nodes) count less (flagged_at p i)
-  flagged_with i h cells' e less few =
-      let within : base + i < length held.cells = omega (arith, v.flags) in
+  flagged_with : (i : ℕ) → i < n → (flags' : List ℕ) → flags' ≡ set held.flags i 1 → (less : ℕ) → count + left (also_done p.done i) n ≤ less
+      → PassIn backward n (slices held.floats held.numbers flags' held.times held.nodes) count less (flagged_at p i)
+  flagged_with i h flags' e less few =
+      let within : i < length held.flags = omega (arith, v.flags) in
       record {
         table = v.table;
         room = v.room;
         inside = v.inside;
-        flags = let l = ap length e ∙ length-set held.cells (base + i) 1 in omega (arith, v.flags);
-        done = ap (λ (f : ℕ → Bool). also_done f i) v.done ∙ sym (flags_set held.cells base i within) ∙ ap (λ (l : List ℕ). done_in l base) (sym e);
-        elsewhere = λ q o. ap (λ (l : List ℕ). get_or l q 0) e ∙ get_or-set_other held.cells (base + i) q 1 0 (o i h) ∙ v.elsewhere q o;
+        flags = let l = ap length e ∙ length-set held.flags i 1 in omega (arith, v.flags);
+        done = ap (λ (f : ℕ → Bool). also_done f i) v.done ∙ sym (flags_set held.flags i within) ∙ ap (λ (l : List ℕ). done_in l) (sym e);
         queue = v.queue;
         named = v.named;
         times = v.times;
@@ -111,17 +106,17 @@ module _ {backward : Bool} {n base : ℕ} {start : List ℕ} {held : PassSlices}
         few = few;
       }
 
-  in_flag : (i : ℕ) → i < n → (cells' : List ℕ) → cells' ≡ set held.cells (base + i) 1 → PassIn backward n base start (slices held.floats held.numbers cells' held.times held.nodes) count most (flagged_at p i)
-  in_flag i h cells' e = flagged_with i h cells' e most (omega (arith, v.few, left_kept p.done i n))
+  in_flag : (i : ℕ) → i < n → (flags' : List ℕ) → flags' ≡ set held.flags i 1 → PassIn backward n (slices held.floats held.numbers flags' held.times held.nodes) count most (flagged_at p i)
+  in_flag i h flags' e = flagged_with i h flags' e most (omega (arith, v.few, left_kept p.done i n))
 
   -- that was not done: one fewer is left
-  pub in_flag_new : (i : ℕ) → i < n → (cells' : List ℕ) → cells' ≡ set held.cells (base + i) 1 → p.done i ≡ false → (less : ℕ) → most ≤ less + 1
-      → PassIn backward n base start (slices held.floats held.numbers cells' held.times held.nodes) count less (flagged_at p i)
-  in_flag_new i h cells' e d less l = flagged_with i h cells' e less (omega (arith, v.few, left_falls p.done i n h d))
+  pub in_flag_new : (i : ℕ) → i < n → (flags' : List ℕ) → flags' ≡ set held.flags i 1 → p.done i ≡ false → (less : ℕ) → most ≤ less + 1
+      → PassIn backward n (slices held.floats held.numbers flags' held.times held.nodes) count less (flagged_at p i)
+  in_flag_new i h flags' e d less l = flagged_with i h flags' e less (omega (arith, v.few, left_falls p.done i n h d))
 
   -- at a time
-  module _ (i : ℕ) (h : i < n) (x : Float) (gs : List Float) (vs cells' : List ℕ) (e : (gs ≡ (set_time (table_in held) i x).floats) × ((vs ≡ (set_time (table_in held) i x).numbers) × (cells' ≡ set held.cells (base + i) 1))) where
-    timed : PassIn backward n base start (slices gs vs held.cells held.times held.nodes) count most (tabled p (set_time p.table i x))
+  module _ (i : ℕ) (h : i < n) (x : Float) (gs : List Float) (vs flags' : List ℕ) (e : (gs ≡ (set_time (table_in held) i x).floats) × ((vs ≡ (set_time (table_in held) i x).numbers) × (flags' ≡ set held.flags i 1))) where
+    timed : PassIn backward n (slices gs vs held.flags held.times held.nodes) count most (tabled p (set_time p.table i x))
     timed =
         let f = e.0 ∙ ap (λ (t : Table). (set_time t i x).floats) (sym v.table) in
         let u = e.1.0 ∙ ap (λ (t : Table). (set_time t i x).numbers) (sym v.table) in
@@ -130,14 +125,13 @@ module _ {backward : Bool} {n base : ℕ} {start : List ℕ} {held : PassSlices}
   -- ---- the queue
 
   in_queue : (e : Entry) → e.node < n → (ts' : List Float) (ns' : List ℕ) → Holds backward ts' ns' (count + 1) (e ∷ p.queue) → length held.times ≡ length ts' → length held.nodes ≡ length ns' → (more : ℕ) → most + 1 ≤ more
-      → PassIn backward n base start (slices held.floats held.numbers held.cells ts' ns') (count + 1) more (queueing p (e ∷ p.queue))
+      → PassIn backward n (slices held.floats held.numbers held.flags ts' ns') (count + 1) more (queueing p (e ∷ p.queue))
   in_queue e h ts' ns' q lt ln more m = record {
     table = v.table;
     room = v.room;
     inside = v.inside;
     flags = v.flags;
     done = v.done;
-    elsewhere = v.elsewhere;
     queue = q;
     named = (h, v.named);
     times = omega (arith, v.times);
@@ -152,7 +146,7 @@ module _ {backward : Bool} {n base : ℕ} {start : List ℕ} {held : PassSlices}
     pub list : p.queue ≡ first ∷ rest
     pub taken : r ≡ best backward first rest
     pub within : r.node < n
-    pub holds : PassIn backward n base start (slices held.floats held.numbers held.cells ts' ns') (count - 1) less (queueing p (others backward first rest))
+    pub holds : PassIn backward n (slices held.floats held.numbers held.flags ts' ns') (count - 1) less (queueing p (others backward first rest))
 
   pub in_pop : 0 < count → (r : Entry) (ts' : List Float) (ns' : List ℕ)
       → ((x : Entry) (es : List Entry) → Holds backward held.times held.nodes count (x ∷ es) → (r ≡ best backward x es) × Holds backward ts' ns' (count - 1) (others backward x es))
@@ -176,7 +170,6 @@ module _ {backward : Bool} {n base : ℕ} {start : List ℕ} {held : PassSlices}
               inside = v.inside;
               flags = v.flags;
               done = v.done;
-              elsewhere = v.elsewhere;
               queue = t.1;
               named = k.1;
               times = omega (arith, v.times);
@@ -193,62 +186,61 @@ module _ {backward : Bool} {n base : ℕ} {start : List ℕ} {held : PassSlices}
       go (x ∷ xs) e = absurd (suc-ne-zero (length xs) e)
 
 -- a node done at a time
-module _ {backward : Bool} {n base : ℕ} {start : List ℕ} {held : PassSlices} {count most : ℕ} {p : Pass}
-    (v : PassIn backward n base start held count most p) (i : ℕ) (h : i < n) (x : Float) (gs : List Float) (vs cells' : List ℕ)
-    (e : (gs ≡ (set_time (table_in held) i x).floats) × ((vs ≡ (set_time (table_in held) i x).numbers) × (cells' ≡ set held.cells (base + i) 1))) where
-  pub in_done : PassIn backward n base start (slices gs vs cells' held.times held.nodes) count most (done_at_of p i x)
-  in_done = in_flag (timed v i h x gs vs cells' e) i h cells' e.1.1
+module _ {backward : Bool} {n : ℕ} {held : PassSlices} {count most : ℕ} {p : Pass}
+    (v : PassIn backward n held count most p) (i : ℕ) (h : i < n) (x : Float) (gs : List Float) (vs flags' : List ℕ)
+    (e : (gs ≡ (set_time (table_in held) i x).floats) × ((vs ≡ (set_time (table_in held) i x).numbers) × (flags' ≡ set held.flags i 1))) where
+  pub in_done : PassIn backward n (slices gs vs flags' held.times held.nodes) count most (done_at_of p i x)
+  in_done = in_flag (timed v i h x gs vs flags' e) i h flags' e.1.1
 
-  pub in_done_new : p.done i ≡ false → (less : ℕ) → most ≤ less + 1 → PassIn backward n base start (slices gs vs cells' held.times held.nodes) count less (done_at_of p i x)
-  in_done_new = in_flag_new (timed v i h x gs vs cells' e) i h cells' e.1.1
+  pub in_done_new : p.done i ≡ false → (less : ℕ) → most ≤ less + 1 → PassIn backward n (slices gs vs flags' held.times held.nodes) count less (done_at_of p i x)
+  in_done_new = in_flag_new (timed v i h x gs vs flags' e) i h flags' e.1.1
 
 -- ---- the start: nothing is queued yet
 
-pub in_start : (backward : Bool) (n base : ℕ) (held : PassSlices) → Room held.floats held.numbers n → Inside (node_at held.floats held.numbers) n → base + n ≤ length held.cells → n * 2 ≤ length held.times → n ≤ length held.nodes
-    → PassIn backward n base held.cells held 0 n (record { table = table_in held; done = done_in held.cells base; queue = [] })
-in_start backward n base held r i f t m = record {
+pub in_start : (backward : Bool) (n : ℕ) (held : PassSlices) → Room held.floats held.numbers n → Inside (node_at held.floats held.numbers) n → n ≤ length held.flags → n * 2 ≤ length held.times → n ≤ length held.nodes
+    → PassIn backward n held 0 n (record { table = table_in held; done = done_in held.flags; queue = [] })
+in_start backward n held r i f t m = record {
   table = refl;
   room = r;
   inside = i;
   flags = f;
   done = refl;
-  elsewhere = λ q o. refl;
   queue = holds_none backward held.times held.nodes;
   named = tt;
   times = t;
   nodes = m;
-  few = omega (arith, left_most (done_in held.cells base) n);
+  few = omega (arith, left_most (done_in held.flags) n);
 }
 
 -- ---- answers
 
-module _ {backward : Bool} {n base : ℕ} {start : List ℕ} {held : PassSlices} {count most : ℕ} {p : Pass}
-    (v : PassIn backward n base start held count most p) where
+module _ {backward : Bool} {n : ℕ} {held : PassSlices} {count most : ℕ} {p : Pass}
+    (v : PassIn backward n held count most p) where
   -- an entry queued
-  pub queued_in : (e : Entry) → e.node < n → {ts' : List Float} {ns' : List ℕ} {k : ℕ} → EnqueuedAs backward held.times held.nodes ts' ns' count e (Queued k) → length held.times ≡ length ts' → length held.nodes ≡ length ns'
-      → (more : ℕ) → most + 1 ≤ more → PassIn backward n base start (slices held.floats held.numbers held.cells ts' ns') k more (queueing p (e ∷ p.queue))
+  pub queued_in : (e : Entry) → e.node < n → {ts' : List Float} {ns' : List ℕ} {k : ℕ} → EnqueuedAs backward held.times held.nodes ts' ns' count e (Some k) → length held.times ≡ length ts' → length held.nodes ≡ length ns'
+      → (more : ℕ) → most + 1 ≤ more → PassIn backward n (slices held.floats held.numbers held.flags ts' ns') k more (queueing p (e ∷ p.queue))
   queued_in e h {ts'} {ns'} {k} q lt ln more m =
       let z : count + 1 ≡ k = sym q.told.1.0 in
       let w : Holds backward ts' ns' (count + 1) (e ∷ p.queue) = subst (λ (j : ℕ). Holds backward ts' ns' j (e ∷ p.queue)) (sym z) (q.told.1.1 p.queue v.queue) in
-      subst (λ (j : ℕ). PassIn backward n base start (slices held.floats held.numbers held.cells ts' ns') j more (queueing p (e ∷ p.queue))) z (in_queue v e h ts' ns' w lt ln more m)
+      subst (λ (j : ℕ). PassIn backward n (slices held.floats held.numbers held.flags ts' ns') j more (queueing p (e ∷ p.queue))) z (in_queue v e h ts' ns' w lt ln more m)
 
-  pub enqueued_in : (e : Entry) → e.node < n → {ts' : List Float} {ns' : List ℕ} {r : Passed} → EnqueuedAs backward held.times held.nodes ts' ns' count e r → length held.times ≡ length ts' → length held.nodes ≡ length ns'
-      → (more : ℕ) → most + 1 ≤ more → (bound : ℕ) → left p.done n < bound → PassAs (queued (is_nan e.time || is_nan e.sub) p e) backward n base start (slices held.floats held.numbers held.cells ts' ns') more bound r
+  pub enqueued_in : (e : Entry) → e.node < n → {ts' : List Float} {ns' : List ℕ} {r : Option ℕ} → EnqueuedAs backward held.times held.nodes ts' ns' count e r → length held.times ≡ length ts' → length held.nodes ≡ length ns'
+      → (more : ℕ) → most + 1 ≤ more → (bound : ℕ) → left p.done n < bound → PassAs (queued (is_nan e.time || is_nan e.sub) p e) backward n (slices held.floats held.numbers held.flags ts' ns') more bound r
   enqueued_in e h {ts'} {ns'} {r} q lt ln more m bound b = record { told = go r q }
     where
-      go : (r : Passed) → EnqueuedAs backward held.times held.nodes ts' ns' count e r → PassBy (queued (is_nan e.time || is_nan e.sub) p e) backward n base start (slices held.floats held.numbers held.cells ts' ns') more bound r
-      go (Queued k) q = record { pass = queueing p (e ∷ p.queue); is = ap (λ (t : Bool). queued t p e) q.told.0; holds = queued_in e h q lt ln more m; fewer = b }
-      go Fails q = ap (λ (t : Bool). queued t p e) q.told
+      go : (r : Option ℕ) → EnqueuedAs backward held.times held.nodes ts' ns' count e r → PassBy (queued (is_nan e.time || is_nan e.sub) p e) backward n (slices held.floats held.numbers held.flags ts' ns') more bound r
+      go (Some k) q = record { pass = queueing p (e ∷ p.queue); is = ap (λ (t : Bool). queued t p e) q.told.0; holds = queued_in e h q lt ln more m; fewer = b }
+      go None q = ap (λ (t : Bool). queued t p e) q.told
 
   -- the pass as it is
-  pub stays : (more : ℕ) → most ≤ more → (bound : ℕ) → left p.done n < bound → PassAs (given p) backward n base start held more bound (Queued count)
+  pub stays : (more : ℕ) → most ≤ more → (bound : ℕ) → left p.done n < bound → PassAs (given p) backward n held more bound (Some count)
   stays more m bound b = record { told = record { pass = p; is = refl; holds = in_more v more m; fewer = b } }
 
-module _ {backward : Bool} {n base : ℕ} {start : List ℕ} {held : PassSlices} {most bound : ℕ} where
+module _ {backward : Bool} {n : ℕ} {held : PassSlices} {most bound : ℕ} where
   -- an answer that is another
-  pub pass_after : {a b : Answer Pass} {r : Passed} (more : ℕ) → a ≡ b → bound ≤ more → PassAs b backward n base start held most bound r → PassAs a backward n base start held most more r
+  pub pass_after : {a b : Answer Pass} {r : Option ℕ} (more : ℕ) → a ≡ b → bound ≤ more → PassAs b backward n held most bound r → PassAs a backward n held most more r
   pass_after {a} {b} {r} more e l g = record { told = go r g.told }
     where
-      go : (r : Passed) → PassBy b backward n base start held most bound r → PassBy a backward n base start held most more r
-      go (Queued k) g = record { pass = g.pass; is = e ∙ g.is; holds = g.holds; fewer = omega (arith, g.fewer) }
-      go Fails g = e ∙ g
+      go : (r : Option ℕ) → PassBy b backward n held most bound r → PassBy a backward n held most more r
+      go (Some k) g = record { pass = g.pass; is = e ∙ g.is; holds = g.holds; fewer = omega (arith, g.fewer) }
+      go None g = e ∙ g

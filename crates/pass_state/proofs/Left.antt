@@ -76,17 +76,17 @@ module _ (done : ℕ → Bool) (i : ℕ) where
 
 -- ---- the flags
 
-module _ (cells : List ℕ) (at i : ℕ) (h : at + i < length cells) where
-  flag_set : (k : ℕ) → done_in (set cells (at + i) 1) at k ≡ also_done (done_in cells at) i k
+module _ (flags : List ℕ) (i : ℕ) (h : i < length flags) where
+  flag_set : (k : ℕ) → done_in (set flags i 1) k ≡ also_done (done_in flags) i k
   unfolding done_in
   flag_set k = ⊎_elim here there (equal_or_not k i)
     where
-      here : k ≡ i → done_in (set cells (at + i) 1) at k ≡ also_done (done_in cells at) i k
+      here : k ≡ i → done_in (set flags i 1) k ≡ also_done (done_in flags) i k
       here o =
-          ap (done_in (set cells (at + i) 1) at) o ∙ ap (ltb 0) (get_or-set_same cells (at + i) 1 0 h) ∙ sym (ap (also_done (done_in cells at) i) o ∙ done_same (done_in cells at) i)
+          ap (done_in (set flags i 1)) o ∙ ap (ltb 0) (get_or-set_same flags i 1 0 h) ∙ sym (ap (also_done (done_in flags) i) o ∙ done_same (done_in flags) i)
 
-      there : k ≢ i → done_in (set cells (at + i) 1) at k ≡ also_done (done_in cells at) i k
-      there o = ap (ltb 0) (get_or-set_other cells (at + i) (at + k) 1 0 (λ (q : at + k ≡ at + i). o (omega arith))) ∙ sym (done_other (done_in cells at) i k o)
+      there : k ≢ i → done_in (set flags i 1) k ≡ also_done (done_in flags) i k
+      there o = ap (ltb 0) (get_or-set_other flags i k 1 0 (λ (q : k ≡ i). o q)) ∙ sym (done_other (done_in flags) i k o)
 
-  pub flags_set : done_in (set cells (at + i) 1) at ≡ also_done (done_in cells at) i
+  pub flags_set : done_in (set flags i 1) ≡ also_done (done_in flags) i
   flags_set = λ t k. flag_set k t

@@ -7,4 +7,5 @@ pub mod Steps
 pub mod Strands
 pub mod Settles
 pub mod Parts
-pub mod Turns
+pub mod Turning
+pub mod Both

@@ -5,15 +5,11 @@ use mathlib.Core.List.{List}
 use Prim.Native.Nat.{ℕ, ◌+◌, ◌-◌, ◌<◌}
 use native.Mathlib.Omega.{arith}
 use lib.Ieee.{Float}
-use Rattle.pass_rules.specs.declared.Walked.{Walked}
-use Rattle.pass_rules.specs.declared.Walked.TheVariants.{Found, Endless}
+use Rattle.std.specs.Prelude.{Option, Some, None}
 use Rattle.laws.specs.Answer.{Answer, refused, given, and_then}
 use Rattle.pass_rules.specs.Net.{asserting, Pass}
-use Rattle.pass_state.specs.declared.Passed.{Passed}
-use Rattle.pass_state.specs.declared.Passed.TheVariants.{Fails}
-use Rattle.pass_state.specs.declared.Stands.{Stands}
-use Rattle.pass_state.specs.declared.Stands.TheVariants.{On, Nowhere}
-use Rattle.pass_state.specs.Held.{PassSlices, slices, left, PassIn, Working, Gives, PassAs, StandsBy, StandsAs, FindsBy}
+use Rattle.pass_state.specs.declared.Stand.{Stand}
+use Rattle.pass_state.specs.Held.{PassSlices, slices, left, PassIn, Working, Standing, Gives, PassAs, StandsBy, StandsAs, FindsBy}
 use Rattle.pass_state.proofs.Kept.{works, pass_after}
 
 pub record Parts : Type 1 where
@@ -25,68 +21,50 @@ pub record Parts : Type 1 where
   pub turn : Pass → Answer Pass
   pub is : (p : Pass) → turn p ≡ and_then (relink p) (λ (a : A). and_then (strand a) settle)
 
-module _ (w : Parts) {backward : Bool} {n base : ℕ} {held : PassSlices} {count : ℕ} (o : Working backward n base held count (n - 2)) (curr : ℕ)
-    (gs : List Float) (vs : List ℕ) (r : Walked)
-    (a : (p : Pass) (start : List ℕ) (qs : List Float) (ms : List ℕ) (count most : ℕ) → PassIn backward n base start (slices held.floats held.numbers held.cells qs ms) count most p
-    → FindsBy (w.relink p) (w.form curr) backward n base start (slices gs vs held.cells qs ms) count most (left p.done n + 1) r) where
+module _ (w : Parts) {backward : Bool} {n : ℕ} {held : PassSlices} {count : ℕ} (o : Working backward n held count (n - 2)) (curr : ℕ) {gs : List Float} {vs : List ℕ} where
   -- the relink fails
-  pub turn_endless : r ≡ Endless → (p : Pass) (start : List ℕ) → PassIn backward n base start held count (n - 2) p → PassAs (w.turn p) backward n base start (slices gs vs held.cells held.times held.nodes) (n - 1) (left p.done n) Fails
-  turn_endless q p start v = record {
-    told =
-        let f = subst (FindsBy (w.relink p) (w.form curr) backward n base start (slices gs vs held.cells held.times held.nodes) count (n - 2) (left p.done n + 1)) q (a p start held.times held.nodes count (n - 2) v) in
-        w.is p ∙ ap (λ (x : Answer w.A). and_then x (λ (b : w.A). and_then (w.strand b) w.settle)) f;
-  }
+  pub turn_endless : 
+      ((p : Pass) (qs : List Float) (ms : List ℕ) (count most : ℕ) → PassIn backward n (slices held.floats held.numbers held.flags qs ms) count most p
+      → FindsBy (w.relink p) (w.form curr) backward n (slices gs vs held.flags qs ms) count most (left p.done n + 1) None) → (p : Pass) → PassIn backward n held count (n - 2) p → PassAs (w.turn p) backward n (slices gs vs held.flags held.times held.nodes) (n - 1) (left p.done n) None
+  turn_endless a p v = record { told = w.is p ∙ ap (λ (x : Answer w.A). and_then x (λ (b : w.A). and_then (w.strand b) w.settle)) (a p held.times held.nodes count (n - 2) v) }
 
-  module _ (found : ℕ) (q : r ≡ Found found) where
-    found_by : (p : Pass) (start : List ℕ) → PassIn backward n base start held count (n - 2) p
-        → Gives (w.relink p) (w.form curr found) backward n base start (slices gs vs held.cells held.times held.nodes) count (n - 2) (left p.done n + 1) × (found < n)
-    found_by p start v = subst (FindsBy (w.relink p) (w.form curr) backward n base start (slices gs vs held.cells held.times held.nodes) count (n - 2) (left p.done n + 1)) q (a p start held.times held.nodes count (n - 2) v)
+  module _ {found : ℕ} 
+      (a : (p : Pass) (qs : List Float) (ms : List ℕ) (count most : ℕ) → PassIn backward n (slices held.floats held.numbers held.flags qs ms) count most p
+      → FindsBy (w.relink p) (w.form curr) backward n (slices gs vs held.flags qs ms) count most (left p.done n + 1) (Some found)) where
+    found_by : (p : Pass) → PassIn backward n held count (n - 2) p
+        → Gives (w.relink p) (w.form curr found) backward n (slices gs vs held.flags held.times held.nodes) count (n - 2) (left p.done n + 1) × (found < n)
+    found_by p v = a p held.times held.nodes count (n - 2) v
 
-    pub relinked_works : Working backward n base (slices gs vs held.cells held.times held.nodes) count (n - 2)
-    relinked_works = works (found_by o.pass o.start o.holds).0.holds
+    pub found_stands : curr < n → Standing backward n (slices gs vs held.flags held.times held.nodes) (record { curr = curr; ahead = found; count = count })
+    found_stands h = record { working = works (found_by o.pass o.holds).0.holds; curr = h; ahead = (found_by o.pass o.holds).1 }
 
-    pub relinked_within : found < n
-    relinked_within = (found_by o.pass o.start o.holds).1
+    turn_then : (p : Pass) (v : PassIn backward n held count (n - 2) p) → w.turn p ≡ and_then (w.strand (w.form curr found (found_by p v).0.pass)) w.settle
+    turn_then p v = w.is p ∙ ap (λ (x : Answer w.A). and_then x (λ (b : w.A). and_then (w.strand b) w.settle)) (found_by p v).0.is
 
-    module _ {held₁ : PassSlices} (s : Stands)
-        (b : (p : Pass) (start : List ℕ) → PassIn backward n base start (slices gs vs held.cells held.times held.nodes) count (n - 2) p
-        → StandsAs (w.strand (w.form curr found p)) w.form backward n base start held₁ (n - 2) (left p.done n) s) where
-      stood_by : (k : Stands) → s ≡ k → (p : Pass) (start : List ℕ) → PassIn backward n base start (slices gs vs held.cells held.times held.nodes) count (n - 2) p
-          → StandsBy (w.strand (w.form curr found p)) w.form backward n base start held₁ (n - 2) (left p.done n) k
-      stood_by k e p start v = (subst (StandsAs (w.strand (w.form curr found p)) w.form backward n base start held₁ (n - 2) (left p.done n)) e (b p start v)).told
-
-      turn_then : (p : Pass) (start : List ℕ) (v : PassIn backward n base start held count (n - 2) p)
-          → w.turn p ≡ and_then (w.strand (w.form curr found (found_by p start v).0.pass)) w.settle
-      turn_then p start v = w.is p ∙ ap (λ (x : Answer w.A). and_then x (λ (b : w.A). and_then (w.strand b) w.settle)) (found_by p start v).0.is
-
+    module _ {held₁ : PassSlices} where
       -- the strand fails
-      pub turn_falls : s ≡ Nowhere → (p : Pass) (start : List ℕ) → PassIn backward n base start held count (n - 2) p
-          → PassAs (w.turn p) backward n base start held₁ (n - 1) (left p.done n) Fails
-      turn_falls e p start v =
-          let g = (found_by p start v).0 in
-          record { told = turn_then p start v ∙ ap (λ (x : Answer w.A). and_then x w.settle) (stood_by Nowhere e g.pass start g.holds) }
+      pub turn_falls : 
+          ((p : Pass) → PassIn backward n (slices gs vs held.flags held.times held.nodes) count (n - 2) p
+          → StandsAs (w.strand (w.form curr found p)) w.form backward n held₁ (n - 2) (left p.done n) None) → (p : Pass) → PassIn backward n held count (n - 2) p → PassAs (w.turn p) backward n held₁ (n - 1) (left p.done n) None
+      turn_falls b p v = let g = (found_by p v).0 in record { told = turn_then p v ∙ ap (λ (x : Answer w.A). and_then x w.settle) (b g.pass g.holds).told }
 
-      module _ (here ahead queued : ℕ) (e : s ≡ On here ahead queued) where
-        stood : Gives (w.strand (w.form curr found relinked_works.pass)) (w.form here ahead) backward n base relinked_works.start held₁ queued (n - 2) (left relinked_works.pass.done n) × ((here < n) × (ahead < n))
-        stood = stood_by (On here ahead queued) e relinked_works.pass relinked_works.start relinked_works.holds
-
-        pub stood-works : Working backward n base held₁ queued (n - 2)
-        stood-works = works stood.0.holds
-
-        pub stood-here : here < n
-        stood-here = stood.1.0
-
-        pub stood-ahead : ahead < n
-        stood-ahead = stood.1.1
+      module _ {at : Stand} 
+          (b : (p : Pass) → PassIn backward n (slices gs vs held.flags held.times held.nodes) count (n - 2) p
+          → StandsAs (w.strand (w.form curr found p)) w.form backward n held₁ (n - 2) (left p.done n) (Some at)) where
+        pub stood : Standing backward n held₁ at
+        stood =
+            let g = (found_by o.pass o.holds).0 in
+            let h = (b g.pass g.holds).told in
+            record { working = works h.0.holds; curr = h.1.0; ahead = h.1.1 }
 
         -- the turn is over
-        pub turn-ends : {held₂ : PassSlices} (t : Passed)
-            → ((p : Pass) (start : List ℕ) → PassIn backward n base start held₁ queued (n - 2) p → PassAs (w.settle (w.form here ahead p)) backward n base start held₂ (n - 1) (left p.done n + 1) t)
-            → (p : Pass) (start : List ℕ) → PassIn backward n base start held count (n - 2) p → PassAs (w.turn p) backward n base start held₂ (n - 1) (left p.done n) t
-        turn-ends t c p start v =
-            let g = (found_by p start v).0 in
-            let h = (stood_by (On here ahead queued) e g.pass start g.holds).0 in
-            pass_after (left p.done n) (turn_then p start v ∙ ap (λ (x : Answer w.A). and_then x w.settle) h.is) (omega (arith, h.fewer, g.fewer)) (c h.pass start h.holds)
+        pub turn_ends : {held₂ : PassSlices} (t : Option ℕ)
+            → ((p : Pass) → PassIn backward n held₁ at.count (n - 2) p → PassAs (w.settle (w.form at.curr at.ahead p)) backward n held₂ (n - 1) (left p.done n + 1) t)
+            → (p : Pass) → PassIn backward n held count (n - 2) p → PassAs (w.turn p) backward n held₂ (n - 1) (left p.done n) t
+        turn_ends t c p v =
+            let g = (found_by p v).0 in
+            let h = (b g.pass g.holds).told.0 in
+            pass_after (left p.done n) (turn_then p v ∙ ap (λ (x : Answer w.A). and_then x w.settle) h.is) (omega (arith, h.fewer, g.fewer)) (c h.pass h.holds)
 
 -- a turn asserts both things before it relinks
 pub then_inside : {A B : Type 0} (a b : Bool) (w : Answer ℕ) (f : ℕ → A) (g : A → Answer B)

@@ -8,13 +8,12 @@ use native.Mathlib.Omega.{arith}
 use borrow.Author.Tests.{eq-eqb, ne_eqb}
 use lib.Dec.{eqb}
 use lib.Ieee.{Float}
+use Rattle.std.specs.Prelude.{Option, Some, None}
 use Rattle.net_node.specs.declared.EstTime.{EstTime}
 use Rattle.net_node.specs.Table.{node_at, Table, at}
-use Rattle.pass_rules.specs.declared.Walked.{Walked}
-use Rattle.pass_rules.specs.declared.Walked.TheVariants.{Found, Endless}
 use Rattle.laws.specs.Answer.{Answer, refused, given, and_then}
 use Rattle.pass_rules.specs.Net.{asserting, Pass}
-use Rattle.pass_rules.specs.Walks.{done_in, pass_of, WalkAs}
+use Rattle.pass_rules.specs.Walks.{done_in, pass_of}
 use Rattle.pass_state.specs.Held.{PassSlices, slices, table_in, left, PassIn, FindsBy}
 use Rattle.pass_state.proofs.Links.{Linked, Names, names_in}
 use Rattle.pass_state.proofs.Kept.{tabled, node_in, done_in_lem, linked_in, in_table}
@@ -41,21 +40,18 @@ module _ {n : ℕ} (w : Relinker n) (p : Pass) (curr : ℕ) where
   abbrev pub relink_by : Answer w.A
   relink_by = let next = w.link (at p.table curr) in sought_by next (p.done curr) (p.done next) (w.walk p next)
 
-module _ {n : ℕ} (w : Relinker n) {backward : Bool} {base : ℕ} {start : List ℕ} {held : PassSlices} {count most : ℕ} {p : Pass}
-    (v : PassIn backward n base start held count most p) (curr : ℕ) (x : EstTime) (l : x ≡ node_at held.floats held.numbers curr) (d : Bool) (e : d ≡ done_in held.cells base curr) where
-  abbrev next : ℕ
-  next = w.link x
-
+module _ {n : ℕ} (w : Relinker n) {backward : Bool} {held : PassSlices} {count most : ℕ} {p : Pass}
+    (v : PassIn backward n held count most p) (curr : ℕ) (x : EstTime) (l : x ≡ node_at held.floats held.numbers curr) (next : ℕ) (m : next ≡ w.link x) (d : Bool) (e : d ≡ done_in held.flags curr) where
   relink_by_lem : relink_by w p curr ≡ sought_by w p curr next d (p.done next) (w.walk p next)
   relink_by_lem =
-      ap (λ (z : EstTime). sought_by w p curr (w.link z) (p.done curr) (p.done (w.link z)) (w.walk p (w.link z))) (sym (node_in v curr x l))
+      ap (λ (k : ℕ). sought_by w p curr k (p.done curr) (p.done k) (w.walk p k)) (ap w.link (sym (node_in v curr x l)) ∙ sym m)
       ∙ ap (λ (z : Bool). sought_by w p curr next z (p.done next) (w.walk p next)) (done_in_lem v curr d e)
 
   -- the node is not done
   pub relink_undone : d ≡ false → relink_by w p curr ≡ refused 15
   relink_undone t = relink_by_lem ∙ ap (λ (z : Bool). sought_by w p curr next z (p.done next) (w.walk p next)) t
 
-  module _ (t : d ≡ true) (b : Bool) (f : b ≡ done_in held.cells base (w.link x)) where
+  module _ (t : d ≡ true) (b : Bool) (f : b ≡ done_in held.flags next) where
     relink_next : (c : Bool) → b ≡ c → relink_by w p curr ≡ sought_by w p curr next true c (w.walk p next)
     relink_next c o =
         relink_by_lem ∙ ap (λ (z : Bool). sought_by w p curr next z (p.done next) (w.walk p next)) t ∙ ap (λ (z : Bool). sought_by w p curr next true z (w.walk p next)) (done_in_lem v next b f ∙ o)
@@ -64,33 +60,31 @@ module _ {n : ℕ} (w : Relinker n) {backward : Bool} {base : ℕ} {start : List
     pub relink_done : b ≡ true → relink_by w p curr ≡ refused 15
     relink_done o = relink_next true o
 
-    module _ (o : b ≡ false) (r : Walked) (g : WalkAs (w.walk (pass_of (table_in held) (done_in held.cells base)) (w.link x)) n r) where
-      walked : w.walk p next ≡ w.walk (pass_of (table_in held) (done_in held.cells base)) next
+    module _ (o : b ≡ false) where
+      walked : w.walk p next ≡ w.walk (pass_of (table_in held) (done_in held.flags)) next
       walked = w.same p next ∙ ap (λ (s : Table). w.walk (pass_of s p.done) next) v.table ∙ ap (λ (h : ℕ → Bool). w.walk (pass_of (table_in held) h) next) v.done
 
-      relink_walk_lem : (a : Answer ℕ) → w.walk (pass_of (table_in held) (done_in held.cells base)) next ≡ a → relink_by w p curr ≡ sought_by w p curr next true false a
+      relink_walk_lem : (a : Answer ℕ) → w.walk (pass_of (table_in held) (done_in held.flags)) next ≡ a → relink_by w p curr ≡ sought_by w p curr next true false a
       relink_walk_lem a q = relink_next false o ∙ ap (sought_by w p curr next true false) (walked ∙ q)
 
       -- the walk doesn't end
-      pub relink_endless : r ≡ Endless → relink_by w p curr ≡ refused 15
-      relink_endless q = relink_walk_lem (refused 15) (subst (WalkAs (w.walk (pass_of (table_in held) (done_in held.cells base)) next) n) q g)
+      pub relink_endless : w.walk (pass_of (table_in held) (done_in held.flags)) next ≡ refused 15 → relink_by w p curr ≡ refused 15
+      relink_endless = relink_walk_lem (refused 15)
 
-      module _ (found : ℕ) (q : r ≡ Found found) where
-        ended : (w.walk (pass_of (table_in held) (done_in held.cells base)) next ≡ given found) × (found < n)
-        ended = subst (WalkAs (w.walk (pass_of (table_in held) (done_in held.cells base)) next) n) q g
-
+      module _ (found : ℕ) (q : (w.walk (pass_of (table_in held) (done_in held.flags)) next ≡ given found) × (found < n)) where
         -- the neighbour itself is found
-        pub relink-same : w.link x ≡ found → FindsBy (relink_by w p curr) (w.form curr) backward n base start held count most (left p.done n + 1) (Found found)
-        relink-same s = (record { pass = p; is = relink_walk_lem (given found) ended.0 ∙ ap given (w.kept p curr next found (eq-eqb next found s)); holds = v; fewer = omega arith }, ended.1)
+        pub relink-same : next ≡ found → FindsBy (relink_by w p curr) (w.form curr) backward n held count most (left p.done n + 1) (Some found)
+        relink-same s = (record { pass = p; is = relink_walk_lem (given found) q.0 ∙ ap given (w.kept p curr next found (eq-eqb next found s)); holds = v; fewer = omega arith }, q.1)
 
         -- another is, and both are linked
-        pub relink-swapped : w.link x ≢ found → curr < n → {gs : List Float} {vs : List ℕ} → (gs ≡ (w.swap (table_in held) curr (w.link x) found).floats) × (vs ≡ (w.swap (table_in held) curr (w.link x) found).numbers)
-            → FindsBy (relink_by w p curr) (w.form curr) backward n base start (slices gs vs held.cells held.times held.nodes) count most (left p.done n + 1) (Found found)
+        pub relink-swapped : next ≢ found → curr < n → {gs : List Float} {vs : List ℕ} → (gs ≡ (w.swap (table_in held) curr next found).floats) × (vs ≡ (w.swap (table_in held) curr next found).numbers)
+            → FindsBy (relink_by w p curr) (w.form curr) backward n (slices gs vs held.flags held.times held.nodes) count most (left p.done n + 1) (Some found)
         relink-swapped s h {gs} {vs} c =
             let t = w.swap p.table curr next found in
             let fg = c.0 ∙ ap (λ (y : Table). (w.swap y curr next found).floats) (sym v.table) in
             let uv = c.1 ∙ ap (λ (y : Table). (w.swap y curr next found).numbers) (sym v.table) in
-            let k : Linked t n = w.linked p.table (linked_in v) curr next found h (w.inside (names_in held.floats held.numbers v.inside curr h x l)) ended.1 in (
-              record { pass = tabled p t; is = relink_walk_lem (given found) ended.0 ∙ ap given (w.swapped p curr next found (ne_eqb next found s)); holds = in_table v t gs vs fg uv k; fewer = omega arith },
-              ended.1,
+            let i : next < n = subst (λ (k : ℕ). k < n) (sym m) (w.inside (names_in held.floats held.numbers v.inside curr h x l)) in
+            let k : Linked t n = w.linked p.table (linked_in v) curr next found h i q.1 in (
+              record { pass = tabled p t; is = relink_walk_lem (given found) q.0 ∙ ap given (w.swapped p curr next found (ne_eqb next found s)); holds = in_table v t gs vs fg uv k; fewer = omega arith },
+              q.1,
             )

@@ -7,20 +7,19 @@ use native.Mathlib.Omega.{arith}
 use lib.ListN.{length, set}
 use lib.Ieee.{Float, is_nan}
 use mathlib.Core.Bool.{◌||◌}
+use Rattle.std.specs.Prelude.{Option, Some, None}
 use Rattle.net_node.specs.declared.EstTime.{EstTime}
-use Rattle.net_node.specs.Table.{node_at, Table, at, set_time}
+use Rattle.net_node.specs.Table.{node_at, Table, at, set_time, with_time}
+use Rattle.net_node.proofs.Sets.{time_set}
 use Rattle.pass_queue.specs.declared.Entry.{Entry}
 use Rattle.laws.specs.Answer.{Answer, refused, given, and_then}
 use Rattle.pass_rules.specs.Net.{asserting, Pass}
 use Rattle.pass_rules.specs.Backward.{queued}
 use Rattle.pass_rules.specs.Walks.{done_in}
-use Rattle.pass_state.specs.declared.Passed.{Passed}
-use Rattle.pass_state.specs.declared.Passed.TheVariants.{Queued, Fails}
-use Rattle.pass_state.specs.declared.Stands.TheVariants.{On, Nowhere}
 use Rattle.pass_state.specs.Held.{PassSlices, slices, table_in, left, PassIn, Gives, PassAs, StandsAs, EnqueuedAs}
 use Rattle.pass_state.proofs.Left.{left_kept, left_falls}
 use Rattle.pass_state.proofs.Links.{Names, names_in}
-use Rattle.pass_state.proofs.Kept.{done_at_of, node_in, done_in_lem, in_done, in_done_new, enqueued_in, stays, pass_after}
+use Rattle.pass_state.proofs.Kept.{done_at_of, node_in, done_in_lem, linked_in, in_done, in_done_new, enqueued_in, stays, pass_after}
 
 -- over n nodes: which neighbour is followed, what becomes of a node's alternative, and the time of the node that is looked at
 pub record Stepper (n : ℕ) : Type 1 where
@@ -28,6 +27,7 @@ pub record Stepper (n : ℕ) : Type 1 where
   pub form : ℕ → ℕ → Pass → A
   pub link : EstTime → ℕ
   pub inside : {x : EstTime} → Names x n → link x < n
+  pub timed : (x : EstTime) (t : Float) → link (with_time x t) ≡ link x
   pub alternated : Pass → ℕ → Answer Pass
   pub time : Table → ℕ → ℕ → Float
   pub step : A → Answer A
@@ -43,56 +43,56 @@ module _ {n : ℕ} (w : Stepper n) (curr next : ℕ) where
   abbrev stepped_by : Pass → Answer w.A
   stepped_by q = asserting (not (q.done next)) (reached_by q (w.time q.table curr next))
 
-module _ {n : ℕ} (w : Stepper n) {backward : Bool} {base : ℕ} {start : List ℕ} (p : Pass) (curr next : ℕ) {after : PassSlices} (r : Passed)
-    (g : PassAs (w.alternated p curr) backward n base start after (n - 1) (left p.done n + 1) r) where
-  step_after : (a : Answer Pass) → w.alternated p curr ≡ a → w.step (w.form curr next p) ≡ and_then a (stepped_by w curr next)
-  step_after a e = w.is p curr next ∙ ap (λ (z : Answer Pass). and_then z (stepped_by w curr next)) e
+step_after : {n : ℕ} (w : Stepper n) (p : Pass) (curr next : ℕ) (a : Answer Pass) → w.alternated p curr ≡ a → w.step (w.form curr next p) ≡ and_then a (stepped_by w curr next)
+step_after w p curr next a e = w.is p curr next ∙ ap (λ (z : Answer Pass). and_then z (stepped_by w curr next)) e
 
+module _ {n : ℕ} (w : Stepper n) {backward : Bool} (p : Pass) (curr next : ℕ) {after : PassSlices} where
   -- the alternative can't be queued
-  pub step_unqueued : r ≡ Fails → StandsAs (w.step (w.form curr next p)) w.form backward n base start after (n - 2) (left p.done n) Nowhere
-  step_unqueued e = record { told = step_after (refused 15) (subst (PassAs (w.alternated p curr) backward n base start after (n - 1) (left p.done n + 1)) e g).told }
+  pub step_unqueued : PassAs (w.alternated p curr) backward n after (n - 1) (left p.done n + 1) None → StandsAs (w.step (w.form curr next p)) w.form backward n after (n - 2) (left p.done n) None
+  step_unqueued g = record { told = step_after w p curr next (refused 15) g.told }
 
-  module _ (count : ℕ) (e : r ≡ Queued count) (d : Bool) (f : d ≡ done_in after.cells base next) where
-    queued_as : Gives (w.alternated p curr) (λ q. q) backward n base start after count (n - 1) (left p.done n + 1)
-    queued_as = (subst (PassAs (w.alternated p curr) backward n base start after (n - 1) (left p.done n + 1)) e g).told
+  module _ {count : ℕ} (g : PassAs (w.alternated p curr) backward n after (n - 1) (left p.done n + 1) (Some count)) (d : Bool) (f : d ≡ done_in after.flags next) where
+    abbrev queued_as : Gives (w.alternated p curr) (λ q. q) backward n after count (n - 1) (left p.done n + 1)
+    queued_as = g.told
 
     step_by : (c : Bool) → d ≡ c → w.step (w.form curr next p) ≡ asserting (not c) (reached_by w curr next queued_as.pass (w.time queued_as.pass.table curr next))
     step_by c t =
         let q = queued_as.pass in
-        step_after (given q) queued_as.is ∙ ap (λ (z : Bool). asserting (not z) (reached_by w curr next q (w.time q.table curr next))) (done_in_lem queued_as.holds next d f ∙ t)
+        step_after w p curr next (given q) queued_as.is ∙ ap (λ (z : Bool). asserting (not z) (reached_by w curr next q (w.time q.table curr next))) (done_in_lem queued_as.holds next d f ∙ t)
 
     -- the node is done
-    pub step_over : d ≡ true → StandsAs (w.step (w.form curr next p)) w.form backward n base start after (n - 2) (left p.done n) Nowhere
+    pub step_over : d ≡ true → StandsAs (w.step (w.form curr next p)) w.form backward n after (n - 2) (left p.done n) None
     step_over t = record { told = step_by true t }
 
     -- it gets done
-    pub step_on_lem : d ≡ false → next < n → (t : Float) → t ≡ w.time (table_in after) curr next → {fs : List Float} {us cells : List ℕ}
-        → (fs ≡ (set_time (table_in after) next t).floats) × ((us ≡ (set_time (table_in after) next t).numbers) × (cells ≡ set after.cells (base + next) 1)) → (y : EstTime) → y ≡ node_at fs us next
-        → StandsAs (w.step (w.form curr next p)) w.form backward n base start (slices fs us cells after.times after.nodes) (n - 2) (left p.done n) (On next (w.link y) count)
-    step_on_lem c k t s {fs} {us} {cells} o y m =
+    pub step_on_lem : d ≡ false → next < n → (t : Float) → t ≡ w.time (table_in after) curr next → {fs : List Float} {us flags : List ℕ}
+        → (fs ≡ (set_time (table_in after) next t).floats) × ((us ≡ (set_time (table_in after) next t).numbers) × (flags ≡ set after.flags next 1)) → (y : EstTime) → y ≡ node_at after.floats after.numbers next → (j : ℕ) → j ≡ w.link y
+        → StandsAs (w.step (w.form curr next p)) w.form backward n (slices fs us flags after.times after.nodes) (n - 2) (left p.done n) (Some (record { curr = next; ahead = j; count = count }))
+    step_on_lem c k t s {fs} {us} {flags} o y m j i =
         let v = queued_as.holds in
         let q = queued_as.pass in
         let un : q.done next ≡ false = done_in_lem v next d f ∙ c in
-        let x : PassIn backward n base start (slices fs us cells after.times after.nodes) count (n - 2) (done_at_of q next t) = in_done_new v next k t fs us cells o un (n - 2) (omega arith) in
+        let x : PassIn backward n (slices fs us flags after.times after.nodes) count (n - 2) (done_at_of q next t) = in_done_new v next k t fs us flags o un (n - 2) (omega arith) in
         let e : w.time q.table curr next ≡ t = ap (λ (z : Table). w.time z curr next) v.table ∙ sym s in
-        let a : reached_by w curr next q t ≡ given (w.form next (w.link y) (done_at_of q next t)) = ap (λ (z : EstTime). given (w.form next (w.link z) (done_at_of q next t))) (sym (node_in x next y m)) in
+        let l : w.link (at (set_time q.table next t) next) ≡ j = ap w.link (time_set q.table n (linked_in v).room next k t).here ∙ w.timed (at q.table next) t ∙ ap w.link (sym (node_in v next y m)) ∙ sym i in
+        let a : reached_by w curr next q t ≡ given (w.form next j (done_at_of q next t)) = ap (λ (k : ℕ). given (w.form next k (done_at_of q next t))) l in
         record {
           told = (
             record { pass = done_at_of q next t; is = step_by false c ∙ ap (reached_by w curr next q) e ∙ a; holds = x; fewer = omega (arith, queued_as.fewer, left_falls q.done next n k un) },
-            (k, w.inside (names_in fs us x.inside next k y m)),
+            (k, subst (λ (h : ℕ). h < n) (sym i) (w.inside (names_in after.floats after.numbers v.inside next k y m))),
           );
         }
 
 -- ---- a node's alternative
 
-module _ {backward : Bool} {n base : ℕ} {start : List ℕ} {held : PassSlices} {count : ℕ} {p : Pass} (v : PassIn backward n base start held count (n - 2) p) (a : Answer Pass) where
+module _ {backward : Bool} {n : ℕ} {held : PassSlices} {count : ℕ} {p : Pass} (v : PassIn backward n held count (n - 2) p) (a : Answer Pass) where
   -- there is none
-  pub alternate_none : a ≡ given p → PassAs a backward n base start held (n - 1) (left p.done n + 1) (Queued count)
+  pub alternate_none : a ≡ given p → PassAs a backward n held (n - 1) (left p.done n + 1) (Some count)
   alternate_none e = pass_after (left p.done n + 1) e (omega arith) (stays v (n - 1) (omega arith) (left p.done n + 1) (omega arith))
 
   -- it gets done and is queued
   pub alternate_some : (k : ℕ) → 0 < k → k < n → (t : Float) (e : Entry) → e.node ≡ k → a ≡ queued (is_nan e.time || is_nan e.sub) (done_at_of p k t) e → {gs : List Float} {vs flags : List ℕ}
-      → (gs ≡ (set_time (table_in held) k t).floats) × ((vs ≡ (set_time (table_in held) k t).numbers) × (flags ≡ set held.cells (base + k) 1)) → {ts' : List Float} {ns' : List ℕ} {r : Passed}
-      → EnqueuedAs backward held.times held.nodes ts' ns' count e r → length held.times ≡ length ts' → length held.nodes ≡ length ns' → PassAs a backward n base start (slices gs vs flags ts' ns') (n - 1) (left p.done n + 1) r
+      → (gs ≡ (set_time (table_in held) k t).floats) × ((vs ≡ (set_time (table_in held) k t).numbers) × (flags ≡ set held.flags k 1)) → {ts' : List Float} {ns' : List ℕ} {r : Option ℕ}
+      → EnqueuedAs backward held.times held.nodes ts' ns' count e r → length held.times ≡ length ts' → length held.nodes ≡ length ns' → PassAs a backward n (slices gs vs flags ts' ns') (n - 1) (left p.done n + 1) r
   alternate_some k z h t e j i {gs} {vs} {flags} d q lt ln =
       pass_after (left p.done n + 1) i (omega arith) (enqueued_in (in_done v k h t gs vs flags d) e (omega arith) q lt ln (n - 1) (omega arith) (left p.done n + 1) (omega (arith, left_kept p.done k n)))

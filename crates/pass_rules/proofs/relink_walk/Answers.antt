@@ -16,11 +16,11 @@ is_passable-requires g c = record {
 
 pub returns-then-not-is_passable : goal.returns-then-not-is_passable
 returns-then-not-is_passable g c =
-    walk_found g.L.Order.backward c.args.floats.now c.args.numbers.now c.args.cells.now c.args.done_at c.args.n _ _ _ c.loop.invariant _ c.is_passable.ensures c.if-not-is_passable.true
+    walk_found g.L.Order.backward c.args.floats.now c.args.numbers.now c.args.flags.now c.args.n _ _ _ c.loop.invariant _ c.is_passable.ensures c.if-not-is_passable.true
 
 pub returns-else-not-is_passable : goal.returns-else-not-is_passable
 returns-else-not-is_passable g c =
-    walk_endless g.L.Order.backward c.args.floats.now c.args.numbers.now c.args.cells.now c.args.done_at c.args.n _ _ _ c.loop.invariant _ c.is_passable.ensures c.if-not-is_passable.false (omega arith)
+    walk_endless g.L.Order.backward c.args.floats.now c.args.numbers.now c.args.flags.now c.args.n _ _ _ c.loop.invariant _ c.is_passable.ensures c.if-not-is_passable.false (omega arith)
 
 pub load-requires : goal.load-requires
 load-requires g c = record {
@@ -30,4 +30,4 @@ load-requires g c = record {
 
 pub loop-preserved : goal.loop-preserved
 loop-preserved g c =
-    walk_on g.L.Order.backward c.args.floats.now c.args.numbers.now c.args.cells.now c.args.done_at c.args.n _ _ _ c.loop.invariant _ c.is_passable.ensures c.if-not-is_passable.false (omega arith) c.requires.inside _ c.load.ensures _ c.ahead-at.ensures
+    walk_on g.L.Order.backward c.args.floats.now c.args.numbers.now c.args.flags.now c.args.n _ _ _ c.loop.invariant _ c.is_passable.ensures c.if-not-is_passable.false (omega arith) c.requires.inside _ c.load.ensures _ c.ahead-at.ensures

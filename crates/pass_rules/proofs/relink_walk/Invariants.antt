@@ -3,4 +3,4 @@ use Rattle.pass_rules.proofs.Walking.{Walking, walk_of}
 use Rattle.pass_rules.proofs.relink_walk.Given as goal
 
 abbrev pub invariant-loop : goal.invariant-loop
-invariant-loop g l = Walking (walk_of g.L.Order.backward l.floats l.numbers l.cells l.done_at l.n) l.n l.i l.at l.counter
+invariant-loop g l = Walking (walk_of g.L.Order.backward l.floats l.numbers l.flags l.n) l.n l.i l.at l.counter

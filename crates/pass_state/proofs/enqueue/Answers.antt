@@ -1,24 +1,21 @@
 -- `pass_state::enqueue` meets its contract.
-use mathlib.Core.Path.{refl}
-use native.Mathlib.Omega.{arith}
+use mathlib.Core.Path.{refl, sym, ◌∙◌}
+use Rattle.std.proofs.Common.{rules}
 use Rattle.pass_state.proofs.Entries.{time_no_number, sub_no_number, both_numbers, entry_ordered}
+use Rattle.pass_state.proofs.enqueue.Goals.{then-is_nan-via-then-is_nan, then-is_nan-via-else-is_nan+then-is_nan-2}
 use Rattle.pass_state.proofs.enqueue.Goals as goal
 
-pub returns-then-e : goal.returns-then-e
-returns-then-e c = record { told = time_no_number c.args.e c.if-e.true }
+pub returns-then-is_nan : goal.returns-then-is_nan
+returns-then-is_nan g c =
+    elim c.then-is_nan.branch [
+      then-is_nan-via-then-is_nan w ↦ record { told = time_no_number c.args.e (sym c.is_nan.ensures.value ∙ w.if-is_nan.true) }
+      | then-is_nan-via-else-is_nan+then-is_nan-2 w ↦ record { told = sub_no_number c.args.e (sym w.is_nan-else-is_nan.ensures.value ∙ w.if-is_nan-2.true) }
+    ]
 
-pub returns-then-e-2 : goal.returns-then-e-2
-returns-then-e-2 c = record { told = sub_no_number c.args.e c.if-e-2.true }
-
-pub push-requires : goal.push-requires
-push-requires c =
-    let k = c.struct_known-2-1.given in
-    record {
-      n_in_bounds = omega arith;
-      n_in_bounds_2 = omega arith;
-      ordered = entry_ordered _ c.if-e.false c.if-e-2.false k.0 k.1.0;
-    }
+pub push-requires-clause-ordered : goal.push-requires-clause-ordered
+push-requires-clause-ordered g c = entry_ordered c.args.e (sym c.is_nan.ensures.value ∙ c.if-is_nan.false) (sym c.is_nan-else-is_nan.ensures.value ∙ c.if-is_nan-2.false) (search rules) (search rules)
 
 pub returns : goal.returns
-returns c =
-    record { told = (both_numbers c.args.e c.if-e.false c.if-e-2.false, (refl, c.push.ensures)) }
+returns g c = record {
+  told = (both_numbers c.args.e (sym c.is_nan.ensures.value ∙ c.if-is_nan.false) (sym c.is_nan-else-is_nan.ensures.value ∙ c.if-is_nan-2.false), (refl, c.push.ensures));
+}
