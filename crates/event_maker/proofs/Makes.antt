@@ -7,13 +7,16 @@ use native.Mathlib.Omega.{arith}
 use lib.Dec.{T, ltb}
 use lib.ListN.{length, get_or}
 use lib.Ieee.{Float, nan, binary64, fits}
+use Rattle.std.specs.Prelude.{Result, Ok, Err}
+use Rattle.std.specs.Result.{is_err}
+use Rattle.refusals.specs.declared.Refusal.{Refusal}
+use Rattle.refusals.specs.Refusals.{told}
+use Rattle.laws.specs.Answer.{Answer, refused}
 use Rattle.laws.specs.Refusals.{row, first_of}
 use Rattle.space.specs.Space.{zero_floats}
 use Rattle.event_walk.specs.declared.Movement.{Movement}
 use Rattle.event_walk.specs.Course.{Course, course_of, Held, Walkable}
 use Rattle.event_walk.specs.Walk.{points_passed, row11}
-use Rattle.event_maker.specs.declared.Made.{Made}
-use Rattle.event_maker.specs.declared.Made.TheVariants.{Refused}
 use Rattle.event_maker.specs.Maker.{movement_of, lent_course, bad_counts, bad_floats, falling, rows_to11, answered, answer_of, made_count, list_places, floats_as, numbers_as, LentLeg, EventList, EventsMade, course_in, places_in}
 use Rattle.event_maker.specs.Parts.{first_number, walk_answer, FloatsListed, NumbersListed, is_refused, kept_floats, kept_numbers}
 use Rattle.event_maker.proofs.Rows.{within_counts, left_held, left_walkable, answer_refused, answer_walk}
@@ -22,6 +25,11 @@ use Rattle.event_maker.proofs.Walks.{passed_most, floats_kept_lem, numbers_kept_
 -- what became zero is zero for its own length
 pub zero_again : (fs gs : List Float) → gs ≡ zero_floats (length fs) → length gs ≡ length fs → gs ≡ zero_floats (length gs)
 zero_again fs gs e d = e ∙ ap zero_floats (sym d)
+
+-- a refusal, as the code tests for it
+pub refused_is : (r : Result ℕ Refusal) → is_err r ≡ is_refused (told r)
+refused_is (Ok n) = refl
+refused_is (Err e) = refl
 
 module _ (train : Float) (samples : List ℕ) (offsets : List Float) (links : List ℕ) (points : ℕ) (e : points ≡ min (length offsets) (length links)) where
   abbrev moved : ℕ → Movement
@@ -38,7 +46,7 @@ module _ (train : Float) (samples : List ℕ) (offsets : List Float) (links : Li
   course_is = ap (λ (k : ℕ). course_of samples offsets (moved k)) e
 
   -- a refusal by the rows
-  pub rows_answer : (places n : ℕ) → n ≡ first_number course samples → (n ≡ 0 → ⊥) → Refused n ≡ answer_of lent samples places
+  pub rows_answer : (places n : ℕ) → n ≡ first_number course samples → (n ≡ 0 → ⊥) → refused n ≡ answer_of lent samples places
   rows_answer places n d o = answer_refused samples offsets (moved points) places n d o ∙ ap (λ (c : Course). answer_of c samples places) course_is
 
   module _ (d : first_number course samples ≡ 0) where
@@ -49,7 +57,7 @@ module _ (train : Float) (samples : List ℕ) (offsets : List Float) (links : Li
     lent_walkable f g = left_walkable samples offsets (moved points) refl d (λ k h. f k) (subst T (sym g) tt)
 
     -- the answer and the list behind the walk
-    module _ (r : Made) where
+    module _ (r : Answer ℕ) where
       pub made_answer : (f u F U : ℕ) → f ≡ F → u ≡ U → r ≡ walk_answer course (list_places f u) → r ≡ answer_of lent samples (list_places F U)
       made_answer f u F U p q w =
           w
@@ -92,5 +100,5 @@ count_most c samples places = go (bad_counts c) refl
 -- ---- the answer as a number and a count
 
 -- how many events there are at most
-pub made_most : {l : LentLeg} {lent left : EventList} {r : Made} → EventsMade l lent left r → made_count r ≤ 1131072
-made_most {l} {lent} m = subst (λ (x : Made). made_count x ≤ 1131072) (sym m.answer) (count_most (course_in l) l.samples (places_in lent))
+pub made_most : {l : LentLeg} {lent left : EventList} {r : Answer ℕ} → EventsMade l lent left r → made_count r ≤ 1131072
+made_most {l} {lent} m = subst (λ (x : Answer ℕ). made_count x ≤ 1131072) (sym m.answer) (count_most (course_in l) l.samples (places_in lent))

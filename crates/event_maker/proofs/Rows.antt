@@ -10,6 +10,7 @@ use lib.ListN.{length, get_or}
 use lib.Ieee.{Float, nan, binary64, le, fits, of_bits, to_bits, top}
 use lib.Ieee.Bits.{of_bits-to_bits}
 use lib.Ieee.Scale.{finite}
+use Rattle.laws.specs.Answer.{refused, given}
 use Rattle.laws.specs.Below.{some_below}
 use Rattle.laws.specs.Refusals.{row, first_of}
 use Rattle.laws.proofs.Truth.{none_left, none_right, and_right}
@@ -28,53 +29,34 @@ use Rattle.event_walk.specs.Course.{Course, course_of, Held, Rises, Walkable}
 use Rattle.event_walk.specs.Walk.{points_passed, reaches_last, some_bad, row11}
 use Rattle.event_walk.proofs.Searches.{size_number, rises_of, samples_rise}
 use Rattle.event_walk.proofs.Steps.{reaches_is}
-use Rattle.event_maker.specs.declared.Made.TheVariants.{Listed, Refused}
 use Rattle.event_maker.specs.Maker.{bad_counts, bad_floats, falling, rows_to11, answered, answer_of}
-use Rattle.event_maker.specs.Parts.{number_of, first_number, sweep_number, bad_offset, offset_falls, bad_at, falls_at, count_answer, walk_answer}
+use Rattle.event_maker.specs.Parts.{rows_number, first_number, bad_offset, offset_falls, bad_at, falls_at, count_answer, walk_answer}
 
 -- ---- the number of the rows, by their tests
 
-zero_of : (a b c d : Bool) → number_of a b c d ≡ 0 → (a ≡ false) × (b ≡ false) × (c ≡ false) × (d ≡ false)
+zero_of : (a b c d : Bool) → rows_number a b c d ≡ 0 → (a ≡ false) × (b ≡ false) × (c ≡ false) × (d ≡ false)
 zero_of a b c d e = let h = none_holds (rows_to11 a b c d) refl e in (h.0, h.1.0, h.1.1.0, h.1.1.1.0)
 
-four_of : (a b : Bool) → number_of false a b false ≡ 4 → a ≡ true
-unfolding first_of
-four_of true b e = refl
-four_of false true e = absurd (omega arith)
-four_of false false e = absurd (omega arith)
-
-not_four : (a b : Bool) → (number_of false a b false ≡ 4 → ⊥) → a ≡ false
-unfolding first_of
-not_four true b n = absurd (n refl)
-not_four false b n = refl
-
-not_zero_lem : (b : Bool) → (number_of false false b false ≡ 0 → ⊥) → b ≡ true
-unfolding first_of
-not_zero_lem true n = refl
-not_zero_lem false n = absurd (n refl)
-
--- row 4 of length, samples and points; row 7 of samples and points
-by_length : (l s p f r : Bool) → l ≡ true → 4 ≡ number_of false (l || s || p) f r
+-- row 4 of length, points and samples; row 7 of points and samples
+by_length : (l s p f r : Bool) → l ≡ true → 4 ≡ rows_number false (l || s || p) f r
 unfolding first_of
 by_length true s p f r e = refl
 by_length false s p f r e = absurd (true≢false (sym e))
 
-by_points : (l s p f r : Bool) → p ≡ true → 4 ≡ number_of false (l || s || p) f r
+by_points : (l s p f r : Bool) → p ≡ true → 4 ≡ rows_number false (l || s || p) f r
 unfolding first_of
 by_points true s p f r e = refl
 by_points false true p f r e = refl
 by_points false false true f r e = refl
 by_points false false false f r e = absurd (true≢false (sym e))
 
-by_samples : (l s p f g r : Bool) → l ≡ false → p ≡ false → (number_of false s f false ≡ 0 → ⊥) → number_of false s f false ≡ number_of false (l || s || p) (f || g) r
+by_samples : (l s p f r : Bool) → s ≡ true → 4 ≡ rows_number false (l || s || p) f r
 unfolding first_of
-by_samples true s p f g r e h n = absurd (true≢false e)
-by_samples false true p f g r e h n = refl
-by_samples false false true f g r e h n = absurd (true≢false h)
-by_samples false false false true g r e h n = refl
-by_samples false false false false g r e h n = absurd (n refl)
+by_samples true s p f r e = refl
+by_samples false true p f r e = refl
+by_samples false false p f r e = absurd (true≢false (sym e))
 
-by_fall : (l s p f g r : Bool) → l ≡ false → s ≡ false → p ≡ false → g ≡ true → 7 ≡ number_of false (l || s || p) (f || g) r
+by_fall : (l s p f g r : Bool) → l ≡ false → s ≡ false → p ≡ false → (g || f) ≡ true → 7 ≡ rows_number false (l || s || p) (f || g) r
 unfolding first_of
 by_fall true s p f g r a b c d = absurd (true≢false a)
 by_fall false true p f g r a b c d = absurd (true≢false b)
@@ -144,7 +126,7 @@ module _ (b : List ℕ) (offsets : List Float) (m : Movement) where
 
   pub first_3 : (x y : Bool) → x ≡ outside_limits 1000000 m.samples → y ≡ outside_limits 65536 m.points → (x || y) ≡ true → 3 ≡ first_number course b
   unfolding first_number first_of
-  first_3 x y e f h = sym (ap (λ (t : Bool). number_of t (bad_floats course b) (falling course) (reaches_last course)) (counts_are x y e f ∙ h))
+  first_3 x y e f h = sym (ap (λ (t : Bool). rows_number t (bad_floats course b) (falling course) (reaches_last course)) (counts_are x y e f ∙ h))
 
   module _ (z : m.at ≡ 0) where
     sample_is : (i : ℕ) → course.sample i ≡ sample_from b (i * 24)
@@ -159,51 +141,38 @@ module _ (b : List ℕ) (offsets : List Float) (m : Movement) where
     unfolding falling course_of offset_falls
     falling_is = ap (λ (t : Bool). t || points_fall) (some_same (m.samples - 1) (λ i. sample_falls (course.sample i) (course.sample (suc i))) (falls_at b) (λ i h. falls_is i))
 
-    number_is : bad_counts course ≡ false → first_number course b ≡ number_of false (bad_train || bad_samples || bad_points) (samples_fall || points_fall) (reaches_last course)
+    number_is : bad_counts course ≡ false → first_number course b ≡ rows_number false (bad_train || bad_samples || bad_points) (samples_fall || points_fall) (reaches_last course)
     unfolding first_number bad_floats course_of bad_at bad_offset
     number_is e =
-        ap (λ (t : Bool). number_of t (bad_train || bad_samples || bad_points) (falling course) (reaches_last course)) e
-        ∙ ap (λ (t : Bool). number_of false (bad_train || bad_samples || bad_points) t (reaches_last course)) falling_is
+        ap (λ (t : Bool). rows_number t (bad_train || bad_samples || bad_points) (falling course) (reaches_last course)) e
+        ∙ ap (λ (t : Bool). rows_number false (bad_train || bad_samples || bad_points) t (reaches_last course)) falling_is
 
     module _ (k : bad_counts course ≡ false) where
       pub first_length : (v : Bool) → v ≡ book_value m.length → not v ≡ true → 4 ≡ first_number course b
       first_length v e h = by_length bad_train bad_samples bad_points (samples_fall || points_fall) (reaches_last course) (ap not (sym e) ∙ h) ∙ sym (number_is k)
 
-      module _ (p : ℕ) (e : p ≡ sweep_number m.points (bad_offset offsets) (offset_falls offsets)) where
-        pub first-points : p ≡ 4 → 4 ≡ first_number course b
-        unfolding sweep_number
-        first-points h = by_points bad_train bad_samples bad_points (samples_fall || points_fall) (reaches_last course) (four_of bad_points points_fall (sym e ∙ h)) ∙ sym (number_is k)
+      pub first-points : bad_points ≡ true → 4 ≡ first_number course b
+      first-points h = by_points bad_train bad_samples bad_points (samples_fall || points_fall) (reaches_last course) h ∙ sym (number_is k)
 
-        module _ (v : Bool) (f : v ≡ book_value m.length) (h : not v ≡ false) (n : p ≡ 4 → ⊥) (s : ℕ) (g : s ≡ sweep_number m.samples (bad_at b) (falls_at b)) where
-          points-good : bad_points ≡ false
-          unfolding sweep_number
-          points-good = not_four bad_points points_fall (λ x. n (e ∙ x))
+      pub first-samples : bad_samples ≡ true → 4 ≡ first_number course b
+      first-samples h = by_samples bad_train bad_samples bad_points (samples_fall || points_fall) (reaches_last course) h ∙ sym (number_is k)
 
-          pub first-samples : (s ≡ 0 → ⊥) → s ≡ first_number course b
-          unfolding sweep_number
-          first-samples o = g ∙ by_samples bad_train bad_samples bad_points samples_fall points_fall (reaches_last course) (ap not (sym f) ∙ h) points-good (λ x. o (g ∙ x)) ∙ sym (number_is k)
+      module _ (v : Bool) (f : v ≡ book_value m.length) (h : not v ≡ false) (x : Bool) (p : (bad_points ≡ false) × (x ≡ points_fall)) (y : Bool) (s : (bad_samples ≡ false) × (y ≡ samples_fall)) where
+        falls_or : (x || y) ≡ (points_fall || samples_fall)
+        falls_or = cc (p.1, s.1)
 
-          samples-good : s ≡ 0 → (bad_samples ≡ false) × (samples_fall ≡ false)
-          unfolding sweep_number
-          samples-good o = let q = zero_of false bad_samples samples_fall false (sym g ∙ o) in (q.1, q.2)
+        pub first-fall : (x || y) ≡ true → 7 ≡ first_number course b
+        first-fall e = by_fall bad_train bad_samples bad_points samples_fall points_fall (reaches_last course) (ap not (sym f) ∙ h) s.0 p.0 (sym falls_or ∙ e) ∙ sym (number_is k)
 
-          pub first-fall : s ≡ 0 → (p ≡ 0 → ⊥) → 7 ≡ first_number course b
-          unfolding sweep_number
-          first-fall o u =
-              by_fall bad_train bad_samples bad_points samples_fall points_fall (reaches_last course) (ap not (sym f) ∙ h) (samples-good o).0 points-good
-              (not_zero_lem points_fall (λ x. u (e ∙ ap (λ (t : Bool). number_of false t points_fall false) points-good ∙ x)))
-              ∙ sym (number_is k)
-
-          pub tested : s ≡ 0 → p ≡ 0 → Tested b offsets m
-          unfolding sweep_number
-          tested o u = record {
-            counted = k;
-            train = not-false (book_value m.length) (ap not (sym f) ∙ h);
-            good_samples = (samples-good o).0;
-            good_points = points-good;
-            rising_samples = (samples-good o).1;
-            rising_points = (zero_of false bad_points points_fall false (sym e ∙ u)).2;
-          }
+        pub tested : (x || y) ≡ false → Tested b offsets m
+        tested e = record {
+          counted = k;
+          train = not-false (book_value m.length) (ap not (sym f) ∙ h);
+          good_samples = s.0;
+          good_points = p.0;
+          rising_samples = none_right points_fall samples_fall (sym falls_or ∙ e);
+          rising_points = none_left points_fall samples_fall (sym falls_or ∙ e);
+        }
 
     module _ (t : Tested b offsets m) where
       good_at : (i : ℕ) → i < m.samples → bad_sample_from b (i * 24) ≡ false
@@ -227,22 +196,22 @@ module _ (b : List ℕ) (offsets : List Float) (m : Movement) where
           reaches_is course (counts t.counted).some (samples_rise course sizes (λ i h. falls_is i ∙ none_at (m.samples - 1) (falls_at b) i h t.rising_samples))
           ∙ ap (λ (x : Sample). le last x.offset) (sample_is (m.samples - 1) ∙ sym e)
 
-      number_left : first_number course b ≡ number_of false false false (reaches_last course)
+      number_left : first_number course b ≡ rows_number false false false (reaches_last course)
       number_left =
           number_is t.counted
-          ∙ ap (λ (r : Bool). number_of false (not r || bad_samples || bad_points) (samples_fall || points_fall) (reaches_last course)) t.train
-          ∙ ap (λ (r : Bool). number_of false (false || r || bad_points) (samples_fall || points_fall) (reaches_last course)) t.good_samples
-          ∙ ap (λ (r : Bool). number_of false r (samples_fall || points_fall) (reaches_last course)) t.good_points
-          ∙ ap (λ (r : Bool). number_of false false (r || points_fall) (reaches_last course)) t.rising_samples
-          ∙ ap (λ (r : Bool). number_of false false r (reaches_last course)) t.rising_points
+          ∙ ap (λ (r : Bool). rows_number false (not r || bad_samples || bad_points) (samples_fall || points_fall) (reaches_last course)) t.train
+          ∙ ap (λ (r : Bool). rows_number false (false || r || bad_points) (samples_fall || points_fall) (reaches_last course)) t.good_samples
+          ∙ ap (λ (r : Bool). rows_number false r (samples_fall || points_fall) (reaches_last course)) t.good_points
+          ∙ ap (λ (r : Bool). rows_number false false (r || points_fall) (reaches_last course)) t.rising_samples
+          ∙ ap (λ (r : Bool). rows_number false false r (reaches_last course)) t.rising_points
 
       pub first_11 : (s : Sample) → s ≡ sample_from b ((m.samples - 1) * 24) → le last s.offset ≡ true → 11 ≡ first_number course b
       unfolding first_of
-      first_11 s e h = sym (number_left ∙ ap (number_of false false false) (last_tells s e ∙ h))
+      first_11 s e h = sym (number_left ∙ ap (rows_number false false false) (last_tells s e ∙ h))
 
       pub first_0 : (s : Sample) → s ≡ sample_from b ((m.samples - 1) * 24) → le last s.offset ≡ false → 0 ≡ first_number course b
       unfolding first_of
-      first_0 s e h = sym (number_left ∙ ap (number_of false false false) (last_tells s e ∙ h))
+      first_0 s e h = sym (number_left ∙ ap (rows_number false false false) (last_tells s e ∙ h))
 
       -- ---- what the number 0 leaves, for the walk
 
@@ -317,14 +286,14 @@ module _ (b : List ℕ) (offsets : List Float) (m : Movement) where
       pub left_walkable : ((k : ℕ) → k < m.points → T (fits binary64 (get_or offsets k nan))) → T (fits binary64 m.length) → Walkable course
       left_walkable = walkable_of (from_zero e).0 (from_zero e).1
 
-  pub answer_refused : (places n : ℕ) → n ≡ first_number course b → (n ≡ 0 → ⊥) → Refused n ≡ answer_of course b places
+  pub answer_refused : (places n : ℕ) → n ≡ first_number course b → (n ≡ 0 → ⊥) → refused n ≡ answer_of course b places
   unfolding answer_of first_number row11 first_of
   answer_refused places n e o =
-      ap Refused e
+      ap refused e
       ∙ refuses (bad_counts course) (bad_floats course b) (falling course) (reaches_last course) (some_bad (points_passed course)) (ltb places (length (points_passed course))) (length (points_passed course))
       (λ x. o (e ∙ x))
     where
-      refuses : (p q r s x y : Bool) (k : ℕ) → (number_of p q r s ≡ 0 → ⊥) → Refused (number_of p q r s) ≡ answered (first_of (rows_to11 p q r (s || x) ++ row 12 y ∷ [])) k
+      refuses : (p q r s x y : Bool) (k : ℕ) → (rows_number p q r s ≡ 0 → ⊥) → refused (rows_number p q r s) ≡ answered (first_of (rows_to11 p q r (s || x) ++ row 12 y ∷ [])) k
       refuses true q r s x y k o = refl
       refuses false true r s x y k o = refl
       refuses false false true s x y k o = refl
@@ -338,11 +307,11 @@ module _ (b : List ℕ) (offsets : List Float) (m : Movement) where
       walks (bad_counts course) (bad_floats course b) (falling course) (reaches_last course) (some_bad (points_passed course)) (ltb places (length (points_passed course))) (length (points_passed course))
       q.0 q.1 q.2 q.3
     where
-      told : (x y : Bool) (k : ℕ) → cond x (Refused 11) (cond y (Refused 12) (Listed k)) ≡ answered (first_of (rows_to11 false false false x ++ row 12 y ∷ [])) k
+      told : (x y : Bool) (k : ℕ) → cond x (refused 11) (cond y (refused 12) (given k)) ≡ answered (first_of (rows_to11 false false false x ++ row 12 y ∷ [])) k
       told true y k = refl
       told false true k = refl
       told false false k = refl
 
       walks : (p q r s x y : Bool) (k : ℕ) → p ≡ false → q ≡ false → r ≡ false → s ≡ false
-          → cond x (Refused 11) (cond y (Refused 12) (Listed k)) ≡ answered (first_of (rows_to11 p q r (s || x) ++ row 12 y ∷ [])) k
+          → cond x (refused 11) (cond y (refused 12) (given k)) ≡ answered (first_of (rows_to11 p q r (s || x) ++ row 12 y ∷ [])) k
       walks p q r s x y k d e f g = rw (d, e, f, g) (told x y k)

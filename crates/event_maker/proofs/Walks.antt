@@ -8,29 +8,27 @@ use borrow.Author.Tests.{lt-ltb, le-ltb, ltb-false}
 use lib.Dec.{ltb}
 use lib.ListN.{length, get_or, length-append}
 use lib.Ieee.{Float}
+use Rattle.laws.specs.Answer.{Answer, refused, given}
 use Rattle.laws.proofs.Truth.{or_left, or_right, none_left, none_right, neither}
 use Rattle.space.specs.Space.{zeros, zero_floats}
 use Rattle.event_walk.specs.declared.Heads.{Heads}
 use Rattle.event_walk.specs.declared.PassedPoint.{PassedPoint}
-use Rattle.event_walk.specs.declared.Next.TheVariants.{Passed}
 use Rattle.event_walk.specs.Course.{Course, Walkable}
-use Rattle.event_walk.specs.Walk.{start, turn, emits, passed_next, walk, turns_left, passed_from, points_passed, bad_point, some_bad, Each, Within, NextOf}
+use Rattle.event_walk.specs.Walk.{start, turn, emits, passed_next, walk, turns_left, passed_from, points_passed, bad_point, some_bad, Each}
 use Rattle.event_walk.proofs.Theorems.{never_the_last}
-use Rattle.event_maker.specs.declared.Made.{Made}
-use Rattle.event_maker.specs.declared.Made.TheVariants.{Listed, Refused}
 use Rattle.event_maker.specs.Maker.{list_places, event_floats, event_numbers, floats_as, numbers_as}
 use Rattle.event_maker.specs.Parts.{count_answer, walk_answer, put_event_floats, put_event_numbers, FloatsListed, NumbersListed, is_refused, kept_floats, kept_numbers}
 use Rattle.event_maker.proofs.Lists.{places_fit, floats_put, numbers_put}
 
 -- ---- the answer to a count
 
-pub too_short : (count places : ℕ) → places < count → Refused 12 ≡ count_answer count places
+pub too_short : (count places : ℕ) → places < count → refused 12 ≡ count_answer count places
 unfolding count_answer
-too_short count places h = sym (ap (λ (t : Bool). cond t (Refused 12) (Listed count)) (lt-ltb places count h))
+too_short count places h = sym (ap (λ (t : Bool). cond t (refused 12) (given count)) (lt-ltb places count h))
 
-pub long_enough : (count places : ℕ) → count ≤ places → Listed count ≡ count_answer count places
+pub long_enough : (count places : ℕ) → count ≤ places → given count ≡ count_answer count places
 unfolding count_answer
-long_enough count places h = sym (ap (λ (t : Bool). cond t (Refused 12) (Listed count)) (le-ltb places count h))
+long_enough count places h = sym (ap (λ (t : Bool). cond t (refused 12) (given count)) (le-ltb places count h))
 
 -- ---- lists of events
 
@@ -67,27 +65,25 @@ passed_most c = omega (arith, walk_length (turns_left c (start c)) c (start c))
 
 -- ---- the loop
 
-pub record Listing (c : Course) (links : List ℕ) (F U places : ℕ) (floats : List Float) (numbers : List ℕ) (h : Heads) (count : ℕ) : Type 0 where
+pub record Listing (c : Course) (links : List ℕ) (F U places : ℕ) (floats : List Float) (numbers : List ℕ) (rest : List PassedPoint) (count : ℕ) : Type 0 where
   pub listed : List PassedPoint
-  pub passed : points_passed c ≡ listed ++ passed_from c h
+  pub passed : points_passed c ≡ listed ++ rest
   pub counted : count ≡ length listed
   pub sound : some_bad listed ≡ false
-  pub within : Within c h
   pub room : places ≡ list_places F U
   pub floats_size : length floats ≡ F
   pub numbers_size : length numbers ≡ U
   pub floats_are : count ≤ places → floats ≡ event_floats listed ++ zero_floats (F - count * 3)
   pub numbers_are : count ≤ places → numbers ≡ event_numbers links listed ++ zeros (U - count * 2)
 
-pub listing_start : (c : Course) (links : List ℕ) (places : ℕ) (floats : List Float) (numbers : List ℕ) (h : Heads) → floats ≡ zero_floats (length floats) → numbers ≡ zeros (length numbers) → h ≡ start c → Within c h
-    → places ≡ list_places (length floats) (length numbers) → Listing c links (length floats) (length numbers) places floats numbers h 0
-unfolding points_passed some_bad event_floats event_numbers
-listing_start c links places floats numbers h f u e w q = record {
+pub listing_start : (c : Course) (links : List ℕ) (places : ℕ) (floats : List Float) (numbers : List ℕ) (rest : List PassedPoint) → floats ≡ zero_floats (length floats) → numbers ≡ zeros (length numbers) → rest ≡ points_passed c
+    → places ≡ list_places (length floats) (length numbers) → Listing c links (length floats) (length numbers) places floats numbers rest 0
+unfolding some_bad event_floats event_numbers
+listing_start c links places floats numbers rest f u e q = record {
   listed = [];
-  passed = ap (passed_from c) (sym e);
+  passed = sym e;
   counted = refl;
   sound = refl;
-  within = w;
   room = q;
   floats_size = refl;
   numbers_size = refl;
@@ -98,68 +94,64 @@ listing_start c links places floats numbers h f u e w q = record {
     less : (n k : ℕ) → n ≡ n - 0 * k
     less n k = omega arith
 
-module _ {c : Course} {links : List ℕ} {F U places : ℕ} {floats : List Float} {numbers : List ℕ} {h : Heads} {count : ℕ} (v : Listing c links F U places floats numbers h count) where
+module _ {c : Course} {links : List ℕ} {F U places : ℕ} {floats : List Float} {numbers : List ℕ} {rest : List PassedPoint} {count : ℕ} (v : Listing c links F U places floats numbers rest count) where
   pub listing_room : (places * 3 ≤ length floats) × (places * 2 ≤ length numbers)
   listing_room = let f = places_fit F U in (omega (arith, v.room, v.floats_size, f.0), omega (arith, v.room, v.numbers_size, f.1))
 
   -- behind the last event
-  module _ (e : passed_from c h ≡ []) where
+  module _ (e : rest ≡ []) where
     all_listed : points_passed c ≡ v.listed
     all_listed = v.passed ∙ ap (λ (t : List PassedPoint). v.listed ++ t) e ∙ append-nil v.listed
 
-    pub end_answer : (r : Made) → r ≡ count_answer count places → r ≡ walk_answer c (list_places F U)
+    pub end_answer : (r : Answer ℕ) → r ≡ count_answer count places → r ≡ walk_answer c (list_places F U)
     unfolding walk_answer
     end_answer r d =
         d
         ∙ ap (λ (n : ℕ). count_answer n places) (v.counted ∙ ap length (sym all_listed))
         ∙ ap (count_answer (length (points_passed c))) v.room
-        ∙ sym (ap (λ (t : Bool). cond t (Refused 11) (count_answer (length (points_passed c)) (list_places F U))) (ap some_bad all_listed ∙ v.sound))
+        ∙ sym (ap (λ (t : Bool). cond t (refused 11) (count_answer (length (points_passed c)) (list_places F U))) (ap some_bad all_listed ∙ v.sound))
 
-    pub end_floats : (r : Made) → r ≡ count_answer count places → FloatsListed r c F floats
+    pub end_floats : (r : Answer ℕ) → r ≡ count_answer count places → FloatsListed r c F floats
     unfolding count_answer
-    end_floats r d = subst (λ (x : Made). FloatsListed x c F floats) (sym d) (go (ltb places count) refl)
+    end_floats r d = subst (λ (x : Answer ℕ). FloatsListed x c F floats) (sym d) (go (ltb places count) refl)
       where
-        go : (t : Bool) → ltb places count ≡ t → FloatsListed (cond t (Refused 12) (Listed count)) c F floats
+        go : (t : Bool) → ltb places count ≡ t → FloatsListed (cond t (refused 12) (given count)) c F floats
         go true q = tt
         go false q = v.floats_are (ltb-false places count q) ∙ ap (λ (ps : List PassedPoint). event_floats ps ++ zero_floats (F - count * 3)) (sym all_listed)
 
-    pub end_numbers : (r : Made) → r ≡ count_answer count places → NumbersListed r c links U numbers
+    pub end_numbers : (r : Answer ℕ) → r ≡ count_answer count places → NumbersListed r c links U numbers
     unfolding count_answer
-    end_numbers r d = subst (λ (x : Made). NumbersListed x c links U numbers) (sym d) (go (ltb places count) refl)
+    end_numbers r d = subst (λ (x : Answer ℕ). NumbersListed x c links U numbers) (sym d) (go (ltb places count) refl)
       where
-        go : (t : Bool) → ltb places count ≡ t → NumbersListed (cond t (Refused 12) (Listed count)) c links U numbers
+        go : (t : Bool) → ltb places count ≡ t → NumbersListed (cond t (refused 12) (given count)) c links U numbers
         go true q = tt
         go false q = v.numbers_are (ltb-false places count q) ∙ ap (λ (ps : List PassedPoint). event_numbers links ps ++ zeros (U - count * 2)) (sym all_listed)
 
   -- at the next event
-  module _ (p : PassedPoint) (g : Heads) (n : NextOf c h (Passed p g)) where
-    there : points_passed c ≡ v.listed ++ p ∷ passed_from c g
-    there = v.passed ∙ ap (λ (t : List PassedPoint). v.listed ++ t) n.0
+  module _ (p : PassedPoint) (later : List PassedPoint) (n : rest ≡ p ∷ later) where
+    there : points_passed c ≡ v.listed ++ p ∷ later
+    there = v.passed ∙ ap (λ (t : List PassedPoint). v.listed ++ t) n
 
-    pub bad_answer : bad_point p ≡ true → Refused 11 ≡ walk_answer c (list_places F U)
+    pub bad_answer : bad_point p ≡ true → refused 11 ≡ walk_answer c (list_places F U)
     unfolding walk_answer
-    bad_answer e = sym (ap (λ (t : Bool). cond t (Refused 11) (count_answer (length (points_passed c)) (list_places F U))) (ap some_bad there ∙ bad_there v.listed p (passed_from c g) e))
+    bad_answer e = sym (ap (λ (t : Bool). cond t (refused 11) (count_answer (length (points_passed c)) (list_places F U))) (ap some_bad there ∙ bad_there v.listed p later e))
 
     pub point_before : Walkable c → p.point < c.points
-    point_before w = let l = each_there (λ q. suc q.point < c.points) v.listed p (passed_from c g) (subst (Each (λ q. suc q.point < c.points)) there (never_the_last w)) in omega arith
-
-    pub fewer_left : length (passed_from c g) < length (passed_from c h)
-    fewer_left = let e : length (passed_from c h) ≡ suc (length (passed_from c g)) = ap length n.0 in omega arith
+    point_before w = let l = each_there (λ q. suc q.point < c.points) v.listed p later (subst (Each (λ q. suc q.point < c.points)) there (never_the_last w)) in omega arith
 
     pub count_most : count < c.samples + 2 * c.points
     count_most =
-        let e = ap length there ∙ length-append v.listed (p ∷ passed_from c g) in
+        let e = ap length there ∙ length-append v.listed (p ∷ later) in
         omega (arith, passed_most c, v.counted)
 
     pub listing_on : bad_point p ≡ false → (fs : List Float) (us : List ℕ) → length fs ≡ length floats → length us ≡ length numbers
         → (count < places → fs ≡ put_event_floats floats count p) → (count < places → us ≡ put_event_numbers numbers count p (get_or links p.point 0))
-        → Listing c links F U places fs us g (count + 1)
+        → Listing c links F U places fs us later (count + 1)
     listing_on e fs us f u a b = record {
       listed = v.listed ++ p ∷ [];
-      passed = there ∙ sym (append_assoc v.listed (p ∷ []) (passed_from c g));
+      passed = there ∙ sym (append_assoc v.listed (p ∷ []) later);
       counted = omega (arith, v.counted, length-append v.listed (p ∷ []));
       sound = none_bad_more v.listed p v.sound e;
-      within = n.1;
       room = v.room;
       floats_size = f ∙ v.floats_size;
       numbers_size = u ∙ v.numbers_size;
@@ -175,10 +167,10 @@ module _ {c : Course} {links : List ℕ} {F U places : ℕ} {floats : List Float
 
 -- ---- behind a refusal
 
-pub floats_kept_lem : (r : Made) (c : Course) (size : ℕ) (fs gs : List Float) → FloatsListed r c size fs → gs ≡ kept_floats (is_refused r) fs → length fs ≡ size → gs ≡ floats_as r c size
-floats_kept_lem (Listed n) c size fs gs d e l = e ∙ d
-floats_kept_lem (Refused n) c size fs gs d e l = e ∙ ap zero_floats l
+pub floats_kept_lem : (r : Answer ℕ) (c : Course) (size : ℕ) (fs gs : List Float) → FloatsListed r c size fs → gs ≡ kept_floats (is_refused r) fs → length fs ≡ size → gs ≡ floats_as r c size
+floats_kept_lem (given n) c size fs gs d e l = e ∙ d
+floats_kept_lem (refused n) c size fs gs d e l = e ∙ ap zero_floats l
 
-pub numbers_kept_lem : (r : Made) (c : Course) (links : List ℕ) (size : ℕ) (us vs : List ℕ) → NumbersListed r c links size us → vs ≡ kept_numbers (is_refused r) us → length us ≡ size → vs ≡ numbers_as r c links size
-numbers_kept_lem (Listed n) c links size us vs d e l = e ∙ d
-numbers_kept_lem (Refused n) c links size us vs d e l = e ∙ ap zeros l
+pub numbers_kept_lem : (r : Answer ℕ) (c : Course) (links : List ℕ) (size : ℕ) (us vs : List ℕ) → NumbersListed r c links size us → vs ≡ kept_numbers (is_refused r) us → length us ≡ size → vs ≡ numbers_as r c links size
+numbers_kept_lem (given n) c links size us vs d e l = e ∙ d
+numbers_kept_lem (refused n) c links size us vs d e l = e ∙ ap zeros l

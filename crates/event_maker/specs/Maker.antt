@@ -6,6 +6,7 @@
 -- whole sample, point or place is not looked at, and in the list it is zero afterwards.
 use Rattle.std.specs.Prelude.{◌≡◌, Bool, not, ◌||◌, List, [], ◌∷◌, ◌++◌, ℕ, zero, suc, ◌-◌, ◌*◌, ◌/◌, min, ltb, length, get_or, Float}
 use Rattle.std.specs.Float.Ieee.{lt}
+use Rattle.laws.specs.Answer.{Answer, refused, given}
 use Rattle.laws.specs.Below.{some_below}
 use Rattle.laws.specs.Refusals.{Row, row, first_of}
 use Rattle.floats.specs.Floats.{book_value}
@@ -18,8 +19,6 @@ use Rattle.event_walk.specs.declared.Movement.{Movement}
 use Rattle.event_walk.specs.declared.PassedPoint.{PassedPoint}
 use Rattle.event_walk.specs.Course.{Course, course_of}
 use Rattle.event_walk.specs.Walk.{points_passed, row11, bad_leg_number}
-use Rattle.event_maker.specs.declared.Made.{Made}
-use Rattle.event_maker.specs.declared.Made.TheVariants.{Listed, Refused}
 
 -- ---- what is lent
 
@@ -115,22 +114,18 @@ maker_rows c samples places =
     ++ row short_number (ltb places (length (points_passed c))) ∷ []
 
 -- a number's answer; "else the count"
-abbrev pub answered : ℕ → ℕ → Made
-answered zero count = Listed count
-answered (suc n) count = Refused (suc n)
+abbrev pub answered : ℕ → ℕ → Answer ℕ
+answered zero count = given count
+answered (suc n) count = refused (suc n)
 
-unfoldable pub answer_of : Course → List ℕ → ℕ → Made
+unfoldable pub answer_of : Course → List ℕ → ℕ → Answer ℕ
 unfolding maker_rows
 answer_of c samples places = answered (first_of (maker_rows c samples places)) (length (points_passed c))
 
--- document 01's number, and the count, for each answer
-abbrev pub made_number : Made → ℕ
-made_number (Listed n) = 0
-made_number (Refused n) = n
-
-abbrev pub made_count : Made → ℕ
-made_count (Listed n) = n
-made_count (Refused n) = 0
+-- the count of an answer, 0 for a refusal
+abbrev pub made_count : Answer ℕ → ℕ
+made_count (given n) = n
+made_count (refused n) = 0
 
 -- ---- the list
 
@@ -144,17 +139,17 @@ event_numbers links [] = []
 event_numbers links (p ∷ ps) = get_or links p.point 0 ∷ kind_number p.est_type ∷ event_numbers links ps
 
 -- "rest zero"; a refusal leaves nothing else
-abbrev pub floats_as : Made → Course → ℕ → List Float
-floats_as (Listed n) c size = event_floats (points_passed c) ++ zero_floats (size - n * event_float_width)
-floats_as (Refused n) c size = zero_floats size
+abbrev pub floats_as : Answer ℕ → Course → ℕ → List Float
+floats_as (given n) c size = event_floats (points_passed c) ++ zero_floats (size - n * event_float_width)
+floats_as (refused n) c size = zero_floats size
 
-abbrev pub numbers_as : Made → Course → List ℕ → ℕ → List ℕ
-numbers_as (Listed n) c links size = event_numbers links (points_passed c) ++ zeros (size - n * event_number_width)
-numbers_as (Refused n) c links size = zeros size
+abbrev pub numbers_as : Answer ℕ → Course → List ℕ → ℕ → List ℕ
+numbers_as (given n) c links size = event_numbers links (points_passed c) ++ zeros (size - n * event_number_width)
+numbers_as (refused n) c links size = zeros size
 
 -- ---- what is promised: the answer, and the list as it is left
 
-pub record EventsMade (l : LentLeg) (lent left : EventList) (r : Made) : Type 0 where
+pub record EventsMade (l : LentLeg) (lent left : EventList) (r : Answer ℕ) : Type 0 where
   pub answer : r ≡ answer_of (course_in l) l.samples (places_in lent)
   pub floats : left.floats ≡ floats_as r (course_in l) (length lent.floats)
   pub numbers : left.numbers ≡ numbers_as r (course_in l) l.links (length lent.numbers)
