@@ -14,7 +14,7 @@ use Rattle.laws.proofs.Answers.{Both, both_refused}
 use Rattle.net_node.specs.declared.EstTime.{EstTime}
 use Rattle.net_node.specs.declared.TimedEvent.{TimedEvent}
 use Rattle.net_insertion.specs.declared.Place.{Place}
-use Rattle.net_insertion.specs.declared.Inserted.TheVariants.{Added}
+use Rattle.net_insertion.specs.declared.Insertion.TheVariants.{Added}
 use Rattle.net_insertion.specs.Insertion as Insertion
 use Rattle.net_insertion.specs.Insertion.{linked_to, event_node, split_fake, add_behind, split_at, place_at, added_as, table_as, seek, found, sought_in, inserted, inserted_table}
 use Rattle.net_insertion.proofs.Seeking.{seek_turn}

@@ -19,8 +19,10 @@ use Rattle.net_node.specs.declared.TimedEvent.{TimedEvent}
 use Rattle.net_node.specs.Table.{same_event, same_kind, kind_number, kind_of, Table, at, fake_kind, with_next_alt}
 use Rattle.net_node.proofs.Nodes.{kind_back}
 use Rattle.net_insertion.specs.declared.Place.{Place}
-use Rattle.net_insertion.specs.declared.Inserted.{Inserted}
-use Rattle.net_insertion.specs.declared.Inserted.TheVariants.{Added, Moved, Refused}
+use Rattle.std.specs.Prelude.{Result, Ok, Err}
+use Rattle.net_insertion.specs.declared.Insertion.{Insertion}
+use Rattle.net_insertion.specs.declared.Insertion.TheVariants.{Added, Moved}
+use Rattle.refusals.specs.declared.Refusal.{Refusal}
 use Rattle.net_insertion.specs.Insertion.{matches, place_at, add_behind, split_at, inserted, inserted_table}
 use Rattle.grow_rules.specs.Run.{Net, Run, After, arc_to, added_to, nodes_to, moved_to, member_of, inserted_run, insert_event}
 use Rattle.laws.proofs.Members.{some_all}
@@ -393,15 +395,15 @@ module _ {L : Labels} {places : ℕ} {net : Net} {run : Run} {saved : List Run} 
   unfolding insert_event place_at
   insert_keeps safe = go (inserted_table t n limit run.place e) (inserted t n places ends limit run.place e) (insertion_came t n places ends limit run.place e v s.within p_base)
     where
-      go : (after : Table) (a : Inserted) → Came L t n places ends limit run.place e after a → Holds (Inserts L places net run saved limit e) (inserted_run net run e after a)
-      go after (Refused r) c = tt
-      go after (Moved q) c =
+      go : (after : Table) (a : Result Insertion Refusal) → Came L t n places ends limit run.place e after a → Holds (Inserts L places net run saved limit e) (inserted_run net run e after a)
+      go after (Err r) c = tt
+      go after (Ok (Moved q)) c =
           subst (λ (z : Place). Inserts L places net run saved limit e (record { net = net; run = moved_to run z run.has_split })) (sym c.place) (moved safe c.from c.reached c.some c.first_some c.same)
-      go after (Added q false) c =
+      go after (Ok (Added q false)) c =
           subst (λ (z : Place). Inserts L places net run saved limit e (record { net = added_to net after z false (arc_to run.place z.idx_prev e); run = moved_to run z true })) (sym c.place)
           (subst (λ (z : Table). Inserts L places net run saved limit e (record { net = added_to net z (place_at n e) false (arc_to run.place (place_at n e).idx_prev e); run = moved_to run (place_at n e) true })) (sym c.table)
           (opened c.from c.reached c.empty c.no_end c.room))
-      go after (Added q true) c =
+      go after (Ok (Added q true)) c =
           subst (λ (z : Place). Inserts L places net run saved limit e (record { net = added_to net after z true (arc_to run.place z.idx_prev e); run = moved_to run z true })) (sym c.place)
           (subst (λ (z : Table). Inserts L places net run saved limit e (record { net = added_to net z (place_at (n + 1) e) true (arc_to run.place (place_at (n + 1) e).idx_prev e); run = moved_to run (place_at (n + 1) e) true })) (sym c.table)
           (divided c.from c.reached c.first_some c.no_alt c.room))

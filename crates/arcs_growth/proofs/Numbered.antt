@@ -19,8 +19,10 @@ use Rattle.net_node.specs.Table.{Room, Table, put, at}
 use Rattle.net_node.specs.declared.EstTime.{EstTime}
 use Rattle.net_node.specs.Left.{Network}
 use Rattle.net_node.specs.declared.TimedEvent.{TimedEvent}
-use Rattle.net_insertion.specs.declared.Inserted.{Inserted}
-use Rattle.net_insertion.specs.declared.Inserted.TheVariants.{Added, Moved, Refused}
+use Rattle.std.specs.Prelude.{Result, Ok, Err}
+use Rattle.net_insertion.specs.declared.Insertion.{Insertion}
+use Rattle.net_insertion.specs.declared.Insertion.TheVariants.{Added, Moved}
+use Rattle.refusals.specs.declared.Refusal.{Refusal}
 use Rattle.net_insertion.specs.Insertion.{inserted, inserted_table}
 use Rattle.net_insertion.proofs.Numbers.{RefusesAs, inserted_refuses}
 use Rattle.net_joins.specs.Joins.{JoinStep, JoinsTo, GoesOn, Beyond, join_step}
@@ -49,11 +51,14 @@ module _ (places : ℕ) (limit : Float) where
       go (inserted_table net.table net.nodes limit run.place e) (inserted net.table net.nodes places (member_of net.ends) limit run.place e)
       (inserted_refuses net.table net.nodes places (member_of net.ends) limit run.place e)
     where
-      go : (t : Table) (a : Inserted) → RefusesAs a → Grows (inserted_run net run e t a)
-      go t (Refused k) (inl q) = (omega arith, omega arith)
-      go t (Refused k) (inr q) = (omega arith, omega arith)
-      go t (Moved q) h = tt
-      go t (Added q split) h = tt
+      go : (t : Table) (a : Result Insertion Refusal) → RefusesAs a → Grows (inserted_run net run e t a)
+      go t (Err r) (inl q) = rw q (omega arith, omega arith)
+      go t (Err r) (inr q) = rw q (omega arith, omega arith)
+      go t (Ok i) h = grown i
+        where
+          grown : (i : Insertion) → Grows (inserted_run net run e t (Ok i))
+          grown (Moved q) = tt
+          grown (Added q split) = tt
 
   goes_numbered : (a : Answer After) → Grows a → Grows (goes_on a)
   goes_numbered (refused k) h = h

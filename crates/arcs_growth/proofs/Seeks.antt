@@ -11,8 +11,10 @@ use Rattle.net_node.specs.Table.{Table, at}
 use Rattle.net_node.specs.declared.EstTime.{EstTime}
 use Rattle.net_node.specs.declared.TimedEvent.{TimedEvent}
 use Rattle.net_insertion.specs.declared.Place.{Place}
-use Rattle.net_insertion.specs.declared.Inserted.{Inserted}
-use Rattle.net_insertion.specs.declared.Inserted.TheVariants.{Added, Moved, Refused}
+use Rattle.std.specs.Prelude.{Result, Ok, Err}
+use Rattle.net_insertion.specs.declared.Insertion.{Insertion}
+use Rattle.net_insertion.specs.declared.Insertion.TheVariants.{Added, Moved}
+use Rattle.refusals.specs.declared.Refusal.{Refusal}
 use Rattle.net_insertion.specs.Insertion.{matches, found, seek, sought_in, place_at, added_as, inserted_as, table_as, inserted, inserted_table, add_behind, split_at}
 use Rattle.net_insertion.proofs.Seeking.{seek_turn}
 use Rattle.arcs_growth.proofs.Labels.{split, base_role, Labels}
@@ -56,11 +58,11 @@ module _ (L : Labels) (t : Table) (n places : ℕ) (ended : ℕ → Bool) (join 
     pub place : q ≡ place_at (n + 1) e
     pub table : after ≡ add_behind (split_at t from n p) n (n + 1) e
 
-  abbrev pub Came : Table → Inserted → Type 0
-  Came after (Moved q) = MovesTo after q
-  Came after (Added q false) = AddsBehind after q
-  Came after (Added q true) = Splits after q
-  Came after (Refused r) = Unit
+  abbrev pub Came : Table → Result Insertion Refusal → Type 0
+  Came after (Ok (Moved q)) = MovesTo after q
+  Came after (Ok (Added q false)) = AddsBehind after q
+  Came after (Ok (Added q true)) = Splits after q
+  Came after (Err r) = Unit
 
 some : {m : ℕ} → eqb m 0 ≡ false → 0 < m
 some {m} o = let q : m ≡ 0 → ⊥ = eqb-false m 0 o in omega arith

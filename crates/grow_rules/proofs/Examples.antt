@@ -23,7 +23,7 @@ use Rattle.net_node.specs.Table.{same_kind, same_event, node_at, put_floats, put
 use Rattle.event_walk.specs.Course.{course_of}
 use Rattle.event_walk.specs.Walk.{first_beyond, start_back, start_front, start, offset_next, in_range, clears_next, emits, turned, turn, passed_as, passed_next, walk, turns_left, passed_from, points_passed, reaches_last, bad_point, some_bad, row11}
 use Rattle.net_insertion.specs.Insertion.{matches, seek, linked_to, event_node, split_fake, add_behind, split_at, place_at, sought_in, inserted, inserted_table, flagged}
-use Rattle.net_join_paths.specs.Entries.{entry, entry_at, entries_in, push}
+use Rattle.net_join_paths.specs.Entries.{entry, push}
 use Rattle.net_strands.specs.Space.{alternatives, strand_from, strands, extended, extended_all}
 use Rattle.net_event_map.specs.EventMap.{seen_in, nodes_from, event_nodes, last_of, arrive_at, clear_at}
 use Rattle.net_joins.specs.Joins.{closer, closest_of, closest, chain_end, join_fake, join_at, joined_table, names, appended_all, appended, rebuilt, join_step}
@@ -65,7 +65,7 @@ worked_sections = refl
 
 worked_grown : summary (grow worked 8 (lent 8)) ≡ 8 ∷ 4 ∷ 0 ∷ 0 ∷ 1 ∷ 2 ∷ 0 ∷ 1 ∷ 0 ∷ 0 ∷ 0 ∷ 0 ∷ 0 ∷ 0 ∷ 2 ∷ 0 ∷ 2 ∷ 0 ∷ 0 ∷ 0 ∷ 0 ∷ 0 ∷ 0 ∷ 0 ∷ 1 ∷ 3 ∷ 0 ∷ 1 ∷ 0 ∷ 0 ∷ 4621819117588971520 ∷ 0 ∷ 1 ∷ 1 ∷ 4 ∷ 0 ∷ 2 ∷ 0 ∷ 4611686018427387904 ∷ 4611686018427387904 ∷ 0 ∷ 0 ∷ 2 ∷ 5 ∷ 0 ∷ 3 ∷ 0 ∷ 4613937818241073152 ∷ 4621819117588971520 ∷ 4611686018427387904 ∷ 1 ∷ 2 ∷ 6 ∷ 0 ∷ 4 ∷ 0 ∷ 0 ∷ 0 ∷ 4616189618054758400 ∷ 2 ∷
     0 ∷ 7 ∷ 0 ∷ 5 ∷ 0 ∷ 0 ∷ 0 ∷ 0 ∷ 2 ∷ 0 ∷ 0 ∷ 0 ∷ 6 ∷ 0 ∷ 0 ∷ 0 ∷ 0 ∷ []
-unfolding some_below sum_below u32_at u64_at billion table_float abs gap smaller root_digits whole_root root_of sqrt leg_below join_bits departure_bits length_bits links origins_at_of origins destinations_at_of destinations legs_at_of legs samples_at_of samples end_of sections_of link_length link_next link_next_alt link_prev link_prev_alt origin_link origin_offset origin_front destination_link leg_link leg_parent leg_samples sample_time sample_offset sample_speed first_sample link_at origin_at leg_at sample_from sample_at sample_patterns head_patterns member origin_below stacked pushed enter search options_of in_set kept_origins event_offset clears twice_ahead speed_at time_at passing_at bad_passing same_kind same_event node_at put_floats put_numbers no_link_event blank course_of first_beyond start_back start_front start offset_next in_range clears_next emits turned turn passed_as passed_next walk turns_left passed_from points_passed reaches_last bad_point some_bad row11 matches seek linked_to event_node split_fake put at add_behind split_at place_at sought_in inserted inserted_table flagged entry entry_at entries_in push alternatives strand_from strands extended extended_all seen_in nodes_from event_nodes last_of arrive_at clear_at closer closest_of closest chain_end join_fake join_at joined_table names appended_all appended rebuilt join_step legs_to path_of link_of point_link point_offset leg_course event_at events_at leg_events fake_node first_nodes origin_event origin_run seek_leg grow_origins bad_finish finished_at waiting on_over save_over go_on is_destination finishes take_leg drive leads_to_end end_fakes last_node grown_with grow arc_to arc_to_end added_to moved_to insert_event joined_to with_joins run_event run_events add sub mul div lt le eq of_bits round sum to_bits is_nan neg
+unfolding some_below sum_below u32_at u64_at billion table_float abs gap smaller root_digits whole_root root_of sqrt leg_below join_bits departure_bits length_bits links origins_at_of origins destinations_at_of destinations legs_at_of legs samples_at_of samples end_of sections_of link_length link_next link_next_alt link_prev link_prev_alt origin_link origin_offset origin_front destination_link leg_link leg_parent leg_samples sample_time sample_offset sample_speed first_sample link_at origin_at leg_at sample_from sample_at sample_patterns head_patterns member origin_below stacked pushed enter search options_of in_set kept_origins event_offset clears twice_ahead speed_at time_at passing_at bad_passing same_kind same_event node_at put_floats put_numbers no_link_event blank course_of first_beyond start_back start_front start offset_next in_range clears_next emits turned turn passed_as passed_next walk turns_left passed_from points_passed reaches_last bad_point some_bad row11 matches seek linked_to event_node split_fake put at add_behind split_at place_at sought_in inserted inserted_table flagged entry push alternatives strand_from strands extended extended_all seen_in nodes_from event_nodes last_of arrive_at clear_at closer closest_of closest chain_end join_fake join_at joined_table names appended_all appended rebuilt join_step legs_to path_of link_of point_link point_offset leg_course event_at events_at leg_events fake_node first_nodes origin_event origin_run seek_leg grow_origins bad_finish finished_at waiting on_over save_over go_on is_destination finishes take_leg drive leads_to_end end_fakes last_node grown_with grow arc_to arc_to_end added_to moved_to insert_event joined_to with_joins run_event run_events add sub mul div lt le eq of_bits round sum to_bits is_nan neg
 worked_grown = refl
 
 -- its noted arcs, the latest first: from, to (0: the end), and the patterns of time and distance, which stand at the nodes of the listing
@@ -78,7 +78,7 @@ noted_by (refused n) = n ∷ []
 noted_by (given g) = arcs g.noted
 
 worked_noted : noted_by (grow worked 8 (lent 8)) ≡ 5 ∷ 0 ∷ 0 ∷ 0 ∷ 4 ∷ 5 ∷ 4613937818241073152 ∷ 4621819117588971520 ∷ 3 ∷ 4 ∷ 4611686018427387904 ∷ 4611686018427387904 ∷ 2 ∷ 3 ∷ 0 ∷ 4621819117588971520 ∷ 1 ∷ 2 ∷ 0 ∷ 0 ∷ []
-unfolding some_below sum_below u32_at u64_at billion table_float abs gap smaller root_digits whole_root root_of sqrt leg_below join_bits departure_bits length_bits links origins_at_of origins destinations_at_of destinations legs_at_of legs samples_at_of samples end_of sections_of link_length link_next link_next_alt link_prev link_prev_alt origin_link origin_offset origin_front destination_link leg_link leg_parent leg_samples sample_time sample_offset sample_speed first_sample link_at origin_at leg_at sample_from sample_at sample_patterns head_patterns member origin_below stacked pushed enter search options_of in_set kept_origins event_offset clears twice_ahead speed_at time_at passing_at bad_passing same_kind same_event node_at put_floats put_numbers no_link_event blank course_of first_beyond start_back start_front start offset_next in_range clears_next emits turned turn passed_as passed_next walk turns_left passed_from points_passed reaches_last bad_point some_bad row11 matches seek linked_to event_node split_fake put at add_behind split_at place_at sought_in inserted inserted_table flagged entry entry_at entries_in push alternatives strand_from strands extended extended_all seen_in nodes_from event_nodes last_of arrive_at clear_at closer closest_of closest chain_end join_fake join_at joined_table names appended_all appended rebuilt join_step legs_to path_of link_of point_link point_offset leg_course event_at events_at leg_events fake_node first_nodes origin_event origin_run seek_leg grow_origins bad_finish finished_at waiting on_over save_over go_on is_destination finishes take_leg drive leads_to_end end_fakes last_node grown_with grow arc_to arc_to_end added_to moved_to insert_event joined_to with_joins run_event run_events add sub mul div lt le eq of_bits round sum to_bits is_nan neg
+unfolding some_below sum_below u32_at u64_at billion table_float abs gap smaller root_digits whole_root root_of sqrt leg_below join_bits departure_bits length_bits links origins_at_of origins destinations_at_of destinations legs_at_of legs samples_at_of samples end_of sections_of link_length link_next link_next_alt link_prev link_prev_alt origin_link origin_offset origin_front destination_link leg_link leg_parent leg_samples sample_time sample_offset sample_speed first_sample link_at origin_at leg_at sample_from sample_at sample_patterns head_patterns member origin_below stacked pushed enter search options_of in_set kept_origins event_offset clears twice_ahead speed_at time_at passing_at bad_passing same_kind same_event node_at put_floats put_numbers no_link_event blank course_of first_beyond start_back start_front start offset_next in_range clears_next emits turned turn passed_as passed_next walk turns_left passed_from points_passed reaches_last bad_point some_bad row11 matches seek linked_to event_node split_fake put at add_behind split_at place_at sought_in inserted inserted_table flagged entry push alternatives strand_from strands extended extended_all seen_in nodes_from event_nodes last_of arrive_at clear_at closer closest_of closest chain_end join_fake join_at joined_table names appended_all appended rebuilt join_step legs_to path_of link_of point_link point_offset leg_course event_at events_at leg_events fake_node first_nodes origin_event origin_run seek_leg grow_origins bad_finish finished_at waiting on_over save_over go_on is_destination finishes take_leg drive leads_to_end end_fakes last_node grown_with grow arc_to arc_to_end added_to moved_to insert_event joined_to with_joins run_event run_events add sub mul div lt le eq of_bits round sum to_bits is_nan neg
 worked_noted = refl
 
 -- row 9's example, a lone link as origin and destination: a run never finishes in its first leg
@@ -89,7 +89,7 @@ lone =
     1 ∷ 0 ∷ 0 ∷ 0 ∷ 0 ∷ 0 ∷ 0 ∷ 0 ∷ 0 ∷ 0 ∷ 0 ∷ 0 ∷ 0 ∷ 0 ∷ 0 ∷ 0 ∷ 0 ∷ 0 ∷ 36 ∷ 64 ∷ 0 ∷ 0 ∷ 0 ∷ 0 ∷ 0 ∷ 0 ∷ 0 ∷ 0 ∷ []
 
 lone_grown : summary (grow lone 8 (lent 8)) ≡ 9 ∷ []
-unfolding some_below sum_below u32_at u64_at billion table_float abs gap smaller root_digits whole_root root_of sqrt leg_below join_bits departure_bits length_bits links origins_at_of origins destinations_at_of destinations legs_at_of legs samples_at_of samples end_of sections_of link_length link_next link_next_alt link_prev link_prev_alt origin_link origin_offset origin_front destination_link leg_link leg_parent leg_samples sample_time sample_offset sample_speed first_sample link_at origin_at leg_at sample_from sample_at sample_patterns head_patterns member origin_below stacked pushed enter search options_of in_set kept_origins event_offset clears twice_ahead speed_at time_at passing_at bad_passing same_kind same_event node_at put_floats put_numbers no_link_event blank course_of first_beyond start_back start_front start offset_next in_range clears_next emits turned turn passed_as passed_next walk turns_left passed_from points_passed reaches_last bad_point some_bad row11 matches seek linked_to event_node split_fake put at add_behind split_at place_at sought_in inserted inserted_table flagged entry entry_at entries_in push alternatives strand_from strands extended extended_all seen_in nodes_from event_nodes last_of arrive_at clear_at closer closest_of closest chain_end join_fake join_at joined_table names appended_all appended rebuilt join_step legs_to path_of link_of point_link point_offset leg_course event_at events_at leg_events fake_node first_nodes origin_event origin_run seek_leg grow_origins bad_finish finished_at waiting on_over save_over go_on is_destination finishes take_leg drive leads_to_end end_fakes last_node grown_with grow arc_to arc_to_end added_to moved_to insert_event joined_to with_joins run_event run_events add sub mul div lt le eq of_bits round sum to_bits is_nan neg
+unfolding some_below sum_below u32_at u64_at billion table_float abs gap smaller root_digits whole_root root_of sqrt leg_below join_bits departure_bits length_bits links origins_at_of origins destinations_at_of destinations legs_at_of legs samples_at_of samples end_of sections_of link_length link_next link_next_alt link_prev link_prev_alt origin_link origin_offset origin_front destination_link leg_link leg_parent leg_samples sample_time sample_offset sample_speed first_sample link_at origin_at leg_at sample_from sample_at sample_patterns head_patterns member origin_below stacked pushed enter search options_of in_set kept_origins event_offset clears twice_ahead speed_at time_at passing_at bad_passing same_kind same_event node_at put_floats put_numbers no_link_event blank course_of first_beyond start_back start_front start offset_next in_range clears_next emits turned turn passed_as passed_next walk turns_left passed_from points_passed reaches_last bad_point some_bad row11 matches seek linked_to event_node split_fake put at add_behind split_at place_at sought_in inserted inserted_table flagged entry push alternatives strand_from strands extended extended_all seen_in nodes_from event_nodes last_of arrive_at clear_at closer closest_of closest chain_end join_fake join_at joined_table names appended_all appended rebuilt join_step legs_to path_of link_of point_link point_offset leg_course event_at events_at leg_events fake_node first_nodes origin_event origin_run seek_leg grow_origins bad_finish finished_at waiting on_over save_over go_on is_destination finishes take_leg drive leads_to_end end_fakes last_node grown_with grow arc_to arc_to_end added_to moved_to insert_event joined_to with_joins run_event run_events add sub mul div lt le eq of_bits round sum to_bits is_nan neg
 lone_grown = refl
 
 -- refused with 9
@@ -104,7 +104,7 @@ book2 =
     0 ∷ 0 ∷ 0 ∷ 64 ∷ 74 ∷ 30 ∷ 31 ∷ 18 ∷ 2 ∷ 70 ∷ 19 ∷ 64 ∷ 198 ∷ 88 ∷ 252 ∷ 50 ∷ 139 ∷ 64 ∷ 128 ∷ 64 ∷ 0 ∷ 0 ∷ 0 ∷ 0 ∷ 0 ∷ 0 ∷ 0 ∷ 64 ∷ 245 ∷ 15 ∷ 67 ∷ 30 ∷ 39 ∷ 2 ∷ 91 ∷ 64 ∷ 74 ∷ 160 ∷ 68 ∷ 242 ∷ 252 ∷ 179 ∷ 134 ∷ 64 ∷ 0 ∷ 0 ∷ 0 ∷ 0 ∷ 0 ∷ 0 ∷ 0 ∷ 64 ∷ []
 
 book2_grown : summary (grow book2 5 (lent 5)) ≡ 9 ∷ []
-unfolding some_below sum_below u32_at u64_at billion table_float abs gap smaller root_digits whole_root root_of sqrt leg_below join_bits departure_bits length_bits links origins_at_of origins destinations_at_of destinations legs_at_of legs samples_at_of samples end_of sections_of link_length link_next link_next_alt link_prev link_prev_alt origin_link origin_offset origin_front destination_link leg_link leg_parent leg_samples sample_time sample_offset sample_speed first_sample link_at origin_at leg_at sample_from sample_at sample_patterns head_patterns member origin_below stacked pushed enter search options_of in_set kept_origins event_offset clears twice_ahead speed_at time_at passing_at bad_passing same_kind same_event node_at put_floats put_numbers no_link_event blank course_of first_beyond start_back start_front start offset_next in_range clears_next emits turned turn passed_as passed_next walk turns_left passed_from points_passed reaches_last bad_point some_bad row11 matches seek linked_to event_node split_fake put at add_behind split_at place_at sought_in inserted inserted_table flagged entry entry_at entries_in push alternatives strand_from strands extended extended_all seen_in nodes_from event_nodes last_of arrive_at clear_at closer closest_of closest chain_end join_fake join_at joined_table names appended_all appended rebuilt join_step legs_to path_of link_of point_link point_offset leg_course event_at events_at leg_events fake_node first_nodes origin_event origin_run seek_leg grow_origins bad_finish finished_at waiting on_over save_over go_on is_destination finishes take_leg drive leads_to_end end_fakes last_node grown_with grow arc_to arc_to_end added_to moved_to insert_event joined_to with_joins run_event run_events add sub mul div lt le eq of_bits round sum to_bits is_nan neg
+unfolding some_below sum_below u32_at u64_at billion table_float abs gap smaller root_digits whole_root root_of sqrt leg_below join_bits departure_bits length_bits links origins_at_of origins destinations_at_of destinations legs_at_of legs samples_at_of samples end_of sections_of link_length link_next link_next_alt link_prev link_prev_alt origin_link origin_offset origin_front destination_link leg_link leg_parent leg_samples sample_time sample_offset sample_speed first_sample link_at origin_at leg_at sample_from sample_at sample_patterns head_patterns member origin_below stacked pushed enter search options_of in_set kept_origins event_offset clears twice_ahead speed_at time_at passing_at bad_passing same_kind same_event node_at put_floats put_numbers no_link_event blank course_of first_beyond start_back start_front start offset_next in_range clears_next emits turned turn passed_as passed_next walk turns_left passed_from points_passed reaches_last bad_point some_bad row11 matches seek linked_to event_node split_fake put at add_behind split_at place_at sought_in inserted inserted_table flagged entry push alternatives strand_from strands extended extended_all seen_in nodes_from event_nodes last_of arrive_at clear_at closer closest_of closest chain_end join_fake join_at joined_table names appended_all appended rebuilt join_step legs_to path_of link_of point_link point_offset leg_course event_at events_at leg_events fake_node first_nodes origin_event origin_run seek_leg grow_origins bad_finish finished_at waiting on_over save_over go_on is_destination finishes take_leg drive leads_to_end end_fakes last_node grown_with grow arc_to arc_to_end added_to moved_to insert_event joined_to with_joins run_event run_events add sub mul div lt le eq of_bits round sum to_bits is_nan neg
 book2_grown = refl
 
 -- 0 splits, 0 joined, 1 finished
@@ -123,7 +123,7 @@ book6 =
 book6_grown : summary (grow book6 18 (lent 18)) ≡ 14 ∷ 10 ∷ 0 ∷ 0 ∷ 1 ∷ 2 ∷ 0 ∷ 1 ∷ 0 ∷ 0 ∷ 0 ∷ 0 ∷ 0 ∷ 0 ∷ 2 ∷ 0 ∷ 2 ∷ 0 ∷ 0 ∷ 0 ∷ 0 ∷ 0 ∷ 0 ∷ 0 ∷ 1 ∷ 3 ∷ 0 ∷ 1 ∷ 0 ∷ 0 ∷ 0 ∷ 0 ∷ 1 ∷ 1 ∷ 4 ∷ 0 ∷ 2 ∷ 0 ∷ 4610785298501913806 ∷ 4619848792751996928 ∷ 0 ∷ 0 ∷ 3 ∷ 5 ∷ 0 ∷ 3 ∷ 0 ∷ 0 ∷ 0 ∷ 4617315517961601024 ∷ 1 ∷ 3 ∷ 6 ∷ 0 ∷ 4 ∷ 0 ∷ 4615401488119968563 ∷ 4625830136007098368 ∷ 4617315517961601024 ∷ 0 ∷
     4 ∷ 7 ∷ 0 ∷ 5 ∷ 0 ∷ 0 ∷ 0 ∷ 4617315517961601024 ∷ 1 ∷ 4 ∷ 8 ∷ 0 ∷ 6 ∷ 0 ∷ 4614725948175862986 ∷ 4625407923542032384 ∷ 4617315517961601024 ∷ 0 ∷ 5 ∷ 9 ∷ 0 ∷ 7 ∷ 0 ∷ 0 ∷ 0 ∷ 4617315517961601024 ∷ 1 ∷ 5 ∷ 10 ∷ 0 ∷ 8 ∷ 0 ∷ 4614613358185178728 ∷ 4625337554797854720 ∷ 4617315517961601024 ∷ 0 ∷ 6 ∷ 11 ∷ 0 ∷ 9 ∷ 0 ∷ 0 ∷ 0 ∷ 4617315517961601024 ∷ 1 ∷ 6 ∷ 12 ∷ 0 ∷ 10 ∷ 0 ∷ 0 ∷ 0 ∷ 4617315517961601024 ∷ 2 ∷ 0 ∷ 13 ∷ 0 ∷ 11 ∷ 0 ∷ 0 ∷
     0 ∷ 0 ∷ 2 ∷ 0 ∷ 0 ∷ 0 ∷ 12 ∷ 0 ∷ 0 ∷ 0 ∷ 0 ∷ []
-unfolding some_below sum_below u32_at u64_at billion table_float abs gap smaller root_digits whole_root root_of sqrt leg_below join_bits departure_bits length_bits links origins_at_of origins destinations_at_of destinations legs_at_of legs samples_at_of samples end_of sections_of link_length link_next link_next_alt link_prev link_prev_alt origin_link origin_offset origin_front destination_link leg_link leg_parent leg_samples sample_time sample_offset sample_speed first_sample link_at origin_at leg_at sample_from sample_at sample_patterns head_patterns member origin_below stacked pushed enter search options_of in_set kept_origins event_offset clears twice_ahead speed_at time_at passing_at bad_passing same_kind same_event node_at put_floats put_numbers no_link_event blank course_of first_beyond start_back start_front start offset_next in_range clears_next emits turned turn passed_as passed_next walk turns_left passed_from points_passed reaches_last bad_point some_bad row11 matches seek linked_to event_node split_fake put at add_behind split_at place_at sought_in inserted inserted_table flagged entry entry_at entries_in push alternatives strand_from strands extended extended_all seen_in nodes_from event_nodes last_of arrive_at clear_at closer closest_of closest chain_end join_fake join_at joined_table names appended_all appended rebuilt join_step legs_to path_of link_of point_link point_offset leg_course event_at events_at leg_events fake_node first_nodes origin_event origin_run seek_leg grow_origins bad_finish finished_at waiting on_over save_over go_on is_destination finishes take_leg drive leads_to_end end_fakes last_node grown_with grow arc_to arc_to_end added_to moved_to insert_event joined_to with_joins run_event run_events add sub mul div lt le eq of_bits round sum to_bits is_nan neg
+unfolding some_below sum_below u32_at u64_at billion table_float abs gap smaller root_digits whole_root root_of sqrt leg_below join_bits departure_bits length_bits links origins_at_of origins destinations_at_of destinations legs_at_of legs samples_at_of samples end_of sections_of link_length link_next link_next_alt link_prev link_prev_alt origin_link origin_offset origin_front destination_link leg_link leg_parent leg_samples sample_time sample_offset sample_speed first_sample link_at origin_at leg_at sample_from sample_at sample_patterns head_patterns member origin_below stacked pushed enter search options_of in_set kept_origins event_offset clears twice_ahead speed_at time_at passing_at bad_passing same_kind same_event node_at put_floats put_numbers no_link_event blank course_of first_beyond start_back start_front start offset_next in_range clears_next emits turned turn passed_as passed_next walk turns_left passed_from points_passed reaches_last bad_point some_bad row11 matches seek linked_to event_node split_fake put at add_behind split_at place_at sought_in inserted inserted_table flagged entry push alternatives strand_from strands extended extended_all seen_in nodes_from event_nodes last_of arrive_at clear_at closer closest_of closest chain_end join_fake join_at joined_table names appended_all appended rebuilt join_step legs_to path_of link_of point_link point_offset leg_course event_at events_at leg_events fake_node first_nodes origin_event origin_run seek_leg grow_origins bad_finish finished_at waiting on_over save_over go_on is_destination finishes take_leg drive leads_to_end end_fakes last_node grown_with grow arc_to arc_to_end added_to moved_to insert_event joined_to with_joins run_event run_events add sub mul div lt le eq of_bits round sum to_bits is_nan neg
 book6_grown = refl
 
 -- refused with 12
@@ -137,7 +137,7 @@ book11 =
     144 ∷ 244 ∷ 39 ∷ 64 ∷ []
 
 book11_grown : summary (grow book11 6 (lent 6)) ≡ 12 ∷ []
-unfolding some_below sum_below u32_at u64_at billion table_float abs gap smaller root_digits whole_root root_of sqrt leg_below join_bits departure_bits length_bits links origins_at_of origins destinations_at_of destinations legs_at_of legs samples_at_of samples end_of sections_of link_length link_next link_next_alt link_prev link_prev_alt origin_link origin_offset origin_front destination_link leg_link leg_parent leg_samples sample_time sample_offset sample_speed first_sample link_at origin_at leg_at sample_from sample_at sample_patterns head_patterns member origin_below stacked pushed enter search options_of in_set kept_origins event_offset clears twice_ahead speed_at time_at passing_at bad_passing same_kind same_event node_at put_floats put_numbers no_link_event blank course_of first_beyond start_back start_front start offset_next in_range clears_next emits turned turn passed_as passed_next walk turns_left passed_from points_passed reaches_last bad_point some_bad row11 matches seek linked_to event_node split_fake put at add_behind split_at place_at sought_in inserted inserted_table flagged entry entry_at entries_in push alternatives strand_from strands extended extended_all seen_in nodes_from event_nodes last_of arrive_at clear_at closer closest_of closest chain_end join_fake join_at joined_table names appended_all appended rebuilt join_step legs_to path_of link_of point_link point_offset leg_course event_at events_at leg_events fake_node first_nodes origin_event origin_run seek_leg grow_origins bad_finish finished_at waiting on_over save_over go_on is_destination finishes take_leg drive leads_to_end end_fakes last_node grown_with grow arc_to arc_to_end added_to moved_to insert_event joined_to with_joins run_event run_events add sub mul div lt le eq of_bits round sum to_bits is_nan neg
+unfolding some_below sum_below u32_at u64_at billion table_float abs gap smaller root_digits whole_root root_of sqrt leg_below join_bits departure_bits length_bits links origins_at_of origins destinations_at_of destinations legs_at_of legs samples_at_of samples end_of sections_of link_length link_next link_next_alt link_prev link_prev_alt origin_link origin_offset origin_front destination_link leg_link leg_parent leg_samples sample_time sample_offset sample_speed first_sample link_at origin_at leg_at sample_from sample_at sample_patterns head_patterns member origin_below stacked pushed enter search options_of in_set kept_origins event_offset clears twice_ahead speed_at time_at passing_at bad_passing same_kind same_event node_at put_floats put_numbers no_link_event blank course_of first_beyond start_back start_front start offset_next in_range clears_next emits turned turn passed_as passed_next walk turns_left passed_from points_passed reaches_last bad_point some_bad row11 matches seek linked_to event_node split_fake put at add_behind split_at place_at sought_in inserted inserted_table flagged entry push alternatives strand_from strands extended extended_all seen_in nodes_from event_nodes last_of arrive_at clear_at closer closest_of closest chain_end join_fake join_at joined_table names appended_all appended rebuilt join_step legs_to path_of link_of point_link point_offset leg_course event_at events_at leg_events fake_node first_nodes origin_event origin_run seek_leg grow_origins bad_finish finished_at waiting on_over save_over go_on is_destination finishes take_leg drive leads_to_end end_fakes last_node grown_with grow arc_to arc_to_end added_to moved_to insert_event joined_to with_joins run_event run_events add sub mul div lt le eq of_bits round sum to_bits is_nan neg
 book11_grown = refl
 
 -- refused with 11
@@ -152,7 +152,7 @@ book26 =
     242 ∷ 223 ∷ 58 ∷ 64 ∷ []
 
 book26_grown : summary (grow book26 40 (lent 40)) ≡ 11 ∷ []
-unfolding some_below sum_below u32_at u64_at billion table_float abs gap smaller root_digits whole_root root_of sqrt leg_below join_bits departure_bits length_bits links origins_at_of origins destinations_at_of destinations legs_at_of legs samples_at_of samples end_of sections_of link_length link_next link_next_alt link_prev link_prev_alt origin_link origin_offset origin_front destination_link leg_link leg_parent leg_samples sample_time sample_offset sample_speed first_sample link_at origin_at leg_at sample_from sample_at sample_patterns head_patterns member origin_below stacked pushed enter search options_of in_set kept_origins event_offset clears twice_ahead speed_at time_at passing_at bad_passing same_kind same_event node_at put_floats put_numbers no_link_event blank course_of first_beyond start_back start_front start offset_next in_range clears_next emits turned turn passed_as passed_next walk turns_left passed_from points_passed reaches_last bad_point some_bad row11 matches seek linked_to event_node split_fake put at add_behind split_at place_at sought_in inserted inserted_table flagged entry entry_at entries_in push alternatives strand_from strands extended extended_all seen_in nodes_from event_nodes last_of arrive_at clear_at closer closest_of closest chain_end join_fake join_at joined_table names appended_all appended rebuilt join_step legs_to path_of link_of point_link point_offset leg_course event_at events_at leg_events fake_node first_nodes origin_event origin_run seek_leg grow_origins bad_finish finished_at waiting on_over save_over go_on is_destination finishes take_leg drive leads_to_end end_fakes last_node grown_with grow arc_to arc_to_end added_to moved_to insert_event joined_to with_joins run_event run_events add sub mul div lt le eq of_bits round sum to_bits is_nan neg
+unfolding some_below sum_below u32_at u64_at billion table_float abs gap smaller root_digits whole_root root_of sqrt leg_below join_bits departure_bits length_bits links origins_at_of origins destinations_at_of destinations legs_at_of legs samples_at_of samples end_of sections_of link_length link_next link_next_alt link_prev link_prev_alt origin_link origin_offset origin_front destination_link leg_link leg_parent leg_samples sample_time sample_offset sample_speed first_sample link_at origin_at leg_at sample_from sample_at sample_patterns head_patterns member origin_below stacked pushed enter search options_of in_set kept_origins event_offset clears twice_ahead speed_at time_at passing_at bad_passing same_kind same_event node_at put_floats put_numbers no_link_event blank course_of first_beyond start_back start_front start offset_next in_range clears_next emits turned turn passed_as passed_next walk turns_left passed_from points_passed reaches_last bad_point some_bad row11 matches seek linked_to event_node split_fake put at add_behind split_at place_at sought_in inserted inserted_table flagged entry push alternatives strand_from strands extended extended_all seen_in nodes_from event_nodes last_of arrive_at clear_at closer closest_of closest chain_end join_fake join_at joined_table names appended_all appended rebuilt join_step legs_to path_of link_of point_link point_offset leg_course event_at events_at leg_events fake_node first_nodes origin_event origin_run seek_leg grow_origins bad_finish finished_at waiting on_over save_over go_on is_destination finishes take_leg drive leads_to_end end_fakes last_node grown_with grow arc_to arc_to_end added_to moved_to insert_event joined_to with_joins run_event run_events add sub mul div lt le eq of_bits round sum to_bits is_nan neg
 book26_grown = refl
 
 -- 1 splits, 0 joined, 2 finished
@@ -170,12 +170,12 @@ book58 =
 book58_grown : summary (grow book58 40 (lent 40)) ≡ 14 ∷ 8 ∷ 1 ∷ 0 ∷ 2 ∷ 2 ∷ 0 ∷ 1 ∷ 0 ∷ 0 ∷ 0 ∷ 0 ∷ 0 ∷ 0 ∷ 2 ∷ 0 ∷ 2 ∷ 0 ∷ 0 ∷ 0 ∷ 0 ∷ 0 ∷ 0 ∷ 0 ∷ 3 ∷ 3 ∷ 0 ∷ 1 ∷ 0 ∷ 0 ∷ 4621256167635550208 ∷ 0 ∷ 1 ∷ 3 ∷ 4 ∷ 8 ∷ 2 ∷ 0 ∷ 4620333544367569792 ∷ 4637089135075524608 ∷ 0 ∷ 0 ∷ 1 ∷ 5 ∷ 0 ∷ 3 ∷ 0 ∷ 4602023272325003264 ∷ 4621256167635550208 ∷ 4626033829866620040 ∷ 1 ∷ 1 ∷ 6 ∷ 0 ∷ 4 ∷ 0 ∷ 4620316501498803328 ∷ 4637089135075524608 ∷ 4626281082733935416 ∷ 0 ∷
     2 ∷ 7 ∷ 0 ∷ 5 ∷ 0 ∷ 4601083365803927552 ∷ 4621256167635550208 ∷ 4626896279773072163 ∷ 1 ∷ 2 ∷ 12 ∷ 0 ∷ 6 ∷ 0 ∷ 0 ∷ 0 ∷ 4626804506976134382 ∷ 2 ∷ 0 ∷ 9 ∷ 0 ∷ 3 ∷ 0 ∷ 4620868613749828224 ∷ 4637089135075524608 ∷ 0 ∷ 0 ∷ 2 ∷ 10 ∷ 0 ∷ 8 ∷ 0 ∷ 4603721981377989632 ∷ 4621256167635550208 ∷ 4624318901956975221 ∷ 1 ∷ 2 ∷ 11 ∷ 0 ∷ 9 ∷ 0 ∷ 0 ∷ 0 ∷ 4624515131738792889 ∷ 2 ∷ 0 ∷ 12 ∷ 0 ∷ 10 ∷ 0 ∷ 0 ∷ 0 ∷ 0 ∷ 2 ∷ 0 ∷ 13 ∷ 0 ∷ 7 ∷ 11 ∷ 0 ∷
     0 ∷ 0 ∷ 2 ∷ 0 ∷ 0 ∷ 0 ∷ 12 ∷ 0 ∷ 0 ∷ 0 ∷ 0 ∷ []
-unfolding some_below sum_below u32_at u64_at billion table_float abs gap smaller root_digits whole_root root_of sqrt leg_below join_bits departure_bits length_bits links origins_at_of origins destinations_at_of destinations legs_at_of legs samples_at_of samples end_of sections_of link_length link_next link_next_alt link_prev link_prev_alt origin_link origin_offset origin_front destination_link leg_link leg_parent leg_samples sample_time sample_offset sample_speed first_sample link_at origin_at leg_at sample_from sample_at sample_patterns head_patterns member origin_below stacked pushed enter search options_of in_set kept_origins event_offset clears twice_ahead speed_at time_at passing_at bad_passing same_kind same_event node_at put_floats put_numbers no_link_event blank course_of first_beyond start_back start_front start offset_next in_range clears_next emits turned turn passed_as passed_next walk turns_left passed_from points_passed reaches_last bad_point some_bad row11 matches seek linked_to event_node split_fake put at add_behind split_at place_at sought_in inserted inserted_table flagged entry entry_at entries_in push alternatives strand_from strands extended extended_all seen_in nodes_from event_nodes last_of arrive_at clear_at closer closest_of closest chain_end join_fake join_at joined_table names appended_all appended rebuilt join_step legs_to path_of link_of point_link point_offset leg_course event_at events_at leg_events fake_node first_nodes origin_event origin_run seek_leg grow_origins bad_finish finished_at waiting on_over save_over go_on is_destination finishes take_leg drive leads_to_end end_fakes last_node grown_with grow arc_to arc_to_end added_to moved_to insert_event joined_to with_joins run_event run_events add sub mul div lt le eq of_bits round sum to_bits is_nan neg
+unfolding some_below sum_below u32_at u64_at billion table_float abs gap smaller root_digits whole_root root_of sqrt leg_below join_bits departure_bits length_bits links origins_at_of origins destinations_at_of destinations legs_at_of legs samples_at_of samples end_of sections_of link_length link_next link_next_alt link_prev link_prev_alt origin_link origin_offset origin_front destination_link leg_link leg_parent leg_samples sample_time sample_offset sample_speed first_sample link_at origin_at leg_at sample_from sample_at sample_patterns head_patterns member origin_below stacked pushed enter search options_of in_set kept_origins event_offset clears twice_ahead speed_at time_at passing_at bad_passing same_kind same_event node_at put_floats put_numbers no_link_event blank course_of first_beyond start_back start_front start offset_next in_range clears_next emits turned turn passed_as passed_next walk turns_left passed_from points_passed reaches_last bad_point some_bad row11 matches seek linked_to event_node split_fake put at add_behind split_at place_at sought_in inserted inserted_table flagged entry push alternatives strand_from strands extended extended_all seen_in nodes_from event_nodes last_of arrive_at clear_at closer closest_of closest chain_end join_fake join_at joined_table names appended_all appended rebuilt join_step legs_to path_of link_of point_link point_offset leg_course event_at events_at leg_events fake_node first_nodes origin_event origin_run seek_leg grow_origins bad_finish finished_at waiting on_over save_over go_on is_destination finishes take_leg drive leads_to_end end_fakes last_node grown_with grow arc_to arc_to_end added_to moved_to insert_event joined_to with_joins run_event run_events add sub mul div lt le eq of_bits round sum to_bits is_nan neg
 book58_grown = refl
 
 -- its noted arcs: the split's leads from the event that it splits at (3), with the run's own differences; they stand at the nodes of the reference's network, in the order of the work
 book58_noted : noted_by (grow book58 40 (lent 40)) ≡ 10 ∷ 0 ∷ 0 ∷ 0 ∷ 9 ∷ 10 ∷ 4603721981377989632 ∷ 4621256167635550208 ∷ 3 ∷ 9 ∷ 4620868613749828224 ∷ 4637089135075524608 ∷ 7 ∷ 0 ∷ 0 ∷ 0 ∷ 6 ∷ 7 ∷ 4601083365803927552 ∷ 4621256167635550208 ∷ 5 ∷ 6 ∷ 4620316501498803328 ∷ 4637089135075524608 ∷ 4 ∷ 5 ∷ 4602023272325003264 ∷ 4621256167635550208 ∷ 3 ∷ 4 ∷ 4620333544367569792 ∷ 4637089135075524608 ∷ 2 ∷ 3 ∷ 0 ∷ 4621256167635550208 ∷ 1 ∷ 2 ∷ 0 ∷ 0 ∷ []
-unfolding some_below sum_below u32_at u64_at billion table_float abs gap smaller root_digits whole_root root_of sqrt leg_below join_bits departure_bits length_bits links origins_at_of origins destinations_at_of destinations legs_at_of legs samples_at_of samples end_of sections_of link_length link_next link_next_alt link_prev link_prev_alt origin_link origin_offset origin_front destination_link leg_link leg_parent leg_samples sample_time sample_offset sample_speed first_sample link_at origin_at leg_at sample_from sample_at sample_patterns head_patterns member origin_below stacked pushed enter search options_of in_set kept_origins event_offset clears twice_ahead speed_at time_at passing_at bad_passing same_kind same_event node_at put_floats put_numbers no_link_event blank course_of first_beyond start_back start_front start offset_next in_range clears_next emits turned turn passed_as passed_next walk turns_left passed_from points_passed reaches_last bad_point some_bad row11 matches seek linked_to event_node split_fake put at add_behind split_at place_at sought_in inserted inserted_table flagged entry entry_at entries_in push alternatives strand_from strands extended extended_all seen_in nodes_from event_nodes last_of arrive_at clear_at closer closest_of closest chain_end join_fake join_at joined_table names appended_all appended rebuilt join_step legs_to path_of link_of point_link point_offset leg_course event_at events_at leg_events fake_node first_nodes origin_event origin_run seek_leg grow_origins bad_finish finished_at waiting on_over save_over go_on is_destination finishes take_leg drive leads_to_end end_fakes last_node grown_with grow arc_to arc_to_end added_to moved_to insert_event joined_to with_joins run_event run_events add sub mul div lt le eq of_bits round sum to_bits is_nan neg
+unfolding some_below sum_below u32_at u64_at billion table_float abs gap smaller root_digits whole_root root_of sqrt leg_below join_bits departure_bits length_bits links origins_at_of origins destinations_at_of destinations legs_at_of legs samples_at_of samples end_of sections_of link_length link_next link_next_alt link_prev link_prev_alt origin_link origin_offset origin_front destination_link leg_link leg_parent leg_samples sample_time sample_offset sample_speed first_sample link_at origin_at leg_at sample_from sample_at sample_patterns head_patterns member origin_below stacked pushed enter search options_of in_set kept_origins event_offset clears twice_ahead speed_at time_at passing_at bad_passing same_kind same_event node_at put_floats put_numbers no_link_event blank course_of first_beyond start_back start_front start offset_next in_range clears_next emits turned turn passed_as passed_next walk turns_left passed_from points_passed reaches_last bad_point some_bad row11 matches seek linked_to event_node split_fake put at add_behind split_at place_at sought_in inserted inserted_table flagged entry push alternatives strand_from strands extended extended_all seen_in nodes_from event_nodes last_of arrive_at clear_at closer closest_of closest chain_end join_fake join_at joined_table names appended_all appended rebuilt join_step legs_to path_of link_of point_link point_offset leg_course event_at events_at leg_events fake_node first_nodes origin_event origin_run seek_leg grow_origins bad_finish finished_at waiting on_over save_over go_on is_destination finishes take_leg drive leads_to_end end_fakes last_node grown_with grow arc_to arc_to_end added_to moved_to insert_event joined_to with_joins run_event run_events add sub mul div lt le eq of_bits round sum to_bits is_nan neg
 book58_noted = refl
 
 -- 1 splits, 1 joined, 1 finished
@@ -192,7 +192,7 @@ book149 =
 book149_grown : summary (grow book149 40 (lent 40)) ≡ 13 ∷ 7 ∷ 1 ∷ 1 ∷ 1 ∷ 2 ∷ 0 ∷ 1 ∷ 0 ∷ 0 ∷ 0 ∷ 0 ∷ 0 ∷ 0 ∷ 2 ∷ 0 ∷ 2 ∷ 0 ∷ 0 ∷ 0 ∷ 0 ∷ 0 ∷ 0 ∷ 0 ∷ 1 ∷ 3 ∷ 0 ∷ 1 ∷ 0 ∷ 0 ∷ 4601273178768796796 ∷ 0 ∷ 1 ∷ 1 ∷ 4 ∷ 0 ∷ 2 ∷ 0 ∷ 4596712556908259214 ∷ 4614255421879133460 ∷ 0 ∷ 0 ∷ 2 ∷ 5 ∷ 0 ∷ 3 ∷ 0 ∷ 4583765550849374208 ∷ 4601273178768796800 ∷ 4624633867356078080 ∷ 1 ∷ 2 ∷ 6 ∷ 8 ∷ 4 ∷ 7 ∷ 4597226660399719842 ∷ 4614737393902377802 ∷ 4624633867356078080 ∷ 0 ∷
     2 ∷ 7 ∷ 0 ∷ 5 ∷ 0 ∷ 4583765550849374224 ∷ 4601273178768796800 ∷ 4624633867356078080 ∷ 2 ∷ 0 ∷ 5 ∷ 0 ∷ 6 ∷ 0 ∷ 0 ∷ 0 ∷ 0 ∷ 2 ∷ 0 ∷ 9 ∷ 0 ∷ 5 ∷ 0 ∷ 4597226660399719846 ∷ 4614737393902377802 ∷ 0 ∷ 0 ∷ 3 ∷ 10 ∷ 0 ∷ 8 ∷ 0 ∷ 4583765550849374208 ∷ 4601273178768796800 ∷ 4624633867356078080 ∷ 1 ∷ 3 ∷ 11 ∷ 0 ∷ 9 ∷ 0 ∷ 0 ∷ 0 ∷ 4624633867356078080 ∷ 2 ∷ 0 ∷ 12 ∷ 0 ∷ 10 ∷ 0 ∷ 0 ∷ 0 ∷ 0 ∷ 2 ∷ 0 ∷ 0 ∷ 0 ∷ 11 ∷ 0 ∷ 0 ∷
     0 ∷ 0 ∷ []
-unfolding some_below sum_below u32_at u64_at billion table_float abs gap smaller root_digits whole_root root_of sqrt leg_below join_bits departure_bits length_bits links origins_at_of origins destinations_at_of destinations legs_at_of legs samples_at_of samples end_of sections_of link_length link_next link_next_alt link_prev link_prev_alt origin_link origin_offset origin_front destination_link leg_link leg_parent leg_samples sample_time sample_offset sample_speed first_sample link_at origin_at leg_at sample_from sample_at sample_patterns head_patterns member origin_below stacked pushed enter search options_of in_set kept_origins event_offset clears twice_ahead speed_at time_at passing_at bad_passing same_kind same_event node_at put_floats put_numbers no_link_event blank course_of first_beyond start_back start_front start offset_next in_range clears_next emits turned turn passed_as passed_next walk turns_left passed_from points_passed reaches_last bad_point some_bad row11 matches seek linked_to event_node split_fake put at add_behind split_at place_at sought_in inserted inserted_table flagged entry entry_at entries_in push alternatives strand_from strands extended extended_all seen_in nodes_from event_nodes last_of arrive_at clear_at closer closest_of closest chain_end join_fake join_at joined_table names appended_all appended rebuilt join_step legs_to path_of link_of point_link point_offset leg_course event_at events_at leg_events fake_node first_nodes origin_event origin_run seek_leg grow_origins bad_finish finished_at waiting on_over save_over go_on is_destination finishes take_leg drive leads_to_end end_fakes last_node grown_with grow arc_to arc_to_end added_to moved_to insert_event joined_to with_joins run_event run_events add sub mul div lt le eq of_bits round sum to_bits is_nan neg
+unfolding some_below sum_below u32_at u64_at billion table_float abs gap smaller root_digits whole_root root_of sqrt leg_below join_bits departure_bits length_bits links origins_at_of origins destinations_at_of destinations legs_at_of legs samples_at_of samples end_of sections_of link_length link_next link_next_alt link_prev link_prev_alt origin_link origin_offset origin_front destination_link leg_link leg_parent leg_samples sample_time sample_offset sample_speed first_sample link_at origin_at leg_at sample_from sample_at sample_patterns head_patterns member origin_below stacked pushed enter search options_of in_set kept_origins event_offset clears twice_ahead speed_at time_at passing_at bad_passing same_kind same_event node_at put_floats put_numbers no_link_event blank course_of first_beyond start_back start_front start offset_next in_range clears_next emits turned turn passed_as passed_next walk turns_left passed_from points_passed reaches_last bad_point some_bad row11 matches seek linked_to event_node split_fake put at add_behind split_at place_at sought_in inserted inserted_table flagged entry push alternatives strand_from strands extended extended_all seen_in nodes_from event_nodes last_of arrive_at clear_at closer closest_of closest chain_end join_fake join_at joined_table names appended_all appended rebuilt join_step legs_to path_of link_of point_link point_offset leg_course event_at events_at leg_events fake_node first_nodes origin_event origin_run seek_leg grow_origins bad_finish finished_at waiting on_over save_over go_on is_destination finishes take_leg drive leads_to_end end_fakes last_node grown_with grow arc_to arc_to_end added_to moved_to insert_event joined_to with_joins run_event run_events add sub mul div lt le eq of_bits round sum to_bits is_nan neg
 book149_grown = refl
 
 -- 0 splits, 1 joined, 0 finished
@@ -208,7 +208,7 @@ book204 =
 
 book204_grown : summary (grow book204 10 (lent 10)) ≡ 9 ∷ 5 ∷ 0 ∷ 1 ∷ 0 ∷ 2 ∷ 0 ∷ 1 ∷ 0 ∷ 0 ∷ 0 ∷ 0 ∷ 0 ∷ 0 ∷ 2 ∷ 0 ∷ 2 ∷ 0 ∷ 0 ∷ 0 ∷ 0 ∷ 0 ∷ 0 ∷ 0 ∷ 1 ∷ 3 ∷ 0 ∷ 1 ∷ 0 ∷ 0 ∷ 0 ∷ 0 ∷ 1 ∷ 1 ∷ 4 ∷ 0 ∷ 2 ∷ 0 ∷ 4625712854766802261 ∷ 4624633867356078080 ∷ 0 ∷ 0 ∷ 3 ∷ 5 ∷ 0 ∷ 3 ∷ 0 ∷ 0 ∷ 0 ∷ 4625759767262920704 ∷ 1 ∷ 3 ∷ 6 ∷ 0 ∷ 4 ∷ 7 ∷ 4605681218924227264 ∷ 4624633867356078080 ∷ 4625759767262920704 ∷ 0 ∷
     3 ∷ 7 ∷ 0 ∷ 5 ∷ 0 ∷ 0 ∷ 0 ∷ 4625759767262920704 ∷ 2 ∷ 0 ∷ 5 ∷ 0 ∷ 6 ∷ 0 ∷ 0 ∷ 0 ∷ 0 ∷ 2 ∷ 0 ∷ 0 ∷ 0 ∷ 7 ∷ 0 ∷ 0 ∷ 0 ∷ 0 ∷ []
-unfolding some_below sum_below u32_at u64_at billion table_float abs gap smaller root_digits whole_root root_of sqrt leg_below join_bits departure_bits length_bits links origins_at_of origins destinations_at_of destinations legs_at_of legs samples_at_of samples end_of sections_of link_length link_next link_next_alt link_prev link_prev_alt origin_link origin_offset origin_front destination_link leg_link leg_parent leg_samples sample_time sample_offset sample_speed first_sample link_at origin_at leg_at sample_from sample_at sample_patterns head_patterns member origin_below stacked pushed enter search options_of in_set kept_origins event_offset clears twice_ahead speed_at time_at passing_at bad_passing same_kind same_event node_at put_floats put_numbers no_link_event blank course_of first_beyond start_back start_front start offset_next in_range clears_next emits turned turn passed_as passed_next walk turns_left passed_from points_passed reaches_last bad_point some_bad row11 matches seek linked_to event_node split_fake put at add_behind split_at place_at sought_in inserted inserted_table flagged entry entry_at entries_in push alternatives strand_from strands extended extended_all seen_in nodes_from event_nodes last_of arrive_at clear_at closer closest_of closest chain_end join_fake join_at joined_table names appended_all appended rebuilt join_step legs_to path_of link_of point_link point_offset leg_course event_at events_at leg_events fake_node first_nodes origin_event origin_run seek_leg grow_origins bad_finish finished_at waiting on_over save_over go_on is_destination finishes take_leg drive leads_to_end end_fakes last_node grown_with grow arc_to arc_to_end added_to moved_to insert_event joined_to with_joins run_event run_events add sub mul div lt le eq of_bits round sum to_bits is_nan neg
+unfolding some_below sum_below u32_at u64_at billion table_float abs gap smaller root_digits whole_root root_of sqrt leg_below join_bits departure_bits length_bits links origins_at_of origins destinations_at_of destinations legs_at_of legs samples_at_of samples end_of sections_of link_length link_next link_next_alt link_prev link_prev_alt origin_link origin_offset origin_front destination_link leg_link leg_parent leg_samples sample_time sample_offset sample_speed first_sample link_at origin_at leg_at sample_from sample_at sample_patterns head_patterns member origin_below stacked pushed enter search options_of in_set kept_origins event_offset clears twice_ahead speed_at time_at passing_at bad_passing same_kind same_event node_at put_floats put_numbers no_link_event blank course_of first_beyond start_back start_front start offset_next in_range clears_next emits turned turn passed_as passed_next walk turns_left passed_from points_passed reaches_last bad_point some_bad row11 matches seek linked_to event_node split_fake put at add_behind split_at place_at sought_in inserted inserted_table flagged entry push alternatives strand_from strands extended extended_all seen_in nodes_from event_nodes last_of arrive_at clear_at closer closest_of closest chain_end join_fake join_at joined_table names appended_all appended rebuilt join_step legs_to path_of link_of point_link point_offset leg_course event_at events_at leg_events fake_node first_nodes origin_event origin_run seek_leg grow_origins bad_finish finished_at waiting on_over save_over go_on is_destination finishes take_leg drive leads_to_end end_fakes last_node grown_with grow arc_to arc_to_end added_to moved_to insert_event joined_to with_joins run_event run_events add sub mul div lt le eq of_bits round sum to_bits is_nan neg
 book204_grown = refl
 
 -- refused with 10
@@ -225,7 +225,7 @@ book235 =
     0 ∷ 0 ∷ 0 ∷ 0 ∷ 0 ∷ 216 ∷ 132 ∷ 64 ∷ 0 ∷ 0 ∷ 0 ∷ 0 ∷ 0 ∷ 0 ∷ 32 ∷ 64 ∷ []
 
 book235_grown : summary (grow book235 6 (lent 6)) ≡ 10 ∷ []
-unfolding some_below sum_below u32_at u64_at billion table_float abs gap smaller root_digits whole_root root_of sqrt leg_below join_bits departure_bits length_bits links origins_at_of origins destinations_at_of destinations legs_at_of legs samples_at_of samples end_of sections_of link_length link_next link_next_alt link_prev link_prev_alt origin_link origin_offset origin_front destination_link leg_link leg_parent leg_samples sample_time sample_offset sample_speed first_sample link_at origin_at leg_at sample_from sample_at sample_patterns head_patterns member origin_below stacked pushed enter search options_of in_set kept_origins event_offset clears twice_ahead speed_at time_at passing_at bad_passing same_kind same_event node_at put_floats put_numbers no_link_event blank course_of first_beyond start_back start_front start offset_next in_range clears_next emits turned turn passed_as passed_next walk turns_left passed_from points_passed reaches_last bad_point some_bad row11 matches seek linked_to event_node split_fake put at add_behind split_at place_at sought_in inserted inserted_table flagged entry entry_at entries_in push alternatives strand_from strands extended extended_all seen_in nodes_from event_nodes last_of arrive_at clear_at closer closest_of closest chain_end join_fake join_at joined_table names appended_all appended rebuilt join_step legs_to path_of link_of point_link point_offset leg_course event_at events_at leg_events fake_node first_nodes origin_event origin_run seek_leg grow_origins bad_finish finished_at waiting on_over save_over go_on is_destination finishes take_leg drive leads_to_end end_fakes last_node grown_with grow arc_to arc_to_end added_to moved_to insert_event joined_to with_joins run_event run_events add sub mul div lt le eq of_bits round sum to_bits is_nan neg
+unfolding some_below sum_below u32_at u64_at billion table_float abs gap smaller root_digits whole_root root_of sqrt leg_below join_bits departure_bits length_bits links origins_at_of origins destinations_at_of destinations legs_at_of legs samples_at_of samples end_of sections_of link_length link_next link_next_alt link_prev link_prev_alt origin_link origin_offset origin_front destination_link leg_link leg_parent leg_samples sample_time sample_offset sample_speed first_sample link_at origin_at leg_at sample_from sample_at sample_patterns head_patterns member origin_below stacked pushed enter search options_of in_set kept_origins event_offset clears twice_ahead speed_at time_at passing_at bad_passing same_kind same_event node_at put_floats put_numbers no_link_event blank course_of first_beyond start_back start_front start offset_next in_range clears_next emits turned turn passed_as passed_next walk turns_left passed_from points_passed reaches_last bad_point some_bad row11 matches seek linked_to event_node split_fake put at add_behind split_at place_at sought_in inserted inserted_table flagged entry push alternatives strand_from strands extended extended_all seen_in nodes_from event_nodes last_of arrive_at clear_at closer closest_of closest chain_end join_fake join_at joined_table names appended_all appended rebuilt join_step legs_to path_of link_of point_link point_offset leg_course event_at events_at leg_events fake_node first_nodes origin_event origin_run seek_leg grow_origins bad_finish finished_at waiting on_over save_over go_on is_destination finishes take_leg drive leads_to_end end_fakes last_node grown_with grow arc_to arc_to_end added_to moved_to insert_event joined_to with_joins run_event run_events add sub mul div lt le eq of_bits round sum to_bits is_nan neg
 book235_grown = refl
 
 -- refused with 13
@@ -240,7 +240,7 @@ book790 =
     248 ∷ 130 ∷ 82 ∷ 207 ∷ 51 ∷ 152 ∷ 9 ∷ 64 ∷ 0 ∷ 0 ∷ 0 ∷ 0 ∷ 0 ∷ 0 ∷ 50 ∷ 64 ∷ 33 ∷ 13 ∷ 114 ∷ 160 ∷ 149 ∷ 53 ∷ 134 ∷ 64 ∷ 216 ∷ 70 ∷ 157 ∷ 173 ∷ 237 ∷ 76 ∷ 21 ∷ 64 ∷ 0 ∷ 0 ∷ 0 ∷ 0 ∷ 0 ∷ 0 ∷ 50 ∷ 64 ∷ []
 
 book790_grown : summary (grow book790 8 (lent 8)) ≡ 13 ∷ []
-unfolding some_below sum_below u32_at u64_at billion table_float abs gap smaller root_digits whole_root root_of sqrt leg_below join_bits departure_bits length_bits links origins_at_of origins destinations_at_of destinations legs_at_of legs samples_at_of samples end_of sections_of link_length link_next link_next_alt link_prev link_prev_alt origin_link origin_offset origin_front destination_link leg_link leg_parent leg_samples sample_time sample_offset sample_speed first_sample link_at origin_at leg_at sample_from sample_at sample_patterns head_patterns member origin_below stacked pushed enter search options_of in_set kept_origins event_offset clears twice_ahead speed_at time_at passing_at bad_passing same_kind same_event node_at put_floats put_numbers no_link_event blank course_of first_beyond start_back start_front start offset_next in_range clears_next emits turned turn passed_as passed_next walk turns_left passed_from points_passed reaches_last bad_point some_bad row11 matches seek linked_to event_node split_fake put at add_behind split_at place_at sought_in inserted inserted_table flagged entry entry_at entries_in push alternatives strand_from strands extended extended_all seen_in nodes_from event_nodes last_of arrive_at clear_at closer closest_of closest chain_end join_fake join_at joined_table names appended_all appended rebuilt join_step legs_to path_of link_of point_link point_offset leg_course event_at events_at leg_events fake_node first_nodes origin_event origin_run seek_leg grow_origins bad_finish finished_at waiting on_over save_over go_on is_destination finishes take_leg drive leads_to_end end_fakes last_node grown_with grow arc_to arc_to_end added_to moved_to insert_event joined_to with_joins run_event run_events add sub mul div lt le eq of_bits round sum to_bits is_nan neg
+unfolding some_below sum_below u32_at u64_at billion table_float abs gap smaller root_digits whole_root root_of sqrt leg_below join_bits departure_bits length_bits links origins_at_of origins destinations_at_of destinations legs_at_of legs samples_at_of samples end_of sections_of link_length link_next link_next_alt link_prev link_prev_alt origin_link origin_offset origin_front destination_link leg_link leg_parent leg_samples sample_time sample_offset sample_speed first_sample link_at origin_at leg_at sample_from sample_at sample_patterns head_patterns member origin_below stacked pushed enter search options_of in_set kept_origins event_offset clears twice_ahead speed_at time_at passing_at bad_passing same_kind same_event node_at put_floats put_numbers no_link_event blank course_of first_beyond start_back start_front start offset_next in_range clears_next emits turned turn passed_as passed_next walk turns_left passed_from points_passed reaches_last bad_point some_bad row11 matches seek linked_to event_node split_fake put at add_behind split_at place_at sought_in inserted inserted_table flagged entry push alternatives strand_from strands extended extended_all seen_in nodes_from event_nodes last_of arrive_at clear_at closer closest_of closest chain_end join_fake join_at joined_table names appended_all appended rebuilt join_step legs_to path_of link_of point_link point_offset leg_course event_at events_at leg_events fake_node first_nodes origin_event origin_run seek_leg grow_origins bad_finish finished_at waiting on_over save_over go_on is_destination finishes take_leg drive leads_to_end end_fakes last_node grown_with grow arc_to arc_to_end added_to moved_to insert_event joined_to with_joins run_event run_events add sub mul div lt le eq of_bits round sum to_bits is_nan neg
 book790_grown = refl
 
 -- 2 splits, 1 joined, 2 finished
@@ -259,5 +259,5 @@ book809 =
 book809_grown : summary (grow book809 40 (lent 40)) ≡ 16 ∷ 8 ∷ 2 ∷ 1 ∷ 2 ∷ 2 ∷ 0 ∷ 1 ∷ 0 ∷ 0 ∷ 0 ∷ 0 ∷ 0 ∷ 0 ∷ 2 ∷ 0 ∷ 2 ∷ 0 ∷ 0 ∷ 0 ∷ 0 ∷ 0 ∷ 0 ∷ 0 ∷ 1 ∷ 3 ∷ 0 ∷ 1 ∷ 0 ∷ 0 ∷ 4607182418800017408 ∷ 0 ∷ 1 ∷ 1 ∷ 4 ∷ 0 ∷ 2 ∷ 0 ∷ 4607998208032306688 ∷ 4611686018427387904 ∷ 0 ∷ 0 ∷ 2 ∷ 5 ∷ 0 ∷ 3 ∷ 0 ∷ 4603103615400740864 ∷ 4607182418800017408 ∷ 4611179177059995450 ∷ 1 ∷ 2 ∷ 6 ∷ 11 ∷ 4 ∷ 7 ∷ 4611193973893833728 ∷ 4613937818241073152 ∷ 4610640133763304104 ∷ 0 ∷
     2 ∷ 7 ∷ 8 ∷ 5 ∷ 0 ∷ 4604180019048436736 ∷ 4607182418800017408 ∷ 4609434218613702656 ∷ 2 ∷ 0 ∷ 5 ∷ 0 ∷ 6 ∷ 0 ∷ 0 ∷ 0 ∷ 0 ∷ 2 ∷ 0 ∷ 9 ∷ 0 ∷ 6 ∷ 0 ∷ 4604756809356684288 ∷ 4607182418800017408 ∷ 0 ∷ 1 ∷ 2 ∷ 10 ∷ 0 ∷ 8 ∷ 0 ∷ 4612998829527786496 ∷ 4613937818241073152 ∷ 4608636521481959658 ∷ 0 ∷ 3 ∷ 14 ∷ 0 ∷ 9 ∷ 0 ∷ 0 ∷ 0 ∷ 4607182418800017408 ∷ 2 ∷ 0 ∷ 12 ∷ 0 ∷ 5 ∷ 0 ∷ 4612236358700182016 ∷ 4613937818241073152 ∷ 0 ∷ 0 ∷ 3 ∷ 13 ∷ 0 ∷ 11 ∷ 0 ∷ 0 ∷
     0 ∷ 4607182418800017408 ∷ 2 ∷ 0 ∷ 14 ∷ 0 ∷ 12 ∷ 0 ∷ 0 ∷ 0 ∷ 0 ∷ 2 ∷ 0 ∷ 15 ∷ 0 ∷ 10 ∷ 13 ∷ 0 ∷ 0 ∷ 0 ∷ 2 ∷ 0 ∷ 0 ∷ 0 ∷ 14 ∷ 0 ∷ 0 ∷ 0 ∷ 0 ∷ []
-unfolding some_below sum_below u32_at u64_at billion table_float abs gap smaller root_digits whole_root root_of sqrt leg_below join_bits departure_bits length_bits links origins_at_of origins destinations_at_of destinations legs_at_of legs samples_at_of samples end_of sections_of link_length link_next link_next_alt link_prev link_prev_alt origin_link origin_offset origin_front destination_link leg_link leg_parent leg_samples sample_time sample_offset sample_speed first_sample link_at origin_at leg_at sample_from sample_at sample_patterns head_patterns member origin_below stacked pushed enter search options_of in_set kept_origins event_offset clears twice_ahead speed_at time_at passing_at bad_passing same_kind same_event node_at put_floats put_numbers no_link_event blank course_of first_beyond start_back start_front start offset_next in_range clears_next emits turned turn passed_as passed_next walk turns_left passed_from points_passed reaches_last bad_point some_bad row11 matches seek linked_to event_node split_fake put at add_behind split_at place_at sought_in inserted inserted_table flagged entry entry_at entries_in push alternatives strand_from strands extended extended_all seen_in nodes_from event_nodes last_of arrive_at clear_at closer closest_of closest chain_end join_fake join_at joined_table names appended_all appended rebuilt join_step legs_to path_of link_of point_link point_offset leg_course event_at events_at leg_events fake_node first_nodes origin_event origin_run seek_leg grow_origins bad_finish finished_at waiting on_over save_over go_on is_destination finishes take_leg drive leads_to_end end_fakes last_node grown_with grow arc_to arc_to_end added_to moved_to insert_event joined_to with_joins run_event run_events add sub mul div lt le eq of_bits round sum to_bits is_nan neg
+unfolding some_below sum_below u32_at u64_at billion table_float abs gap smaller root_digits whole_root root_of sqrt leg_below join_bits departure_bits length_bits links origins_at_of origins destinations_at_of destinations legs_at_of legs samples_at_of samples end_of sections_of link_length link_next link_next_alt link_prev link_prev_alt origin_link origin_offset origin_front destination_link leg_link leg_parent leg_samples sample_time sample_offset sample_speed first_sample link_at origin_at leg_at sample_from sample_at sample_patterns head_patterns member origin_below stacked pushed enter search options_of in_set kept_origins event_offset clears twice_ahead speed_at time_at passing_at bad_passing same_kind same_event node_at put_floats put_numbers no_link_event blank course_of first_beyond start_back start_front start offset_next in_range clears_next emits turned turn passed_as passed_next walk turns_left passed_from points_passed reaches_last bad_point some_bad row11 matches seek linked_to event_node split_fake put at add_behind split_at place_at sought_in inserted inserted_table flagged entry push alternatives strand_from strands extended extended_all seen_in nodes_from event_nodes last_of arrive_at clear_at closer closest_of closest chain_end join_fake join_at joined_table names appended_all appended rebuilt join_step legs_to path_of link_of point_link point_offset leg_course event_at events_at leg_events fake_node first_nodes origin_event origin_run seek_leg grow_origins bad_finish finished_at waiting on_over save_over go_on is_destination finishes take_leg drive leads_to_end end_fakes last_node grown_with grow arc_to arc_to_end added_to moved_to insert_event joined_to with_joins run_event run_events add sub mul div lt le eq of_bits round sum to_bits is_nan neg
 book809_grown = refl

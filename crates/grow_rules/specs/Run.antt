@@ -1,15 +1,17 @@
 -- One event of a run: joins, then insertion, with what the growth rule notes. Document 01 under "Arcs": "The growth
 -- rule is a definition over the book alone: the growth above on a table of its own, beside it a list, empty at first."
-use Rattle.std.specs.Prelude.{Bool, true, false, ◌||◌, List, [], ◌∷◌, ◌++◌, ℕ, suc, eqb, Float}
+use Rattle.std.specs.Prelude.{Bool, true, false, ◌||◌, List, [], ◌∷◌, ◌++◌, ℕ, suc, eqb, Float, Result, Ok, Err}
 use Rattle.std.specs.Float.{binary64}
 use Rattle.std.specs.Float.Ieee.{sub, of_bits}
 use Rattle.net_node.specs.Table.{Table, at}
 use Rattle.laws.specs.Answer.{Answer, refused, given, and_then}
 use Rattle.net_node.specs.declared.TimedEvent.{TimedEvent}
 use Rattle.net_insertion.specs.declared.Place.{Place}
-use Rattle.net_insertion.specs.declared.Inserted.{Inserted}
-use Rattle.net_insertion.specs.declared.Inserted.TheVariants.{Added, Moved, Refused}
-use Rattle.net_insertion.specs.Insertion.{inserted, inserted_table, inserted_number}
+use Rattle.net_insertion.specs.declared.Insertion.{Insertion}
+use Rattle.net_insertion.specs.declared.Insertion.TheVariants.{Added, Moved}
+use Rattle.net_insertion.specs.Insertion.{inserted, inserted_table}
+use Rattle.refusals.specs.declared.Refusal.{Refusal}
+use Rattle.refusals.specs.Refusals.{refusal_number}
 use Rattle.net_join_paths.specs.declared.EstJoinPath.{EstJoinPath}
 use Rattle.net_joins.specs.Joins.{JoinStep, JoinsTo, GoesOn, Beyond, step_number, join_step, joined_table}
 
@@ -107,10 +109,10 @@ pub record After : Type 0 where
 
 -- "Any other addition notes (place, added node)": and so does an origin's Arrive, whose place is the start at the
 -- departure. "A move, a Fake .. note nothing."
-abbrev pub inserted_run : Net → Run → TimedEvent → Table → Inserted → Answer After
-inserted_run net run e t (Refused n) = refused (inserted_number (Refused n))
-inserted_run net run e t (Moved q) = given (record { net = net; run = moved_to run q run.has_split })
-inserted_run net run e t (Added q split) =
+abbrev pub inserted_run : Net → Run → TimedEvent → Table → Result Insertion Refusal → Answer After
+inserted_run net run e t (Err r) = refused (refusal_number r)
+inserted_run net run e t (Ok (Moved q)) = given (record { net = net; run = moved_to run q run.has_split })
+inserted_run net run e t (Ok (Added q split)) =
     given (record { net = added_to net t q split (arc_to run.place q.idx_prev e); run = moved_to run q true })
 
 -- an event inserted at a run's place
