@@ -13,12 +13,10 @@ use Rattle.laws.specs.Refusals.{row, first_of}
 use Rattle.laws.proofs.Truth.{none_left, none_right}
 use Rattle.space.specs.Space.{units_of, bytes_of, zeros}
 use Rattle.space.proofs.Zeros.{zeros_front}
-use Rattle.book_format.specs.declared.Sections.{Sections}
-use Rattle.book_format.specs.Format.{Sized, legs, samples, leg_samples}
+use Rattle.book_format.specs.Format.{links, legs, samples, leg_samples}
 use Rattle.book_format.specs.Rows.{bad_count, work_bytes, row1, row2, row3}
 use Rattle.book_format.specs.Chains.{Counted}
 use Rattle.book_format.proofs.Given.{limits}
-use Rattle.book_format.proofs.Places.{sized_links}
 use Rattle.book_reader.specs.Reader.{rows_from4, read_number}
 use Rattle.book_options.specs.Options.{search_room}
 use Rattle.book_reader.specs.Stages.{Blank}
@@ -60,8 +58,8 @@ module _ (b : List ℕ) (p u reals y : ℕ) (cells marks : List ℕ) (f : y ≡ 
   blank_of g h room r = record { cells_room = chains_fit; marks_room = omega (arith, length-take-le room marks (omega (arith, part_fits)), r); cells_zero = g; marks_zero = zeros_front room h }
 
 -- there is a link
-pub some_link : (b : List ℕ) (s : Sections) (p y : ℕ) → Sized b s → row3 b p y ≡ false → 0 < s.links
-some_link b s p y z e = omega (arith, sized_links z, (limits b (counted_of b p y e).counts).links_some)
+pub some_link : (b : List ℕ) (p y : ℕ) → row3 b p y ≡ false → 0 < links b
+some_link b p y e = (limits b (counted_of b p y e).counts).links_some
 
 -- ---- capped bytes
 

@@ -1,19 +1,21 @@
 -- What the stages of the reader ask for and leave. Only the contracts of private functions use these words.
-use Rattle.std.specs.Prelude.{◌≡◌, Bool, false, List, ℕ, ◌+◌, ◌*◌, ◌≤◌, length, get_or}
+use Rattle.std.specs.Prelude.{◌≡◌, Bool, false, List, ℕ, ◌+◌, ◌*◌, ◌≤◌, length, get_or, Result, Ok, Err}
+use Rattle.laws.specs.Answer.{number_of}
 use Rattle.laws.specs.Refusals.{first_of}
 use Rattle.space.specs.Space.{zeros}
-use Rattle.book_format.specs.declared.Sections.{Sections}
-use Rattle.book_format.specs.Format.{Sized, legs}
-use Rattle.book_format.specs.Rows.{row3, row4, row5, row6, row7, some_bad_place, some_bad_leg}
+use Rattle.refusals.specs.declared.Refusal.{Refusal}
+use Rattle.refusals.specs.Refusals.{refusal_number, told}
+use Rattle.book_format.specs.Format.{legs}
+use Rattle.book_format.specs.Rows.{row1, row2, row3, row4, row5, row6, row7, some_bad_place, some_bad_leg}
 use Rattle.book_format.specs.Chains.{Counted, Chained}
-use Rattle.book_reader.specs.declared.Reading.{Reading}
+use Rattle.book_reader.specs.declared.Accepted.{Accepted}
 use Rattle.book_reader.specs.declared.Tested.{Tested}
-use Rattle.book_reader.specs.declared.Tested.TheVariants.{Left, Stopped}
-use Rattle.book_reader.specs.Reader.{read_number, reading_number, rows_from6, ReadInto}
+use Rattle.book_reader.specs.Reader.{read_number, rows_from6, ReadInto}
 
 -- rows 1, 2, 4 and 5 don't hold, nor row 3 but for the work space, nor row 6 of a single origin
-pub record RowsPassed (b : List ℕ) (s : Sections) : Type 0 where
-  pub sized : Sized b s
+pub record RowsPassed (b : List ℕ) : Type 0 where
+  pub row1 : row1 b ≡ false
+  pub row2 : row2 b ≡ false
   pub counted : Counted b
   pub row4 : row4 b ≡ false
   pub row5 : row5 b ≡ false
@@ -36,20 +38,15 @@ pub record ChainedOnly (b cells : List ℕ) : Type 0 where
 -- ---- the stages
 
 -- rows 1 to 5, and row 6 of a single origin, are passed; `late` says whether a single leg gives row 7
-pub record LeftToRead (b : List ℕ) (places bytes : ℕ) (s : Sections) (late : Bool) : Type 0 where
-  pub passed : RowsPassed b s
+pub record LeftToRead (b : List ℕ) (places bytes : ℕ) (late : Bool) : Type 0 where
+  pub passed : RowsPassed b
   pub row3 : row3 b places bytes ≡ false
   pub single : late ≡ some_bad_leg b
 
--- the first stage: a number, or what is left to read
-abbrev pub TestedAs : List ℕ → ℕ → ℕ → Tested → Type 0
-TestedAs b places bytes (Stopped n) = (n ≡ read_number b places bytes) × (n ≡ 0 → ⊥)
-TestedAs b places bytes (Left s late) = LeftToRead b places bytes s late
-
--- row 7: its answer, and the chains where it doesn't hold
-pub record LegsTested (b cells : List ℕ) (r : Bool) : Type 0 where
-  pub answer : r ≡ row7 b
-  pub chained : r ≡ false → ChainedOnly b cells
+-- the first stage: a refusal, or what is left to read of the book
+abbrev pub TestedAs : List ℕ → ℕ → ℕ → Result Tested Refusal → Type 0
+TestedAs b places bytes (Err r) = refusal_number r ≡ read_number b places bytes
+TestedAs b places bytes (Ok t) = (t.book ≡ b) × LeftToRead b places bytes t.late
 
 -- rows 6 and 7 are passed, the legs chained, and the marks zero again
 pub record RepeatsPassed (b cells marks : List ℕ) : Type 0 where
@@ -58,12 +55,12 @@ pub record RepeatsPassed (b cells marks : List ℕ) : Type 0 where
   pub chained : ChainedOnly b cells
   pub marks_zero : marks ≡ zeros (length marks)
 
--- rows 6 and 7: the number of a refusal, or 0 where both are passed
-pub record RepeatsTested (b cells marks : List ℕ) (r : ℕ) : Type 0 where
-  pub refused : (r ≡ 0 → ⊥) → r ≡ first_of (rows_from6 b)
-  pub passed : r ≡ 0 → RepeatsPassed b cells marks
+-- rows 6 and 7: a refusal, or the book, of which both are passed
+abbrev pub RepeatsTested : List ℕ → List ℕ → List ℕ → Result (List ℕ) Refusal → Type 0
+RepeatsTested b cells marks (Err r) = refusal_number r ≡ first_of (rows_from6 b)
+RepeatsTested b cells marks (Ok c) = (c ≡ b) × RepeatsPassed b cells marks
 
 -- rows 6 to 8
-pub record RestRead (b cells marks : List ℕ) (r : Reading) : Type 0 where
-  pub number : reading_number r ≡ first_of (rows_from6 b)
+pub record RestRead (b cells marks : List ℕ) (r : Result Accepted Refusal) : Type 0 where
+  pub number : number_of (told r) ≡ first_of (rows_from6 b)
   pub into : ReadInto b cells marks r

@@ -1,119 +1,110 @@
 // Reads a book: rows 1 to 8, the legs' chains and the link options. Contracts: specs/Reader.antt.
 #![tactic(auto)]
 
-ghost use Rattle.std.specs.Prelude.{◌≡◌, ◌*◌, min, length};
+ghost use Rattle.std.specs.Prelude.{◌≡◌, false, ◌*◌, min, length};
 ghost use Rattle.space.specs.Space.{bytes_of, zeros};
 ghost use Rattle.space.specs.Lent.{work_at_entry, work_at_exit};
-ghost use Rattle.book_format.specs.Format.{Sized, links};
-ghost use Rattle.book_format.specs.Rows.{some_bad_leg};
-ghost use Rattle.book_format.specs.Chains.{Readable};
-ghost use Rattle.book_reader.specs.Reader.{reading_number, BookRead, Checked};
+ghost use Rattle.book_format.specs.Format.{links};
+ghost use Rattle.book_format.specs.Rows.{row1, row2, some_bad_leg};
+ghost use Rattle.book_reader.specs.Reader.{BookRead, Checked};
 ghost use Rattle.book_options.specs.Options.{search_room};
 ghost use Rattle.book_reader.specs.Stages.{RowsPassed, Blank};
-ghost use Rattle.book_reader.specs.Stages.{TestedAs, LegsTested, RepeatsTested, RestRead};
+ghost use Rattle.book_reader.specs.Stages.{TestedAs, RepeatsTested, RestRead};
 
-use book_format::{Measured, Sections};
-use book_options::LinkOptions;
+use book_format::{Book, ReadableBook, ValidBook};
+use refusals::Refusal;
+use space::Zero;
 
-// What reading found: where the sections stand and how many origins are kept, or the number of a refusal.
-#[derive(Clone, Copy)]
-pub enum Reading {
-    Accepted(Sections, usize),
-    Refused(u32),
+// A book that was read, and how many of its origins are kept.
+#[derive(Drop)]
+pub struct Accepted<'a> {
+    pub book: ReadableBook<'a>,
+    pub kept: usize,
 }
 
-// What the first stage found: a number, or the sections and whether a single leg gives row 7.
-#[derive(Clone, Copy)]
-enum Tested {
-    Left(Sections, bool),
-    Stopped(u32),
+// A book that the first stage let through, and whether a single leg gives row 7.
+#[derive(Drop)]
+struct Tested<'a> {
+    book: ValidBook<'a>,
+    late: bool,
 }
 
 // Rows 3 to 5, and 6 and 7 as far as single rows of a section tell.
-fn test_whole(book: &[u8], s: Sections, places: usize, bytes: usize) -> Tested
-    requires { Sized book.now s }
-    ensures { TestedAs book.now places bytes result }
+fn test_whole<'a>(book: Book<'a>, places: usize, bytes: usize) -> Result<Tested<'a>, Refusal>
+    requires row1_passed { row1 book ≡ false }
+    requires row2_passed { row2 book ≡ false }
+    ensures { TestedAs book.entry places bytes result }
 {
-    if book_rows::counts_refused(book, s, places, bytes) {
-        return Tested::Stopped(3);
+    if book_rows::counts_refused(&book, places, bytes) {
+        return Err(Refusal::OutOfBounds);
     }
-    let n = book_rows::lowest_row(book, s);
-    if n == 0 {
-        return Tested::Left(s, false);
-    }
-    if n == 7 {
-        return Tested::Left(s, true);
-    }
-    Tested::Stopped(n)
+    let late = match book_rows::lowest_row(&book) {
+        Ok(()) => false,
+        Err(refusal) => match refusal {
+            Refusal::BadLeg => true,
+            _ => return Err(refusal),
+        },
+    };
+    let book = ValidBook::new(book);
+    Ok(Tested { book, late })
 }
 
 // Rows 1 and 2, then those.
-fn test_rows(book: &[u8], places: usize, bytes: usize) -> Tested
+fn test_rows<'a>(book: &'a [u8], places: usize, bytes: usize) -> Result<Tested<'a>, Refusal>
     ensures { TestedAs book.now places bytes result }
 {
-    let m = book_format::measure(book);
-    match m {
-        Measured::Short => Tested::Stopped(1),
-        Measured::Long => Tested::Stopped(2),
-        Measured::Whole(s) => test_whole(book, s, places, bytes),
-    }
-}
-
-// Row 7, where no single leg gives it. The legs are chained if it doesn't hold.
-fn test_legs(book: &[u8], s: Sections, cells: &mut [u32], marks: &mut [u32]) -> bool
-    requires readable { Readable book.now s }
-    requires blank { Blank book.now cells.old marks.old (links book.now) }
-    ensures { LegsTested book.now cells.new result }
-{
-    if book_legs::link_legs(book, s, cells) {
-        return true;
-    }
-    book_repeats::legs_repeat(book, s, cells, marks)
+    test_whole(Book::measure(book)?, places, bytes)
 }
 
 // Rows 6 and 7 whole. The legs are chained where neither holds.
-fn test_repeats(book: &[u8], s: Sections, late: bool, cells: &mut [u32], marks: &mut [u32]) -> u32
-    requires rows_passed { RowsPassed book.now s }
-    requires late_value { late ≡ some_bad_leg book.now }
-    requires blank { Blank book.now cells.old marks.old (links book.now) }
-    ensures { RepeatsTested book.now cells.new marks.new result }
+fn test_repeats<'a>(
+    book: ValidBook<'a>,
+    late: bool,
+    cells: &mut [u32],
+    marks: &mut [u32],
+) -> Result<ReadableBook<'a>, Refusal>
+    requires rows_passed { RowsPassed book }
+    requires late_value { late ≡ some_bad_leg book }
+    requires blank { Blank book cells.old marks.old (links book) }
+    ensures { RepeatsTested book.entry cells.new marks.new result }
 {
-    if book_repeats::origins_repeat(book, s, marks) {
-        return 6;
+    if book_repeats::origins_repeat(&book, marks) {
+        return Err(Refusal::BadOrigin);
     }
     if late {
-        return 7;
+        return Err(Refusal::BadLeg);
     }
-    space::clear_numbers(marks);
-    if test_legs(book, s, cells, marks) {
-        return 7;
+    let book = ReadableBook::new(book);
+    Zero::clear(marks);
+    if book_legs::link_legs(&book, cells) {
+        return Err(Refusal::BadLeg);
     }
-    space::clear_numbers(marks);
-    0
+    if book_repeats::legs_repeat(&book, cells, marks) {
+        return Err(Refusal::BadLeg);
+    }
+    Zero::clear(marks);
+    Ok(book)
 }
 
 // Rows 6 to 8, in as many marks as the options search asks for. The repeats are marked in the links' own marks; the
 // starting legs are named behind them, where the options' stack has been.
-fn read_rest(book: &[u8], s: Sections, late: bool, cells: &mut [u32], marks: &mut [u32]) -> Reading
-    requires rows_passed { RowsPassed book.now s }
-    requires late_value { late ≡ some_bad_leg book.now }
-    requires blank { Blank book.now cells.old marks.old (search_room book.now) }
-    ensures { RestRead book.now cells.new marks.new result }
+fn read_rest<'a>(
+    book: ValidBook<'a>,
+    late: bool,
+    cells: &mut [u32],
+    marks: &mut [u32],
+) -> Result<Accepted<'a>, Refusal>
+    requires rows_passed { RowsPassed book }
+    requires late_value { late ≡ some_bad_leg book }
+    requires blank { Blank book cells.old marks.old (search_room book) }
+    ensures { RestRead book.entry cells.new marks.new result }
 {
-    let links = s.links;
+    let links = book.book().links();
     let own = &mut marks[..links];
-    let n = test_repeats(book, s, late, cells, own);
-    if 0 < n {
-        return Reading::Refused(n);
-    }
-    let o = book_options::get_link_idx_options(book, s, marks);
-    match o {
-        LinkOptions::NoPath => Reading::Refused(8),
-        LinkOptions::Kept(k) => {
-            book_legs::mark_starts(book, s, marks);
-            Reading::Accepted(s, k)
-        }
-    }
+    let book = test_repeats(book, late, cells, own)?;
+    let kept = book_options::get_link_idx_options(book.valid(), marks)?;
+    book_legs::mark_starts(&book, marks);
+    Ok(Accepted { book, kept })
 }
 
 // The bytes of work space. More than 64,000,000 are never asked for, and count as that many.
@@ -129,13 +120,13 @@ fn lent_bytes(units: usize) -> usize
 
 // Reads a book into work space that is zero, for a table of so many places. What the marks hold behind the options
 // search's part is neither read nor written.
-pub fn read_book(
-    book: &[u8],
+pub fn read_book<'a>(
+    book: &'a [u8],
     places: usize,
     reals: usize,
     cells: &mut [u32],
     marks: &mut [u32],
-) -> Reading
+) -> Result<Accepted<'a>, Refusal>
     requires cells_value { cells.old ≡ zeros (length cells.old) }
     requires marks_value { marks.old ≡ zeros (length marks.old) }
     ensures { BookRead book.now places
@@ -143,44 +134,27 @@ pub fn read_book(
         cells.new marks.old marks.new result }
 {
     let bytes = lent_bytes(space::units(reals, cells.len(), marks.len()));
-    let t = test_rows(book, places, bytes);
-    match t {
-        Tested::Stopped(n) => Reading::Refused(n),
-        Tested::Left(s, late) => {
-            let room = book_options::search_room(s);
-            let part = &mut marks[..room];
-            read_rest(book, s, late, cells, part)
-        }
-    }
+    let tested = test_rows(book, places, bytes)?;
+    let room = book_options::search_room(tested.book.book());
+    let part = &mut marks[..room];
+    read_rest(tested.book, tested.late, cells, part)
 }
 
-// The number of a reading.
-fn number_of(r: Reading) -> u32
-    ensures { result ≡ reading_number r }
-{
-    match r {
-        Reading::Accepted(_, _) => 0,
-        Reading::Refused(n) => n,
-    }
-}
-
-// The number that a book gets by rows 1 to 8, for a table of so many places and this work space, and 0 where none
-// holds. The work space is zero afterwards.
+// The refusal that a book gets by rows 1 to 8, for a table of so many places and this work space, if one of them holds.
+// The work space is zero afterwards.
 pub fn check_book(
     book: &[u8],
     places: usize,
     reals: &mut [f64],
     cells: &mut [u32],
     marks: &mut [u32],
-) -> u32
+) -> Result<(), Refusal>
     ensures { Checked book.now places
         (work_at_entry reals cells marks) (work_at_exit reals cells marks) result }
 {
-    space::clear_floats(reals);
-    space::clear_numbers(cells);
-    space::clear_numbers(marks);
-    let r = read_book(book, places, reals.len(), cells, marks);
-    space::clear_numbers(cells);
-    space::clear_numbers(marks);
-    number_of(r)
+    space::clear_work(reals, cells, marks);
+    let answer = read_book(book, places, reals.len(), cells, marks).map(|_| ());
+    Zero::clear(cells);
+    Zero::clear(marks);
+    answer
 }

@@ -1,51 +1,54 @@
 -- `book_reader::test_repeats` meets its contract.
-use mathlib.Core.Path.{sym, ◌∙◌}
-use native.Mathlib.Omega.{arith}
+use Rattle.std.proofs.Common.{sym, ◌∙◌, ap, subst, arith}
 use Rattle.space.proofs.Zeros.{zeros_again}
-use Rattle.book_reader.proofs.Numbers.{row6_repeats, row7_single, readable_of, repeats_6, repeats_7, repeats_none}
+use Rattle.book_format.specs.Chains.{Readable}
+use Rattle.book_reader.proofs.Numbers.{row6_repeats, row7_single, row7_early, row7_only, readable_of, cells_chained, from_6_first, from_6_second}
 use Rattle.book_reader.proofs.test_repeats.Goals as goal
 
-pub origins_repeat-requires : goal.origins_repeat-requires
-origins_repeat-requires c = let p = c.requires in
-    record {
-      sized = p.rows_passed.sized;
-      book_value = p.rows_passed.row4;
-      book_value_2 = p.rows_passed.row5;
-      book_in_bounds = omega (arith, p.blank.marks_room);
-      marks_value = p.blank.marks_zero;
-    }
-
 pub returns-then-origins_repeat : goal.returns-then-origins_repeat
-returns-then-origins_repeat c = repeats_6 _ _ _ (row6_repeats _ _ c.requires.rows_passed.places c.origins_repeat.ensures ∙ c.if-origins_repeat.true)
+returns-then-origins_repeat c = from_6_first _ (row6_repeats _ _ c.requires.rows_passed.places c.origins_repeat.ensures ∙ c.if-origins_repeat.true)
 
 pub returns-then-late : goal.returns-then-late
 returns-then-late c =
     let p = c.requires in
-    repeats_7 _ _ _ (row6_repeats _ _ p.rows_passed.places c.origins_repeat.ensures ∙ c.if-origins_repeat.false) (row7_single _ (sym p.late_value ∙ c.if-late.true))
+    from_6_second _ (row6_repeats _ _ p.rows_passed.places c.origins_repeat.ensures ∙ c.if-origins_repeat.false) (row7_single _ (sym p.late_value ∙ c.if-late.true))
 
-pub test_legs-requires : goal.test_legs-requires
-test_legs-requires c =
+pub returns-then-link_legs : goal.returns-then-link_legs
+returns-then-link_legs c =
     let p = c.requires in
+    from_6_second _ (row6_repeats _ _ p.rows_passed.places c.origins_repeat.ensures ∙ c.if-origins_repeat.false)
+    (sym (row7_early _ _ (rw c.new-book.ensures at c.link_legs.ensures.answer) c.if-link_legs.true))
+
+pub legs_repeat-requires : goal.legs_repeat-requires
+legs_repeat-requires c =
+    let p = c.requires in
+    let e = c.new-book.ensures in
+    let r = readable_of p.rows_passed (sym p.late_value ∙ c.if-late.false) in
+    let d = cells_chained _ _ r p.blank.cells_room p.blank.cells_zero (rw e at (c.link_legs.ensures.chains c.if-link_legs.false)) in
     record {
-      readable = readable_of p.rows_passed (sym p.late_value ∙ c.if-late.false);
-      blank = record {
-        cells_room = p.blank.cells_room;
-        marks_room = omega (arith, p.blank.marks_room, c.origins_repeat.auto, c.clear_numbers.auto);
-        cells_zero = p.blank.cells_zero;
-        marks_zero = zeros_again _ _ c.clear_numbers.ensures;
-      };
+      chained = rw e d.chained;
+      book_in_bounds = rw e (omega (arith, p.blank.marks_room, c.origins_repeat.auto, c.clear.auto));
+      marks_value = zeros_again _ _ c.clear.ensures;
     }
 
-pub returns-then-test_legs : goal.returns-then-test_legs
-returns-then-test_legs c = repeats_7 _ _ _ (row6_repeats _ _ c.requires.rows_passed.places c.origins_repeat.ensures ∙ c.if-origins_repeat.false) (sym c.test_legs.ensures.answer ∙ c.if-test_legs.true)
+pub returns-then-legs_repeat : goal.returns-then-legs_repeat
+returns-then-legs_repeat c =
+    let p = c.requires in
+    let e = c.new-book.ensures in
+    from_6_second _ (row6_repeats _ _ p.rows_passed.places c.origins_repeat.ensures ∙ c.if-origins_repeat.false)
+    (sym (row7_only _ _ _ (sym p.late_value ∙ c.if-late.false) (rw e at c.link_legs.ensures.answer) c.if-link_legs.false (rw e at c.legs_repeat.ensures)) ∙ c.if-legs_repeat.true)
 
 pub returns : goal.returns
 returns c =
-    let t = c.test_legs.ensures in
-    repeats_none _ _ _
-    (record {
-      row6 = row6_repeats _ _ c.requires.rows_passed.places c.origins_repeat.ensures ∙ c.if-origins_repeat.false;
-      row7 = sym t.answer ∙ c.if-test_legs.false;
-      chained = t.chained c.if-test_legs.false;
-      marks_zero = zeros_again _ _ c.clear_numbers-2.ensures;
-    })
+    let p = c.requires in
+    let e = c.new-book.ensures in
+    let r = readable_of p.rows_passed (sym p.late_value ∙ c.if-late.false) in
+    (
+      e,
+      record {
+        row6 = row6_repeats _ _ p.rows_passed.places c.origins_repeat.ensures ∙ c.if-origins_repeat.false;
+        row7 = sym (row7_only _ _ _ (sym p.late_value ∙ c.if-late.false) (rw e at c.link_legs.ensures.answer) c.if-link_legs.false (rw e at c.legs_repeat.ensures)) ∙ c.if-legs_repeat.false;
+        chained = cells_chained _ _ r p.blank.cells_room p.blank.cells_zero (rw e at (c.link_legs.ensures.chains c.if-link_legs.false));
+        marks_zero = zeros_again _ _ c.clear-2.ensures;
+      },
+    )

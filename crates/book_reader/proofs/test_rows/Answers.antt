@@ -1,20 +1,23 @@
 -- `book_reader::test_rows` meets its contract.
-use mathlib.Core.Path.{sym, ◌∙◌}
-use native.Mathlib.Omega.{arith}
-use Rattle.book_format.proofs.Measures.{measured_short, measured_long, whole_sized}
-use Rattle.book_reader.proofs.Numbers.{not_zero_lem, number_1, number_2}
+use Rattle.std.proofs.Common.{sym, ◌∙◌, ap, subst, List, ℕ}
+use Rattle.std.proofs.lemmas.Result.{err_from_is_err_and}
+use Rattle.book_format.specs.Rows.{row1, row2}
+use Rattle.book_format.proofs.Measures.{measured_whole}
+use Rattle.book_reader.specs.Stages.{TestedAs}
+use Rattle.book_reader.proofs.Numbers.{number_measured}
 use Rattle.book_reader.proofs.test_rows.Goals as goal
 
+pub returns-in_err-measure : goal.returns-in_err-measure
+returns-in_err-measure c =
+    let p = err_from_is_err_and c.from_residual.result c.from_residual.ensures.1 in
+    rw (p.1, p.2) (number_measured _ _ _ _ c.in_err-measure.ensures)
+
 pub test_whole-requires : goal.test_whole-requires
-test_whole-requires c = whole_sized _ _ (sym c.measure-m.ensures ∙ c.in-Whole.is)
+test_whole-requires c =
+    let m = measured_whole _ _ (sym c.in_ok-measure.ensures) in
+    record { row1_passed = ap row1 m.2 ∙ m.0; row2_passed = ap row2 m.2 ∙ m.1 }
 
-pub returns-in-Short : goal.returns-in-Short
-returns-in-Short c = (number_1 _ _ _ (measured_short _ (sym c.measure-m.ensures ∙ c.in-Short.is)), not_zero_lem 1 (omega arith))
-
-pub returns-in-Long : goal.returns-in-Long
-returns-in-Long c =
-    let m = measured_long _ (sym c.measure-m.ensures ∙ c.in-Long.is) in
-    (number_2 _ _ _ m.0 m.1, not_zero_lem 2 (omega arith))
-
-pub returns-in-Whole : goal.returns-in-Whole
-returns-in-Whole c = c.test_whole.ensures
+pub returns : goal.returns
+returns c =
+    let m = measured_whole _ _ (sym c.in_ok-measure.ensures) in
+    subst (λ (b : List ℕ). TestedAs b c.args.places c.args.bytes c.test_whole.result) m.2 c.test_whole.ensures

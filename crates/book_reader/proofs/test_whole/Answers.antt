@@ -1,27 +1,38 @@
 -- `book_reader::test_whole` meets its contract.
-use mathlib.Core.Path.{sym, ◌∙◌}
-use native.Mathlib.Omega.{arith}
-use Rattle.book_reader.proofs.Numbers.{not_zero_lem, number_3, number_early, left_early, left_late}
+use Rattle.std.proofs.Common.{sym, ◌∙◌, ap, subst, refl, Bool}
+use Rattle.refusals.specs.Refusals.{refusal_number}
+use Rattle.refusals.proofs.Numbers.{refusal_some}
+use Rattle.book_reader.specs.Stages.{LeftToRead}
+use Rattle.book_reader.proofs.Numbers.{number_3, number_early, left_early, left_late, leg_alone}
 use Rattle.book_reader.proofs.Rooms.{some_link}
 use Rattle.book_reader.proofs.test_whole.Goals as goal
-
-pub counts_refused-requires : goal.counts_refused-requires
-counts_refused-requires c = c.requires
+use Rattle.book_reader.proofs.test_whole.Goals.{Joined-lowest_row, in-Ok, in-Err+in-BadLeg}
 
 pub returns-then-counts_refused : goal.returns-then-counts_refused
-returns-then-counts_refused c = (number_3 _ _ _ _ c.requires (sym c.counts_refused.ensures ∙ c.if-counts_refused.true), not_zero_lem 3 (omega arith))
+returns-then-counts_refused c =
+    number_3 _ _ _ c.requires.row1_passed c.requires.row2_passed (sym c.counts_refused.ensures ∙ c.if-counts_refused.true)
 
-pub lowest_row-n-requires : goal.lowest_row-n-requires
-lowest_row-n-requires c = record {
-  sized = c.requires;
-  links_nonzero = some_link _ _ _ _ c.requires (sym c.counts_refused.ensures ∙ c.if-counts_refused.false);
-}
+pub lowest_row-requires : goal.lowest_row-requires
+lowest_row-requires c = record { links_nonzero = some_link _ _ _ (sym c.counts_refused.ensures ∙ c.if-counts_refused.false) }
 
-pub returns-then-n-eq0 : goal.returns-then-n-eq0
-returns-then-n-eq0 c = left_early _ _ _ _ _ c.requires (sym c.counts_refused.ensures ∙ c.if-counts_refused.false) c.lowest_row-n.ensures c.if-n-eq0.true
+pub returns-in_default : goal.returns-in_default
+returns-in_default c =
+    number_early _ _ _ _ c.requires.row1_passed c.requires.row2_passed (sym c.counts_refused.ensures ∙ c.if-counts_refused.false)
+    c.in-Err.ensures (refusal_some _) (λ e. c.in_default.not-BadLeg (leg_alone _ e))
 
-pub returns-then-n-eq7 : goal.returns-then-n-eq7
-returns-then-n-eq7 c = left_late _ _ _ _ _ c.requires (sym c.counts_refused.ensures ∙ c.if-counts_refused.false) c.lowest_row-n.ensures c.if-n-eq7.true
+-- what is left to read, whichever way the single rows let the book through
+left : (c : Joined-lowest_row) → LeftToRead c.args.book c.args.places c.args.bytes c.match-lowest_row.late
+left c =
+    let q = c.requires in
+    let e = sym c.counts_refused.ensures ∙ c.if-counts_refused.false in
+    let P : Bool → Type 0 = λ t. LeftToRead c.args.book c.args.places c.args.bytes t in
+    elim c.match-lowest_row.branch [
+      in-Ok w ↦ subst P (sym w.late-is) (left_early _ _ _ 0 q.row1_passed q.row2_passed e w.in-Ok.ensures refl)
+      | in-Err+in-BadLeg w ↦ subst P (sym w.late-is) (left_late _ _ _ _ q.row1_passed q.row2_passed e w.in-Err.ensures (ap refusal_number w.in-BadLeg.is))
+    ]
+
+pub new-book-requires : goal.new-book-requires
+new-book-requires c = let l = left c in record { row4_passed = l.passed.row4; row5_passed = l.passed.row5 }
 
 pub returns : goal.returns
-returns c = (number_early _ _ _ _ _ c.requires (sym c.counts_refused.ensures ∙ c.if-counts_refused.false) c.lowest_row-n.ensures c.if-n-eq0.false c.if-n-eq7.false, c.if-n-eq0.false)
+returns c = (c.new-book.ensures, left (goal.at.returns c).Joined-lowest_row)
