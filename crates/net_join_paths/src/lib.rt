@@ -2,7 +2,7 @@
 // Contracts: specs/Entries.antt, specs/Spans.antt.
 #![tactic(auto)]
 
-ghost use Rattle.std.specs.Prelude.{◌-◌, ◌≤◌};
+ghost use Rattle.std.specs.Prelude.{◌≡◌, ◌-◌, ◌≤◌, OnErr};
 ghost use Rattle.arrayvec.specs.ArrayVec.{array_vec_len};
 ghost use Rattle.net_join_paths.specs.Entries.{push, ListBecomes};
 ghost use Rattle.net_join_paths.specs.Spans.{pushed_all, nodes_in};
@@ -21,10 +21,11 @@ pub struct EstJoinPath {
 // A list of join entries.
 pub type JoinPaths = ArrayVec<EstJoinPath, 1024>;
 
-// Puts an entry behind a list, if it has less than 1,024.
+// Puts an entry behind a list, if it has less than 1,024; else the list stays.
 #[tactic(auto, unfolding(crate::specs::Entries::push))]
 pub fn push_entry(list: &mut JoinPaths, x: EstJoinPath) -> Result<(), Refusal>
-    ensures { ListBecomes (λ es. push es x) list result }
+    ensures list { ListBecomes (λ es. push es x) list result }
+    ensures kept { OnErr result (list.new ≡ list.old) }
 {
     if list.is_full() {
         return Err(Refusal::NoPlace);

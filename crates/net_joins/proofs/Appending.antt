@@ -3,24 +3,22 @@ use mathlib.Core.Path.{◌≡◌, refl, sym, ap, ◌∙◌, subst}
 use mathlib.Core.Logic.{◌⊎◌, inl, inr}
 use mathlib.Core.Bool.{Bool, true, false, not}
 use mathlib.Core.List.{List, [], ◌∷◌}
-use mathlib.Core.Option.{Option, none}
+use mathlib.Core.Option.{Option, none, some}
 use Prim.Native.Nat.{ℕ, zero, suc, ◌+◌, ◌-◌, ◌*◌, ◌≤◌, ◌<◌}
 use native.Mathlib.Omega.{arith}
+use borrow.Author.Tests.{eq-eqb, ne_eqb}
 use lib.Dec.{eqb}
-use lib.ListN.{get_or}
+use lib.ListN.{length, get_or, take}
 use Rattle.laws.proofs.Truth.{equal_or_not}
 use Rattle.net_node.specs.declared.EstTime.{EstTime}
 use Rattle.net_event_map.specs.declared.Layout.{Layout}
 use Rattle.net_event_map.specs.EventMap.{nodes_from, event_nodes, head_of, arrive_at, bit, Mapped}
 use Rattle.net_event_map.proofs.Kept.{all_are, walked, walked_end}
 use Rattle.net_join_paths.specs.declared.EstJoinPath.{EstJoinPath}
-use Rattle.net_join_paths.specs.declared.Count.{Count}
-use Rattle.net_join_paths.specs.declared.Count.TheVariants.{Entries, Over}
-use Rattle.net_join_paths.specs.Entries.{entries_in, and_then, EntriesAs}
-use Rattle.net_join_paths.proofs.Entries.{listed_some, listed_none}
+use Rattle.net_join_paths.specs.Entries.{and_then}
 use Rattle.net_joins.specs.Joins.{names, appended_if, appended_all}
 use Rattle.net_joins.specs.Marks.{NamesMarked, ChainLink, Chain, Ending}
-use Rattle.net_joins.proofs.Lists.{appended_longer}
+use Rattle.net_joins.proofs.Lists.{appended_stays, take_same}
 
 -- ---- chains
 
@@ -95,50 +93,50 @@ module _ {c : List ℕ} {w : Layout} {node : ℕ → EstTime} {n : ℕ} (v : Map
 -- ---- the loop
 
 -- Before node i the nodes of the chain gave the list so far, and the entries that were there stay.
-pub record Appending (cells : List ℕ) (w : Layout) (l : ℕ) (list₀ : List ℕ) (count : ℕ) (list : List ℕ) (i at : ℕ) : Type 0 where
+pub record Appending (cells : List ℕ) (w : Layout) (l : ℕ) (list₀ list : List EstJoinPath) (i : ℕ) : Type 0 where
   pub all : List ℕ
   pub rest : List ℕ
   pub from : Chain cells w (get_or cells (w.links_at + l * 8) 0) all
   pub chain : Chain cells w i rest
-  pub answer : appended_all (entries_in list₀ count) l all (entries_in list₀ count) ≡ appended_all (entries_in list₀ count) l rest (entries_in list at)
-  pub few : at ≤ 1024
-  pub behind : count ≤ at
-  pub kept : entries_in list count ≡ entries_in list₀ count
+  pub answer : appended_all list₀ l all list₀ ≡ appended_all list₀ l rest list
+  pub kept : take (length list₀) list ≡ list₀
 
 -- turns that are left: an end needs none
 abbrev pub turns : ℕ → ℕ → ℕ
 turns places zero = 0
 turns places (suc i) = places - suc i
 
-pub appending_start : (cells : List ℕ) (w : Layout) (l : ℕ) (list : List ℕ) (count i : ℕ) → Ending cells w (get_or cells (w.links_at + l * 8) 0) → count ≤ 1024 → i ≡ get_or cells (w.links_at + l * 8) 0
-    → Appending cells w l list count list i count
-appending_start cells w l list count i e h f = record {
+pub appending_start : (cells : List ℕ) (w : Layout) (l : ℕ) (list : List EstJoinPath) (i : ℕ) → Ending cells w (get_or cells (w.links_at + l * 8) 0) → i ≡ get_or cells (w.links_at + l * 8) 0
+    → Appending cells w l list list i
+appending_start cells w l list i e f = record {
   all = e.nodes;
   rest = e.nodes;
   from = e.chain;
   chain = subst (λ (k : ℕ). Chain cells w k e.nodes) (sym f) e.chain;
   answer = refl;
-  few = h;
-  behind = omega arith;
-  kept = refl;
+  kept = take_same list;
 }
+
+pub mark_none : (x : ℕ) → x ≡ 0 → not (eqb x 0) ≡ false
+mark_none x h = ap not (eq-eqb x 0 h)
+
+pub mark_some : (x : ℕ) → (x ≡ 0 → ⊥) → not (eqb x 0) ≡ true
+mark_some x h = ap not (ne_eqb x 0 h)
 
 flag_bit : (t : Bool) → not (eqb (bit t) 0) ≡ t
 flag_bit true = refl
 flag_bit false = refl
 
-module _ {cells : List ℕ} {w : Layout} {l : ℕ} {list₀ : List ℕ} {count : ℕ} {list : List ℕ} {i at : ℕ} (v : Appending cells w l list₀ count list i at) where
+module _ {cells : List ℕ} {w : Layout} {l : ℕ} {list₀ list : List EstJoinPath} {i : ℕ} (v : Appending cells w l list₀ list i) where
   abbrev goal : List ℕ → Option (List EstJoinPath)
-  goal is = appended_all (entries_in list₀ count) l is (entries_in list₀ count)
+  goal is = appended_all list₀ l is list₀
 
-  pub appending_whole : i ≡ 0 → (is : List ℕ) → Chain cells w (get_or cells (w.links_at + l * 8) 0) is → EntriesAs (goal is) list (Entries at)
+  pub appending_whole : i ≡ 0 → (is : List ℕ) → Chain cells w (get_or cells (w.links_at + l * 8) 0) is → goal is ≡ some list
   unfolding appended_all
-  appending_whole h is c = (
-    ap goal (chain_one cells w (get_or cells (w.links_at + l * 8) 0) is v.all c v.from)
-        ∙ v.answer
-        ∙ ap (λ (q : List ℕ). appended_all (entries_in list₀ count) l q (entries_in list at)) (chain_done cells w i v.rest v.chain h),
-    v.few,
-  )
+  appending_whole h is c =
+      ap goal (chain_one cells w (get_or cells (w.links_at + l * 8) 0) is v.all c v.from)
+      ∙ v.answer
+      ∙ ap (λ (q : List ℕ). appended_all list₀ l q list) (chain_done cells w i v.rest v.chain h)
 
   module _ (h : i ≡ 0 → ⊥) where
     pub link_here : ChainLink w.places i (get_or cells (w.nodes_at + i * 8) 0)
@@ -154,45 +152,38 @@ module _ {cells : List ℕ} {w : Layout} {l : ℕ} {list₀ : List ℕ} {count :
             let r : suc i < suc next = subst (λ (x : ℕ). 0 < x → suc i < x) (sym e) k.rises (omega arith) in
             omega (arith, k.placed)
 
-    module _ (m : NamesMarked cells w (entries_in list₀ count)) (list' : List ℕ) (r : Count) (p : EntriesAs (appended_if (not (eqb (get_or cells (w.nodes_at + i * 8 + 1) 0) 0)) l i (entries_in list at)) list' r) (k : (j : ℕ) → j ≤ at → entries_in list' j ≡ entries_in list j) where
-      abbrev named : Bool
+    module _ (m : NamesMarked cells w list₀) where
+      abbrev pub named : Bool
       named = not (eqb (get_or cells (w.nodes_at + i * 8 + 1) 0) 0)
 
-      abbrev put : Option (List EstJoinPath)
-      put = appended_if named l i (entries_in list at)
+      abbrev pub put : Option (List EstJoinPath)
+      put = appended_if named l i list
 
       abbrev later : List ℕ
       later = (chain_open cells w i v.rest v.chain h).later
 
-      named_is : named ≡ names (entries_in list₀ count) i
-      named_is = ap (λ (x : ℕ). not (eqb x 0)) (m.is i link_here.placed) ∙ flag_bit (names (entries_in list₀ count) i)
+      named_is : named ≡ names list₀ i
+      named_is = ap (λ (x : ℕ). not (eqb x 0)) (m.is i link_here.placed) ∙ flag_bit (names list₀ i)
 
-      turn : goal v.all ≡ and_then put (appended_all (entries_in list₀ count) l later)
+      turn : goal v.all ≡ and_then put (appended_all list₀ l later)
       unfolding appended_all
       turn =
           v.answer
-          ∙ ap (λ (q : List ℕ). appended_all (entries_in list₀ count) l q (entries_in list at)) (chain_open cells w i v.rest v.chain h).is
-          ∙ ap (λ (b : Bool). and_then (appended_if b l i (entries_in list at)) (appended_all (entries_in list₀ count) l later)) (sym named_is)
+          ∙ ap (λ (q : List ℕ). appended_all list₀ l q list) (chain_open cells w i v.rest v.chain h).is
+          ∙ ap (λ (b : Bool). and_then (appended_if b l i list) (appended_all list₀ l later)) (sym named_is)
 
-      pub appending_kept : entries_in list' count ≡ entries_in list₀ count
-      appending_kept = k count v.behind ∙ v.kept
-
-      pub appending_over : r ≡ Over → (is : List ℕ) → Chain cells w (get_or cells (w.links_at + l * 8) 0) is → goal is ≡ none
+      pub appending_over : put ≡ none → (is : List ℕ) → Chain cells w (get_or cells (w.links_at + l * 8) 0) is → goal is ≡ none
       appending_over o is c =
           ap goal (chain_one cells w (get_or cells (w.links_at + l * 8) 0) is v.all c v.from)
           ∙ turn
-          ∙ ap (λ (a : Option (List EstJoinPath)). and_then a (appended_all (entries_in list₀ count) l later)) (listed_none put list' r p o)
+          ∙ ap (λ (a : Option (List EstJoinPath)). and_then a (appended_all list₀ l later)) o
 
-      pub appending_on : (more : ℕ) → r ≡ Entries more → (next : ℕ) → next ≡ get_or cells (w.nodes_at + i * 8) 0 → Appending cells w l list₀ count list' next more
-      appending_on more o next e =
-          let q = listed_some put list' r p more o in
-          record {
-            all = v.all;
-            rest = later;
-            from = v.from;
-            chain = subst (λ (x : ℕ). Chain cells w x later) (sym e) (chain_open cells w i v.rest v.chain h).chain;
-            answer = turn ∙ ap (λ (a : Option (List EstJoinPath)). and_then a (appended_all (entries_in list₀ count) l later)) q.0;
-            few = q.1;
-            behind = omega (arith, v.behind, appended_longer named l i list list' at more q.0);
-            kept = appending_kept;
-          }
+      pub appending_on : (list' : List EstJoinPath) → put ≡ some list' → (next : ℕ) → next ≡ get_or cells (w.nodes_at + i * 8) 0 → Appending cells w l list₀ list' next
+      appending_on list' o next e = record {
+        all = v.all;
+        rest = later;
+        from = v.from;
+        chain = subst (λ (x : ℕ). Chain cells w x later) (sym e) (chain_open cells w i v.rest v.chain h).chain;
+        answer = turn ∙ ap (λ (a : Option (List EstJoinPath)). and_then a (appended_all list₀ l later)) o;
+        kept = appended_stays named l i list₀ list list' v.kept o;
+      }

@@ -1,18 +1,19 @@
 -- The choice among the entries: one more entry, the loop over a list, and that what is chosen is a node of the network.
 use mathlib.Core.Path.{◌≡◌, refl, sym, ap, ◌∙◌, subst}
 use mathlib.Core.Bool.{Bool, true, false, ◌&&◌, true≢false}
-use mathlib.Core.List.{List, [], ◌∷◌, ◌++◌}
+use mathlib.Core.List.{List, [], ◌∷◌}
 use Prim.Native.Nat.{ℕ, suc, ◌+◌, ◌≤◌, ◌<◌}
+use native.Mathlib.Numerals.{add-one}
 use native.Mathlib.Omega.{arith}
 use lib.Dec.{eqb}
 use lib.Ieee.{Float, lt}
-use lib.ListN.{length}
+use lib.ListN.{length, get_or, drop}
+use Rattle.std.proofs.Common.{drop-cons, drop_of_length-le}
 use Rattle.floats.specs.Floats.{gap}
 use Rattle.floats.proofs.Order.{lt_asym}
 use Rattle.net_node.specs.declared.EstTime.{EstTime}
 use Rattle.net_join_paths.specs.declared.EstJoinPath.{EstJoinPath}
-use Rattle.net_join_paths.specs.Entries.{entry_at, entries_in, node_of, Valid}
-use Rattle.net_join_paths.proofs.Entries.{entries_more}
+use Rattle.net_join_paths.specs.Entries.{node_of, Valid}
 use Rattle.net_joins.specs.declared.SpeedJoin.{SpeedJoin}
 use Rattle.net_joins.specs.Joins.{closer_as, closer, closest_of, closest}
 
@@ -27,35 +28,25 @@ closer_by nodes speed best x y g b l d h =
 
 -- ---- the loop
 
-module _ (node : ℕ → EstTime) (speed : Float) where
-  closest_more : (best : SpeedJoin) (xs : List EstJoinPath) (x : EstJoinPath) → closest_of node speed best (xs ++ (x ∷ [])) ≡ closer node speed (closest_of node speed best xs) x
+-- The best of the entries before k, and of those that are left, is the best of all.
+pub record Choosing (node : ℕ → EstTime) (join speed : Float) (list : List EstJoinPath) (best : SpeedJoin) (k : ℕ) : Type 0 where
+  pub is : closest_of node speed best (drop k list) ≡ closest node join speed list
+
+pub choosing_start : (node : ℕ → EstTime) (join speed : Float) (list : List EstJoinPath) → Choosing node join speed list (record { speed_diff_join = join; est_idx_join = 0 }) 0
+unfolding closest
+choosing_start node join speed list = record { is = refl }
+
+module _ {node : ℕ → EstTime} {join speed : Float} {list : List EstJoinPath} {best : SpeedJoin} {k : ℕ} (v : Choosing node join speed list best k) where
+  pub choosing_on : k < length list → (d x : EstJoinPath) → x ≡ get_or list k d → (r : SpeedJoin) → r ≡ closer node speed best x → Choosing node join speed list r (k + 1)
   unfolding closest_of
-  closest_more best [] x = refl
-  closest_more best (y ∷ xs) x = closest_more (closer node speed best y) xs x
-
--- the best of the first k entries
-pub record Choosing (node : ℕ → EstTime) (join speed : Float) (list : List ℕ) (count : ℕ) (best : SpeedJoin) (k : ℕ) : Type 0 where
-  pub is : best ≡ closest node join speed (entries_in list k)
-  pub within : k ≤ count
-
-pub choosing_start : (node : ℕ → EstTime) (join speed : Float) (list : List ℕ) (count : ℕ) → Choosing node join speed list count (record { speed_diff_join = join; est_idx_join = 0 }) 0
-unfolding closest closest_of entries_in
-choosing_start node join speed list count = record { is = refl; within = omega arith }
-
-module _ {node : ℕ → EstTime} {join speed : Float} {list : List ℕ} {count : ℕ} {best : SpeedJoin} {k : ℕ} (v : Choosing node join speed list count best k) where
-  pub choosing_on : k < count → (x : EstJoinPath) → x ≡ entry_at list k → (r : SpeedJoin) → r ≡ closer node speed best x → Choosing node join speed list count r (k + 1)
-  unfolding closest
-  choosing_on h x l r e = record {
-    is = e
-        ∙ ap (λ (b : SpeedJoin). closer node speed b x) v.is
-        ∙ ap (closer node speed (closest node join speed (entries_in list k))) l
-        ∙ sym (closest_more node speed (record { speed_diff_join = join; est_idx_join = 0 }) (entries_in list k) (entry_at list k))
-        ∙ ap (closest node join speed) (sym (entries_more list k));
-    within = omega arith;
+  choosing_on h d x l r e = record {
+    is = let a : drop k list ≡ x ∷ drop (k + 1) list = drop-cons list k d h ∙ ap (λ (y : EstJoinPath). y ∷ drop (suc k) list) (sym l) ∙ ap (λ (j : ℕ). x ∷ drop j list) (sym (add-one k)) in
+        ap (λ (b : SpeedJoin). closest_of node speed b (drop (k + 1) list)) e ∙ sym (ap (closest_of node speed best) a) ∙ v.is;
   }
 
-  pub choosing_whole : count ≤ k → best ≡ closest node join speed (entries_in list count)
-  choosing_whole h = let s : k ≡ count = omega (arith, v.within) in v.is ∙ ap (λ (j : ℕ). closest node join speed (entries_in list j)) s
+  pub choosing_whole : length list ≤ k → best ≡ closest node join speed list
+  unfolding closest_of
+  choosing_whole h = sym (ap (closest_of node speed best) (drop_of_length-le list h)) ∙ v.is
 
 -- ---- what is chosen
 
@@ -79,6 +70,6 @@ module _ (node : ℕ → EstTime) (join speed : Float) (n : ℕ) where
   unfolding closest
   closest_within es v = within_of es (record { speed_diff_join = join; est_idx_join = 0 }) v.node (λ o. absurd (true≢false (sym o ∙ lt_asym join join o)))
 
-  -- by the contract of `closest_entry`
+  -- by the contract of `closest_of`
   pub chosen_within : (es : List EstJoinPath) (best : SpeedJoin) → best ≡ closest node join speed es → Valid es n → lt best.speed_diff_join join ≡ true → best.est_idx_join < n
   chosen_within es best f v h = subst (λ (b : SpeedJoin). b.est_idx_join < n) (sym f) (closest_within es v (ap (λ (b : SpeedJoin). lt b.speed_diff_join join) (sym f) ∙ h))

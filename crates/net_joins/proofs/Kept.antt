@@ -23,10 +23,11 @@ use Rattle.net_event_map.specs.declared.Layout.{Layout}
 use Rattle.net_event_map.specs.EventMap.{seen_in, event_nodes, Mapped}
 use Rattle.net_event_map.proofs.Kept.{mapped_fake, mapped_same, event_nodes_lem}
 use Rattle.net_join_paths.specs.declared.EstJoinPath.{EstJoinPath}
-use Rattle.net_join_paths.specs.Entries.{entry, entries_in, Valid}
+use Rattle.net_join_paths.specs.Entries.{entry, Valid}
 use Rattle.net_join_paths.proofs.Kept.{Sound, Kept, kept_then, kept_push}
 use Rattle.net_stack.specs.Stack.{is_arrive}
 use Rattle.net_strands.proofs.Kept.{space_kept}
+use Rattle.std.specs.Prelude.{Ok}
 use Rattle.net_joins.specs.declared.Step.TheVariants.{Joined, Waits}
 use Rattle.net_joins.specs.Joins.{closest, chain_end, join_fake, join_at, joined_table, names, appended_if, appended_all, appended, rebuilt, JoinStep, JoinsTo, GoesOn, Beyond, step_with, joins_if, chosen_as, chosen, join_step, StepAs, SteppedInto}
 use Rattle.net_joins.proofs.Choosing.{closest_within}
@@ -95,16 +96,16 @@ module _ {node : ℕ → EstTime} {n : ℕ} (w : Indexed node n) (places : ℕ) 
     joins_target target h = subst (KeptStep n places) h step_kept
 
     -- by the contract of `join_step`
-    pub waits_sound : (slice : List ℕ) (k : ℕ) → StepAs (join_step node n places join e old) slice (Waits k) → Sound n (entries_in slice k)
-    waits_sound slice k h = goes_sound (entries_in slice k) h.0
+    pub waits_sound : (list : List EstJoinPath) → StepAs (join_step node n places join e old) list (Ok Waits) → Sound n list
+    waits_sound list h = goes_sound list h
 
-    pub joined_target : (slice : List ℕ) (target : ℕ) → StepAs (join_step node n places join e old) slice (Joined target) → Target n places target
-    joined_target slice target h = joins_target target h
+    pub joined_target : (list : List EstJoinPath) (target : ℕ) → StepAs (join_step node n places join e old) list (Ok (Joined target)) → Target n places target
+    joined_target list target h = joins_target target h
 
 -- ---- the table after a join
 
 -- the table that the lists hold then
-pub stepped_table : (t : Table) (n target : ℕ) (e : TimedEvent) (fs : List Float) (us : List ℕ) → SteppedInto t n e fs us (Joined target) → ◌≡◌ {A = Table} (record { floats = fs; numbers = us }) (joined_table t n target e)
+pub stepped_table : (t : Table) (n target : ℕ) (e : TimedEvent) (fs : List Float) (us : List ℕ) → SteppedInto t n e fs us (Ok (Joined target)) → ◌≡◌ {A = Table} (record { floats = fs; numbers = us }) (joined_table t n target e)
 stepped_table t n target e fs us h = λ k. record { floats = h.0 k; numbers = h.1 k }
 
 module _ (t : Table) (n end : ℕ) (e : TimedEvent) where

@@ -2,19 +2,20 @@
 use mathlib.Core.Path.{◌≡◌, refl, sym, ap, ◌∙◌, subst}
 use mathlib.Core.Logic.{◌⊎◌, inl, inr}
 use mathlib.Core.Bool.{Bool, true, false, ◌||◌}
-use mathlib.Core.List.{List, [], ◌∷◌, ◌++◌}
+use mathlib.Core.List.{List, [], ◌∷◌}
 use Prim.Native.Nat.{ℕ, suc, ◌+◌, ◌*◌, ◌≤◌, ◌<◌}
+use native.Mathlib.Numerals.{add-one}
 use native.Mathlib.Omega.{arith}
 use borrow.Author.Tests.{eqb-true, eqb-false, eq-eqb, ne_eqb}
 use lib.Dec.{eqb}
-use lib.ListN.{length, get_or, set, length-set}
+use lib.ListN.{length, get_or, set, drop, length-set}
+use Rattle.std.proofs.Common.{drop-cons, drop_of_length-le}
 use lib.Seq.{get_or-set_same, get_or-set_other, ext_get_or}
 use Rattle.laws.proofs.Truth.{or_is, none_left, none_right, not_both, true_or_false}
 use Rattle.net_event_map.specs.declared.Layout.{Layout}
 use Rattle.net_event_map.specs.EventMap.{bit, CellsApart}
 use Rattle.net_join_paths.specs.declared.EstJoinPath.{EstJoinPath}
-use Rattle.net_join_paths.specs.Entries.{entry_at, entries_in, node_of, Valid}
-use Rattle.net_join_paths.proofs.Entries.{entries_more}
+use Rattle.net_join_paths.specs.Entries.{node_of, Valid}
 use Rattle.net_joins.specs.Joins.{names}
 use Rattle.net_joins.specs.Marks.{marks, NamesMarked}
 
@@ -25,44 +26,31 @@ cell base x = base + x.est_idx_next * 8 + 1
 -- ---- the loop
 
 module _ (base v : ℕ) where
-  -- an entry more
-  marks_more : (xs : List EstJoinPath) (x : EstJoinPath) (c : List ℕ) → marks base v (xs ++ (x ∷ [])) c ≡ set (marks base v xs c) (cell base x) v
-  unfolding marks
-  marks_more [] x c = refl
-  marks_more (y ∷ xs) x c = marks_more xs x (set c (cell base y) v)
-
   -- no cell more or less
   pub length_marks : (xs : List EstJoinPath) (c : List ℕ) → length (marks base v xs c) ≡ length c
   unfolding marks
   length_marks [] c = refl
   length_marks (x ∷ xs) c = length_marks xs (set c (cell base x) v) ∙ length-set c (cell base x) v
 
--- the marks of the first k entries are set
-pub record Marking (base mark : ℕ) (list : List ℕ) (count : ℕ) (cells₀ cells : List ℕ) (k : ℕ) : Type 0 where
-  pub is : cells ≡ marks base mark (entries_in list k) cells₀
+-- the marks of the entries from k on are still to be set
+pub record Marking (base mark : ℕ) (list : List EstJoinPath) (cells₀ cells : List ℕ) (k : ℕ) : Type 0 where
+  pub is : marks base mark list cells₀ ≡ marks base mark (drop k list) cells
   pub many : length cells ≡ length cells₀
-  pub within : k ≤ count
 
--- of no entry
-pub marking_start : (base mark : ℕ) (list : List ℕ) (count : ℕ) (cells : List ℕ) → Marking base mark list count cells cells 0
-unfolding marks entries_in
-marking_start base mark list count cells = record { is = refl; many = refl; within = omega arith }
-
-module _ {base mark : ℕ} {list : List ℕ} {count : ℕ} {cells₀ cells : List ℕ} {k : ℕ} (v : Marking base mark list count cells₀ cells k) where
-  -- of one more
-  pub marking_on : k < count → (x : EstJoinPath) → x ≡ entry_at list k → Marking base mark list count cells₀ (set cells (cell base x) mark) (k + 1)
-  marking_on h x l = record {
-    is = ap (λ (c : List ℕ). set c (cell base x) mark) v.is
-        ∙ ap (λ (y : EstJoinPath). set (marks base mark (entries_in list k) cells₀) (cell base y) mark) l
-        ∙ sym (marks_more base mark (entries_in list k) (entry_at list k) cells₀)
-        ∙ ap (λ (es : List EstJoinPath). marks base mark es cells₀) (sym (entries_more list k));
+module _ {base mark : ℕ} {list : List EstJoinPath} {cells₀ cells : List ℕ} {k : ℕ} (v : Marking base mark list cells₀ cells k) where
+  -- of one less
+  pub marking_on : k < length list → (d x : EstJoinPath) → x ≡ get_or list k d → Marking base mark list cells₀ (set cells (cell base x) mark) (k + 1)
+  unfolding marks
+  marking_on h d x l = record {
+    is = let a : drop k list ≡ x ∷ drop (k + 1) list = drop-cons list k d h ∙ ap (λ (y : EstJoinPath). y ∷ drop (suc k) list) (sym l) ∙ ap (λ (j : ℕ). x ∷ drop j list) (sym (add-one k)) in
+        v.is ∙ ap (λ (xs : List EstJoinPath). marks base mark xs cells) a;
     many = length-set cells (cell base x) mark ∙ v.many;
-    within = omega arith;
   }
 
-  -- of all
-  pub marking_whole : count ≤ k → cells ≡ marks base mark (entries_in list count) cells₀
-  marking_whole h = let s : k ≡ count = omega (arith, v.within) in v.is ∙ ap (λ (j : ℕ). marks base mark (entries_in list j) cells₀) s
+  -- of none
+  pub marking_whole : length list ≤ k → cells ≡ marks base mark list cells₀
+  unfolding marks
+  marking_whole h = sym (v.is ∙ ap (λ (xs : List EstJoinPath). marks base mark xs cells) (drop_of_length-le list h))
 
 -- ---- which cells are set
 

@@ -1,6 +1,6 @@
 -- `perform_speed_join` and `add_new_join_paths`: the choice among the entries, the join, and the entries that a failed
 -- join at an Arrive appends.
-use Rattle.std.specs.Prelude.{◌≡◌, Bool, true, false, ◌&&◌, ◌||◌, cond, List, [], ◌∷◌, ℕ, zero, suc, ◌-◌, ◌≤◌, eqb, ltb, Float}
+use Rattle.std.specs.Prelude.{◌≡◌, Bool, true, false, ◌&&◌, ◌||◌, cond, List, [], ◌∷◌, ℕ, zero, suc, ◌-◌, eqb, ltb, Float, Result, Ok, Err}
 use Rattle.std.proofs.Math.Option.{Option, none, some}
 use Rattle.std.specs.Float.Ieee.{lt}
 use Rattle.floats.specs.Floats.{gap}
@@ -11,12 +11,14 @@ use Rattle.net_node.specs.Table.{blank, Table, put, at, with_next, with_prev, wi
 use Rattle.net_insertion.specs.Insertion.{linked_to}
 use Rattle.net_event_map.specs.EventMap.{seen_in, event_nodes}
 use Rattle.net_join_paths.specs.declared.EstJoinPath.{EstJoinPath}
-use Rattle.net_join_paths.specs.Entries.{entry, push, and_then, entries_in}
+use Rattle.net_join_paths.specs.Entries.{entry, push, and_then}
 use Rattle.net_stack.specs.Stack.{is_arrive}
 use Rattle.net_strands.specs.Space.{extended_all}
+use Rattle.refusals.specs.declared.Refusal.{Refusal}
+use Rattle.refusals.specs.declared.Refusal.TheVariants.{NoPlace}
 use Rattle.net_joins.specs.declared.SpeedJoin.{SpeedJoin}
 use Rattle.net_joins.specs.declared.Step.{Step}
-use Rattle.net_joins.specs.declared.Step.TheVariants.{Joined, Waits, Refused}
+use Rattle.net_joins.specs.declared.Step.TheVariants.{Joined, Waits}
 
 -- ---- "Of entries with m = 0 the first with the smallest gap, strictly below J, is joined"
 
@@ -146,15 +148,15 @@ join_step node n places join e old = chosen node n places join e (rebuilt node n
 
 -- ---- what the code answers
 
--- a step of the code is that of the definition; the list that the run goes on with lies in a slice
-abbrev pub StepAs : JoinStep → List ℕ → Step → Type 0
-StepAs d slice (Joined target) = d ≡ JoinsTo target
-StepAs d slice (Waits n) = (d ≡ GoesOn (entries_in slice n)) × (n ≤ 1024)
-StepAs d slice (Refused n) = (d ≡ Beyond) × (n ≡ step_number Beyond)
+-- a step of the code is that of the definition, with the list that the run goes on with
+abbrev pub StepAs : JoinStep → List EstJoinPath → Result Step Refusal → Type 0
+StepAs d list (Ok (Joined target)) = d ≡ JoinsTo target
+StepAs d list (Ok Waits) = d ≡ GoesOn list
+StepAs d list (Err r) = (d ≡ Beyond) × (r ≡ NoPlace)
 
 -- the table's lists, which were t before, after a step: changed by a join alone, and left as they were by a refusal
-abbrev pub SteppedInto : Table → ℕ → TimedEvent → List Float → List ℕ → Step → Type 0
-SteppedInto t n e floats numbers (Joined target) =
+abbrev pub SteppedInto : Table → ℕ → TimedEvent → List Float → List ℕ → Result Step Refusal → Type 0
+SteppedInto t n e floats numbers (Ok (Joined target)) =
     (floats ≡ (joined_table t n target e).floats) × (numbers ≡ (joined_table t n target e).numbers)
-SteppedInto t n e floats numbers (Waits k) = (floats ≡ t.floats) × (numbers ≡ t.numbers)
-SteppedInto t n e floats numbers (Refused k) = (floats ≡ t.floats) × (numbers ≡ t.numbers)
+SteppedInto t n e floats numbers (Ok Waits) = (floats ≡ t.floats) × (numbers ≡ t.numbers)
+SteppedInto t n e floats numbers (Err r) = (floats ≡ t.floats) × (numbers ≡ t.numbers)

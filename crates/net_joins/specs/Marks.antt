@@ -1,12 +1,14 @@
 -- Words of the contracts: the nodes that a list names, marked in the cells, and the chain of an event's nodes there.
-use Rattle.std.specs.Prelude.{◌≡◌, List, [], ◌∷◌, ℕ, ◌+◌, ◌*◌, ◌≤◌, ◌<◌, get_or, set}
+use Rattle.std.specs.Prelude.{◌≡◌, List, [], ◌∷◌, ℕ, ◌+◌, ◌*◌, ◌≤◌, ◌<◌, get_or, set, Result}
 use Rattle.net_node.specs.declared.EstTime.{EstTime}
 use Rattle.net_event_map.specs.declared.Layout.{Layout}
 use Rattle.net_event_map.specs.EventMap.{bit, Mapped, first_at}
 use Rattle.net_join_paths.specs.declared.EstJoinPath.{EstJoinPath}
 use Rattle.space.specs.Lent.{Lent}
 use Rattle.net_node.specs.declared.LinkEvent.{LinkEvent}
-use Rattle.net_join_paths.specs.declared.Count.{Count}
+use Prim.{Unit}
+use Rattle.arrayvec.specs.ArrayVec.{ArrayVec}
+use Rattle.refusals.specs.declared.Refusal.{Refusal}
 use Rattle.net_join_paths.specs.Entries.{ListBecomes}
 use Rattle.net_joins.specs.declared.Step.{Step}
 use Rattle.net_joins.specs.Joins.{names, appended_all, appended, step_with, StepAs}
@@ -48,22 +50,22 @@ pub record MapWalkable (cells : List ℕ) (w : Layout) : Type 0 where
 -- ---- what the parts answer, of every network whose map the cells are
 
 -- a link's nodes along a chain of the cells are appended to a list, unless it names them
-abbrev pub AppendsChain : List ℕ → Layout → ℕ → Lent (List ℕ) → ℕ → Count → Type 0
-AppendsChain cells w l list count r =
+abbrev pub AppendsChain : List ℕ → Layout → ℕ → Lent (ArrayVec EstJoinPath) → Result Unit Refusal → Type 0
+AppendsChain cells w l list r =
     (is : List ℕ) → Chain cells w (get_or cells (first_at w l) 0) is
-    → ListBecomes (λ es. appended_all es l is es) list count r
+    → ListBecomes (λ es. appended_all es l is es) list r
 
 -- the nodes of an event are
-abbrev pub AppendsNodes : List ℕ → Layout → LinkEvent → Lent (List ℕ) → ℕ → Count → Type 0
-AppendsNodes cells w e list count r =
+abbrev pub AppendsNodes : List ℕ → Layout → LinkEvent → Lent (ArrayVec EstJoinPath) → Result Unit Refusal → Type 0
+AppendsNodes cells w e list r =
     (node : ℕ → EstTime) (n : ℕ) → n ≤ w.places → Mapped cells w node n
-    → ListBecomes (appended node n e) list count r
+    → ListBecomes (appended node n e) list r
 
--- the run goes on with a list to which they are appended, which is left in a slice
-abbrev pub GoesOnWith : List ℕ → Layout → LinkEvent → List EstJoinPath → List ℕ → Step → Type 0
-GoesOnWith cells w e es slice r =
+-- the run goes on with a list to which they are appended
+abbrev pub GoesOnWith : List ℕ → Layout → LinkEvent → List EstJoinPath → List EstJoinPath → Result Step Refusal → Type 0
+GoesOnWith cells w e es list r =
     (node : ℕ → EstTime) (n : ℕ) → n ≤ w.places → Mapped cells w node n
-    → StepAs (step_with (appended node n e es)) slice r
+    → StepAs (step_with (appended node n e es)) list r
 
 -- the cells are the map that they were
 abbrev pub MapKept : List ℕ → List ℕ → Layout → Type 0

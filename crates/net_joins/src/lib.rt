@@ -2,22 +2,24 @@
 // Contracts: specs/Joins.antt.
 #![tactic(auto)]
 
-ghost use Rattle.std.specs.Prelude.{◌≡◌, List, ℕ, ◌+◌, ◌*◌, ◌≤◌, ◌<◌, ltb, length, get_or};
+ghost use Rattle.std.specs.Prelude.{◌≡◌, List, ℕ, ◌+◌, ◌*◌, ◌≤◌, ◌<◌, ltb, length, get_or, take};
 ghost use Rattle.net_node.specs.declared.EstTime.{EstTime};
 ghost use Rattle.net_node.specs.Table.{node_at, Room, Indexed, float_width, number_width};
 ghost use Rattle.net_event_map.specs.EventMap.{CellsApart, Mapped, Real, first_at};
-ghost use Rattle.net_join_paths.specs.Entries.{entries_in, Valid, ListBecomes};
+ghost use Rattle.net_join_paths.specs.declared.EstJoinPath.{EstJoinPath};
+ghost use Rattle.net_join_paths.specs.Entries.{Valid};
 ghost use Rattle.net_node.specs.Lent.{table_at_entry};
-ghost use Rattle.net_stack.specs.Openings.{stack_length};
 ghost use Rattle.net_strands.specs.Steps.{nodes_at_entry};
-ghost use Rattle.net_joins.specs.Joins.{closer, closest, chain_end, join_fake, join_at, joined_table, appended_if};
-ghost use Rattle.net_joins.specs.Joins.{joins_if, join_step, StepAs, SteppedInto};
+ghost use Rattle.net_joins.specs.Joins.{closer, closest, chain_end, join_fake, join_at, joined_table, joins_if};
+ghost use Rattle.net_joins.specs.Joins.{join_step, StepAs, SteppedInto};
 ghost use Rattle.net_joins.specs.Marks.{marks, NamesMarked, Ending, MapWalkable, AppendsChain, AppendsNodes};
 ghost use Rattle.net_joins.specs.Marks.{GoesOnWith, MapKept};
 
 use net_event_map::Layout;
-use net_join_paths::{Count, EstJoinPath};
-use net_node::{EstTime, LinkEvent, TimedEvent};
+use net_join_paths::{EstJoinPath, JoinPaths, push_entry};
+use net_node::{EstTime, EstType, LinkEvent, TimedEvent};
+use net_stack::Stack;
+use refusals::Refusal;
 
 // The smallest gap of speeds so far, and its node.
 #[derive(Clone, Copy)]
@@ -26,12 +28,11 @@ pub struct SpeedJoin {
     pub est_idx_join: u32,
 }
 
-// What becomes of a run at an event: it has joined a node, it goes on with so many entries, or a refusal's number.
+// What becomes of a run at an event: it has joined a node, or it waits for its next event with the list it has then.
 #[derive(Clone, Copy)]
 pub enum Step {
     Joined(u32),
-    Waits(usize),
-    Refused(u32),
+    Waits,
 }
 
 // The better of the best so far and one more entry, whose node is given.
@@ -48,32 +49,28 @@ pub fn closer_of(best: SpeedJoin, x: EstJoinPath, node: EstTime, speed: f64) -> 
     best
 }
 
-// "Of entries with m = 0 the first with the smallest gap, strictly below J".
-fn closest_entry(
+// "Of entries with m = 0 the first with the smallest gap, strictly below J": its gap and its node, or J and 0 if there
+// is none. An inner function, no entry for users: its caller must have seen to it that both slices have room for
+// `nodes` nodes, at most 65,535, and that each entry names one of these.
+pub fn closest_of(
     floats: &[f64],
     numbers: &[u32],
     nodes: usize,
-    list: &[u32],
-    count: usize,
+    entries: &[EstJoinPath],
     join: f64,
     speed: f64,
 ) -> SpeedJoin
     requires room { Room floats.now numbers.now nodes }
-    requires valid { Valid (entries_in list.now count) nodes }
-    requires count_bound { count ≤ 1024 }
-    requires in_bounds { 2048 ≤ length list.now }
-    ensures { result ≡ closest (nodes_at_entry floats numbers) join speed (entries_in list.now count) }
+    requires valid { Valid entries.now nodes }
+    ensures { result ≡ closest (nodes_at_entry floats numbers) join speed entries.now }
 {
     let mut best = SpeedJoin {
         speed_diff_join: join,
         est_idx_join: 0,
     };
-    let mut k = 0;
-    while k < count {
-        let x = net_join_paths::entry_at(list, k);
+    for x in entries {
         let node = net_node::load(floats, numbers, x.est_idx_next as usize);
-        best = closer_of(best, x, node, speed);
-        k += 1;
+        best = closer_of(best, *x, node, speed);
     }
     best
 }
@@ -96,13 +93,15 @@ fn chain_end(floats: &[f64], numbers: &[u32], nodes: usize, start: u32) -> u32
 }
 
 // A join's Fake, between the last node and the end of the chain.
+#[tactic(auto, unfolding(crate::specs::Joins::join_fake))]
 fn join_fake(next: u32, prev: u32) -> EstTime
     ensures { result ≡ join_fake next prev }
 {
-    let mut fake = net_node::blank_node();
-    fake.idx_next = next;
-    fake.idx_prev = prev;
-    fake
+    EstTime {
+        idx_next: next,
+        idx_prev: prev,
+        ..EstTime::BLANK
+    }
 }
 
 // The last of n nodes is linked to the end of a chain through a new Fake. The end may be the last node itself.
@@ -114,7 +113,10 @@ fn join_at(floats: &mut [f64], numbers: &mut [u32], n: u32, end: u32, e: TimedEv
     ensures numbers { numbers.new ≡ (join_at (table_at_entry floats numbers) n end e).numbers }
 {
     let node = net_node::load(floats, numbers, end as usize);
-    let joined = net_node::with_prev_alt(node, n);
+    let joined = EstTime {
+        idx_prev_alt: n,
+        ..node
+    };
     net_node::store(floats, numbers, end as usize, joined);
     let last = n - 1;
     let fake = join_fake(end, last);
@@ -147,108 +149,57 @@ fn perform_speed_join(
 }
 
 // Sets the mark of each node that a list names.
-fn set_marks(cells: &mut [u32], w: Layout, list: &[u32], count: usize, mark: u32)
+fn set_marks(cells: &mut [u32], w: Layout, list: &[EstJoinPath], mark: u32)
     requires cells_apart { CellsApart cells.old w }
-    requires count_bound { count ≤ 1024 }
-    requires in_bounds { 2048 ≤ length list.now }
-    requires valid { Valid (entries_in list.now count) w.places }
-    ensures { cells.new ≡ marks w.nodes_at mark (entries_in list.now count)
-        cells.old }
+    requires valid { Valid list.now w.places }
+    ensures { cells.new ≡ marks w.nodes_at mark list.now cells.old }
 {
-    let mut k = 0;
-    while k < count {
-        let x = net_join_paths::entry_at(list, k);
+    for x in list {
         cells[w.nodes_at + x.est_idx_next as usize * 8 + 1] = mark;
-        k += 1;
     }
-}
-
-// Puts a node behind the n entries of a list, unless the list names it. Those entries stay, also where it does not fit:
-// `push_entry` doesn't promise that, so the room is tested here.
-fn append_unless(named: bool, list: &mut [u32], n: usize, link_idx: u32, i: u32) -> Count
-    requires in_bounds { 2048 ≤ length list.old }
-    requires n_bound { n ≤ 1024 }
-    ensures list { ListBecomes (appended_if named link_idx i) list n result }
-    ensures kept { (k : ℕ) → k ≤ n → entries_in list.new k ≡ entries_in list.old k }
-{
-    if named {
-        return Count::Entries(n);
-    }
-    if n == 1024 {
-        return Count::Over;
-    }
-    let x = EstJoinPath {
-        link_idx_match: link_idx,
-        est_idx_next: i,
-    };
-    net_join_paths::push_entry(list, n, x)
 }
 
 // Appends the nodes of a link's Arrive that are not marked. The entries that were there stay.
-fn append_unmarked(cells: &[u32], w: Layout, link_idx: u32, list: &mut [u32], count: usize) -> Count
+fn append_unmarked(cells: &[u32], w: Layout, link_idx: u32, list: &mut JoinPaths) -> Result<(), Refusal>
     requires cells_apart { CellsApart cells.now w }
     requires link_idx_lt_links { link_idx < w.links }
     requires ending { Ending cells.now w (get_or cells.now (first_at w link_idx) 0) }
-    requires names_marked { NamesMarked cells.now w (entries_in list.old count) }
-    requires in_bounds { 2048 ≤ length list.old }
-    requires count_bound { count ≤ 1024 }
-    ensures list { AppendsChain cells.now w link_idx list count result }
-    ensures kept { entries_in list.new count ≡ entries_in list.old count }
+    requires names_marked { NamesMarked cells.now w list.old.items }
+    ensures list { AppendsChain cells.now w link_idx list result }
+    ensures kept { take (length list.old.items) list.new.items ≡ list.old.items }
 {
     let mut i = net_event_map::first_node(cells, w, link_idx);
-    let mut at = count;
     while i != 0 {
-        let named = cells[w.nodes_at + i as usize * 8 + 1] != 0;
-        let Count::Entries(more) = append_unless(named, list, at, link_idx, i) else {
-            return Count::Over;
-        };
-        at = more;
+        let marked = cells[w.nodes_at + i as usize * 8 + 1] != 0;
+        if !marked {
+            let x = EstJoinPath {
+                link_idx_match: link_idx,
+                est_idx_next: i,
+            };
+            push_entry(list, x)?;
+        }
         i = net_event_map::next_node(cells, w, i);
     }
-    Count::Entries(at)
+    Ok(())
 }
 
 // Appends to a list all nodes of the event that it doesn't name, if the event is an Arrive.
-fn add_new_join_paths(
-    cells: &mut [u32],
-    w: Layout,
-    event: LinkEvent,
-    list: &mut [u32],
-    count: usize,
-) -> Count
+fn add_new_join_paths(cells: &mut [u32], w: Layout, event: LinkEvent, list: &mut JoinPaths) -> Result<(), Refusal>
     requires cells_apart { CellsApart cells.old w }
     requires real { Real event w.links }
-    requires count_bound { count ≤ 1024 }
-    requires in_bounds { 2048 ≤ length list.old }
-    requires valid { Valid (entries_in list.old count) w.places }
+    requires valid { Valid list.old.items w.places }
     requires map_walkable { MapWalkable cells.old w }
-    ensures list { AppendsNodes cells.old w event list count result }
+    ensures list { AppendsNodes cells.old w event list result }
     ensures cells { MapKept cells.old cells.new w }
 {
-    let kind = event.est_type;
-    let arrive = net_stack::is_arrive(kind);
-    if !arrive {
-        return Count::Entries(count);
+    if event.est_type != EstType::Arrive {
+        return Ok(());
     }
-    set_marks(cells, w, list, count, 1);
-    let appended = append_unmarked(cells, w, event.link_idx, list, count);
-    set_marks(cells, w, list, count, 0);
+    let count = list.len();
+    set_marks(cells, w, list, 1);
+    let appended = append_unmarked(cells, w, event.link_idx, list);
+    set_marks(cells, w, &list[..count], 0);
     appended
-}
-
-// Copies the entries of a list.
-fn copy_entries(from: &[u32], to: &mut [u32], count: usize)
-    requires count_bound { count ≤ 1024 }
-    requires in_bounds { 2048 ≤ length from.now }
-    requires in_bounds_2 { 2048 ≤ length to.old }
-    ensures { entries_in to.new count ≡ entries_in from.now count }
-{
-    let cells = count * 2;
-    let mut i = 0;
-    while i < cells {
-        to[i] = from[i];
-        i += 1;
-    }
 }
 
 // The run joins a node, if there is a place for the Fake.
@@ -259,19 +210,19 @@ fn join_target(
     places: usize,
     target: u32,
     est_time_add: TimedEvent,
-) -> Step
+) -> Result<Step, Refusal>
     requires room { Room floats.old numbers.old places }
     requires indexed { Indexed (node_at floats.old numbers.old) n }
     requires target_lt_n { target < n }
-    ensures answer { (slice : List ℕ) → StepAs (joins_if (ltb n places) target) slice result }
+    ensures answer { (list : List EstJoinPath) → StepAs (joins_if (ltb n places) target) list result }
     ensures table { SteppedInto (table_at_entry floats numbers) n est_time_add floats.new
         numbers.new result }
 {
     if places <= n {
-        return Step::Refused(12);
+        return Err(Refusal::NoPlace);
     }
     perform_speed_join(floats, numbers, n, places, target, est_time_add);
-    Step::Joined(target)
+    Ok(Step::Joined(target))
 }
 
 // The run goes on: what no entry names is appended to the list in `scratch`, and the list is left in `joins`.
@@ -279,31 +230,26 @@ fn go_on(
     cells: &mut [u32],
     w: Layout,
     event: LinkEvent,
-    scratch: &mut [u32],
-    count: usize,
-    joins: &mut [u32],
-) -> Step
+    scratch: &mut JoinPaths,
+    joins: &mut JoinPaths,
+) -> Result<Step, Refusal>
     requires cells_apart { CellsApart cells.old w }
     requires real { Real event w.links }
-    requires count_bound { count ≤ 1024 }
-    requires in_bounds { 2048 ≤ length scratch.old }
-    requires in_bounds_2 { 2048 ≤ length joins.old }
-    requires valid { Valid (entries_in scratch.old count) w.places }
+    requires valid { Valid scratch.old.items w.places }
     requires map_walkable { MapWalkable cells.old w }
-    ensures answer { GoesOnWith cells.old w event (entries_in scratch.old count)
-        joins.new result }
+    ensures answer { GoesOnWith cells.old w event scratch.old.items joins.new.items result }
     ensures cells { MapKept cells.old cells.new w }
 {
-    let appended = add_new_join_paths(cells, w, event, scratch, count);
-    let Count::Entries(more) = appended else {
-        return Step::Refused(12);
-    };
-    copy_entries(scratch, joins, more);
-    Step::Waits(more)
+    add_new_join_paths(cells, w, event, scratch)?;
+    joins.clear();
+    joins
+        .try_extend_from_slice(scratch)
+        .map_err(|_| Refusal::NoPlace)?;
+    Ok(Step::Waits)
 }
 
-// One event of a run that has added since its pop: its list of `count` entries is rebuilt, the run joins, or goes on
-// with what is appended. The list is left in `joins`.
+// One event of a run that has added since its pop: its list is rebuilt, the run joins, or goes on with what is appended.
+// The list is left in `joins`.
 pub fn join_step(
     floats: &mut [f64],
     numbers: &mut [u32],
@@ -311,12 +257,11 @@ pub fn join_step(
     cells: &mut [u32],
     w: Layout,
     join: f64,
-    joins: &mut [u32],
-    count: usize,
-    scratch: &mut [u32],
-    stack: &mut [u32],
+    joins: &mut JoinPaths,
+    scratch: &mut JoinPaths,
+    stack: &mut Stack,
     est_time_add: TimedEvent,
-) -> Step
+) -> Result<Step, Refusal>
     requires room { Room floats.old numbers.old w.places }
     requires n_le_places { n ≤ w.places }
     requires le_n { 1 ≤ n }
@@ -324,27 +269,20 @@ pub fn join_step(
     requires cells_apart { CellsApart cells.old w }
     requires mapped { Mapped cells.old w (node_at floats.old numbers.old) n }
     requires real { Real est_time_add.link_event w.links }
-    requires count_bound { count ≤ 1024 }
-    requires in_bounds { 2048 ≤ length joins.old }
-    requires in_bounds_2 { 2048 ≤ length scratch.old }
-    requires stack_length_in_bounds { stack_length ≤ length stack.old }
-    requires valid { Valid (entries_in joins.old count) n }
+    requires valid { Valid joins.old.items n }
     ensures answer { StepAs
-        (join_step (node_at floats.old numbers.old) n w.places join est_time_add
-        (entries_in joins.old count)) joins.new result }
+        (join_step (node_at floats.old numbers.old) n w.places join est_time_add joins.old.items)
+        joins.new.items result }
     ensures table { SteppedInto (table_at_entry floats numbers) n est_time_add floats.new
         numbers.new result }
     ensures cells { cells.new ≡ cells.old }
 {
     let event = est_time_add.link_event;
     let seen = net_event_map::contains(cells, w, event);
-    let rebuilt = net_strands::update_join_paths_space(
-        floats, numbers, n, event, seen, joins, count, cells, w, stack, scratch,
-    );
-    let Count::Entries(k) = rebuilt else {
-        return Step::Refused(12);
-    };
-    let best = closest_entry(floats, numbers, n, scratch, k, join, est_time_add.speed);
+    net_strands::update_join_paths_space(
+        floats, numbers, n, event, seen, joins, cells, w, stack, scratch,
+    )?;
+    let best = closest_of(floats, numbers, n, scratch, join, est_time_add.speed);
     if best.speed_diff_join < join {
         return join_target(
             floats,
@@ -355,5 +293,5 @@ pub fn join_step(
             est_time_add,
         );
     }
-    go_on(cells, w, event, scratch, k, joins)
+    go_on(cells, w, event, scratch, joins)
 }

@@ -8,17 +8,18 @@ ghost use Rattle.net_insertion.specs.Insertion.{inserted, InsertedInto, flagged}
 ghost use Rattle.net_node.specs.Lent.{table_at_entry};
 ghost use Rattle.net_lent_place.specs.LentPlace.{place_after};
 
-use net_insertion::{Inserted, Place};
+use net_insertion::{Insertion, Place};
 use net_node::TimedEvent;
+use refusals::Refusal;
 
 // Where a run stands after an answer.
-fn place_after(answer: Inserted, old: Place) -> Place
+fn place_after(answer: Result<Insertion, Refusal>, old: Place) -> Place
     ensures { result ≡ place_after answer old }
 {
     match answer {
-        Inserted::Added(place, _) => place,
-        Inserted::Moved(place) => place,
-        Inserted::Refused(_) => old,
+        Ok(Insertion::Added { place, .. }) => place,
+        Ok(Insertion::Moved(place)) => place,
+        Err(_) => old,
     }
 }
 
@@ -38,7 +39,7 @@ pub fn insert_est_time(
     join: f64,
     est_alt: &mut Place,
     est_insert: TimedEvent,
-) -> Inserted
+) -> Result<Insertion, Refusal>
     requires room { Room floats.old numbers.old places }
     requires n_le_places { n ≤ places }
     requires indexed { Indexed (node_at floats.old numbers.old) n }

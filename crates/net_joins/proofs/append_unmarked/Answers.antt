@@ -1,73 +1,51 @@
 -- `net_joins::append_unmarked` meets its contract: `Appending` is the loop's invariant, and the nodes of a chain rise.
-use mathlib.Core.Path.{refl}
+use mathlib.Core.Path.{◌≡◌, sym, ap, ◌∙◌}
+use mathlib.Core.Bool.{Bool, not}
+use mathlib.Core.Option.{some}
+use Prim.Native.Nat.{◌+◌, ◌*◌}
 use native.Mathlib.Omega.{arith}
-use Rattle.net_joins.proofs.Appending.{appending_start, appending_whole, link_here, turns_less, appending_kept, appending_over, appending_on}
+use lib.Dec.{eqb}
+use lib.ListN.{get_or}
+use Rattle.arrayvec.specs.ArrayVec.{ArrayVec}
+use Rattle.net_join_paths.specs.declared.EstJoinPath.{EstJoinPath}
+use Rattle.net_join_paths.specs.Entries.{entry}
+use Rattle.net_join_paths.proofs.Entries.{over_as}
+use Rattle.net_joins.specs.Joins.{appended_if}
+use Rattle.net_joins.proofs.Appending.{mark_none, mark_some, appending_start, appending_whole, link_here, turns_less, appending_over, appending_on}
 use Rattle.net_joins.proofs.append_unmarked.Goals as goal
+use Rattle.net_joins.proofs.append_unmarked.Goals.{After-next_node-i, then-not-marked+in_ok-push_entry, else-not-marked}
+
+-- the node is put behind the list unless it is marked
+got : (c : After-next_node-i) → appended_if (not (eqb (get_or c.args.cells.now (c.args.w.nodes_at + c.loop-i.i * 8 + 1) 0) 0)) c.args.link_idx c.loop-i.i c.loop-i.list.items ≡ some c.if-not-marked.list.items
+unfolding entry
+got c =
+    let put = λ (b : Bool). appended_if b c.args.link_idx c.loop-i.i c.loop-i.list.items in
+    let items = λ (l : ArrayVec EstJoinPath). some l.items in
+    elim c.if-not-marked.branch [
+      then-not-marked+in_ok-push_entry w ↦ ap put (mark_none _ w.if-not-marked.true) ∙ w.in_ok-push_entry.ensures.list ∙ ap items (sym w.list-is)
+    | else-not-marked w ↦ ap put (mark_some _ w.if-not-marked.false) ∙ ap items (sym w.list-is)
+    ]
 
 pub loop-i-init : goal.loop-i-init
-loop-i-init c = (refl, appending_start _ _ _ _ _ _ c.requires.ending c.requires.count_bound c.first_node-i.ensures)
-
-pub overflow_cast-named : goal.overflow_cast-named
-overflow_cast-named c = let h = link_here c.loop-i.invariant.1 c.loop-i-test.true in omega (arith, h.placed, c.requires.cells_apart.nodes_inside)
-
-pub overflow_mul-named : goal.overflow_mul-named
-overflow_mul-named c = let h = link_here c.loop-i.invariant.1 c.loop-i-test.true in omega (arith, h.placed, c.requires.cells_apart.nodes_inside)
-
-pub overflow_add-named : goal.overflow_add-named
-overflow_add-named c = let h = link_here c.loop-i.invariant.1 c.loop-i-test.true in omega (arith, h.placed, c.requires.cells_apart.nodes_inside)
-
-pub overflow_add-named-in-loop-i : goal.overflow_add-named-in-loop-i
-overflow_add-named-in-loop-i c = let h = link_here c.loop-i.invariant.1 c.loop-i-test.true in omega (arith, h.placed, c.requires.cells_apart.nodes_inside)
-
-pub offset_bounds-cells-w : goal.offset_bounds-cells-w
-offset_bounds-cells-w c = let h = link_here c.loop-i.invariant.1 c.loop-i-test.true in omega (arith, h.placed, c.requires.cells_apart.nodes_inside)
+loop-i-init c = appending_start _ _ _ _ _ c.requires.ending c.first_node-i.ensures
 
 pub bounds-cells-w : goal.bounds-cells-w
-bounds-cells-w c = let h = link_here c.loop-i.invariant.1 c.loop-i-test.true in omega (arith, h.placed, c.requires.cells_apart.nodes_inside)
+bounds-cells-w c = let h = link_here c.loop-i.invariant c.loop-i-test.true in omega (arith, h.placed, c.requires.cells_apart.nodes_inside)
 
-pub append_unless-requires : goal.append_unless-requires
-append_unless-requires c = record {
-  in_bounds = omega (arith, c.loop-i.invariant.0, c.requires.in_bounds);
-  n_bound = c.loop-i.invariant.1.few;
-}
+pub returns-in_err-push_entry-clause-list : goal.returns-in_err-push_entry-clause-list
+unfolding entry
+returns-in_err-push_entry-clause-list c =
+    let p = c.in_err-push_entry.ensures.list in
+    λ is x. over_as _ _ c.from_residual.ensures (appending_over c.loop-i.invariant c.loop-i-test.true c.requires.names_marked (ap (λ (b : Bool). appended_if b c.args.link_idx c.loop-i.i c.loop-i.list.items) (mark_none _ c.if-not-marked.true) ∙ p.0) is x) p.1
 
-pub shape_of-list-in_default : goal.shape_of-list-in_default
-shape_of-list-in_default c = omega (arith, c.append_unless.auto, c.loop-i.invariant.0)
-
-pub returns-in_default : goal.returns-in_default
-returns-in_default c =
-    let p = c.append_unless in
-    let v = c.loop-i.invariant.1 in
-    let h = c.loop-i-test.true in
-    let m = c.requires.names_marked in
-    record {
-      list = appending_over v h m p.new.list p.result p.ensures.list p.ensures.kept c.in_default.is;
-      kept = appending_kept v h m p.new.list p.result p.ensures.list p.ensures.kept;
-    }
-
-pub next_node-i-requires : goal.next_node-i-requires
-next_node-i-requires c = let h = link_here c.loop-i.invariant.1 c.loop-i-test.true in
-    record {
-      cells_apart = c.requires.cells_apart;
-      i_lt_places = h.placed;
-    }
+pub next_node-i-requires-clause-i_lt_places : goal.next_node-i-requires-clause-i_lt_places
+next_node-i-requires-clause-i_lt_places c = (link_here c.loop-i.invariant c.loop-i-test.true).placed
 
 pub loop-i-smaller : goal.loop-i-smaller
-loop-i-smaller c = turns_less c.loop-i.invariant.1 c.loop-i-test.true _ c.next_node-i.ensures
+loop-i-smaller c = turns_less c.loop-i.invariant c.loop-i-test.true _ c.next_node-i.ensures
 
 pub loop-i-preserved : goal.loop-i-preserved
-loop-i-preserved c =
-    let p = c.append_unless in (
-      omega (arith, c.append_unless.auto, c.loop-i.invariant.0),
-      appending_on c.loop-i.invariant.1 c.loop-i-test.true c.requires.names_marked p.new.list p.result p.ensures.list p.ensures.kept c.in-Entries.more c.in-Entries.is _ c.next_node-i.ensures,
-    )
+loop-i-preserved c = appending_on c.loop-i.invariant c.loop-i-test.true c.requires.names_marked _ (got (goal.at.loop-i-preserved c).After-next_node-i) _ c.next_node-i.ensures
 
-pub shape_of-list : goal.shape_of-list
-shape_of-list c = c.loop-i.invariant.0
-
-pub returns : goal.returns
-returns c = let v = c.loop-i.invariant.1 in
-    record {
-      list = appending_whole v c.loop-i-test.false;
-      kept = v.kept;
-    }
+pub returns-clause-list : goal.returns-clause-list
+returns-clause-list c = appending_whole c.loop-i.invariant c.loop-i-test.false

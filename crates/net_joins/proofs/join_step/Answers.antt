@@ -1,104 +1,57 @@
 -- `net_joins::join_step` meets its contract: each way to end is a law of proofs/Answers.antt.
-use mathlib.Core.Path.{refl, ◌∙◌}
-use native.Mathlib.Omega.{arith}
+use mathlib.Core.Path.{◌≡◌, sym, ap, ◌∙◌, subst}
+use mathlib.Core.List.{List, []}
+use mathlib.Core.Option.{some}
 use Rattle.net_node.specs.Table.{node_at}
-use Rattle.net_join_paths.specs.Entries.{entries_in}
+use Rattle.net_join_paths.specs.declared.EstJoinPath.{EstJoinPath}
+use Rattle.net_join_paths.specs.Entries.{Valid}
 use Rattle.net_join_paths.proofs.Entries.{valid_wider}
-use Rattle.net_joins.specs.Joins.{appended}
+use Rattle.net_strands.specs.Space.{extended_all}
+use Rattle.net_joins.specs.declared.SpeedJoin.{SpeedJoin}
+use Rattle.net_joins.specs.Joins.{closest}
 use Rattle.net_joins.proofs.Choosing.{chosen_within}
-use Rattle.net_joins.proofs.Answers.{room_less, cells_ungiven, cells_apart, cells_mapped, list_built, step_over, step_joins, step_goes, table_left_lem}
+use Rattle.net_joins.proofs.Answers.{cells_mapped, list_built, beyond_as, step_over, step_joins, step_goes}
 use Rattle.net_joins.proofs.join_step.Goals as goal
+use Rattle.net_joins.proofs.join_step.Goals.{In_ok-update_join_paths_space, After-closest_of-best}
 
-pub update_join_paths_space-rebuilt-requires : goal.update_join_paths_space-rebuilt-requires
-update_join_paths_space-rebuilt-requires c =
-    let r = c.requires in
-    let q = r in
-    record {
-      walk_room = record { table = room_less _ r.n_le_places r.room; indexed = r.indexed; within = r.n_le_places; apart = r.cells_apart; stack_room = q.stack_length_in_bounds; list_room = q.in_bounds_2 };
-      valid = q.valid;
-      count_bound = q.count_bound;
-      in_bounds = q.in_bounds;
-      nodes_nonzero = r.le_n;
-      ungiven = cells_ungiven r.mapped;
-    }
+-- the list was rebuilt
+built : (c : In_ok-update_join_paths_space) → extended_all (node_at c.args.floats.now c.args.numbers.now) c.args.n c.args.est_time_add.link_event c.contains-seen.result c.args.joins.now.items [] ≡ some c.update_join_paths_space.new.list.items
+built c =
+    ap (λ (old : List EstJoinPath). extended_all (node_at c.args.floats.now c.args.numbers.now) c.args.n c.args.est_time_add.link_event c.contains-seen.result old []) (sym c.deref.ensures.0)
+    ∙ c.in_ok-update_join_paths_space.ensures.list
 
-pub returns-in_default : goal.returns-in_default
-returns-in_default c =
-    let r = c.requires in
-    let u = c.update_join_paths_space-rebuilt in
-    record {
-      answer = step_over _ _ _ _ _ _ _ (c.contains-seen.ensures _ _ r.mapped) u.new.list u.result u.ensures.list c.args.joins.now c.in_default.is;
-      table = (refl, refl);
-      cells = u.ensures.cells;
-    }
+-- its entries name nodes
+valid : (c : In_ok-update_join_paths_space) → Valid c.update_join_paths_space.new.list.items c.args.n
+valid c = list_built c.requires.indexed _ _ _ _ c.requires.valid (built c)
 
-pub closest_entry-best-requires : goal.closest_entry-best-requires
-closest_entry-best-requires c =
-    let r = c.requires in
-    let q = r in
-    let u = c.update_join_paths_space-rebuilt in
-    let b = c.args in
-    let l = list_built r.indexed b.est_time_add.link_event c.contains-seen.result (entries_in b.joins.now b.count) q.valid u.new.list u.result u.ensures.list c.in-Entries.k c.in-Entries.is in
-    record {
-      room = room_less _ r.n_le_places r.room;
-      valid = l.valid;
-      count_bound = l.few;
-      in_bounds = omega (arith, q.in_bounds_2, u.auto);
-    }
+-- the choice among them
+best : (c : After-closest_of-best) → c.closest_of-best.result ≡ closest (node_at c.args.floats.now c.args.numbers.now) c.args.join c.args.est_time_add.speed c.update_join_paths_space.new.list.items
+best c = c.closest_of-best.ensures ∙ ap (closest (node_at c.args.floats.now c.args.numbers.now) c.args.join c.args.est_time_add.speed) c.deref-2.ensures.0
 
-pub join_target-requires : goal.join_target-requires
-join_target-requires c =
-    let r = c.requires in
-    let q = r in
-    let u = c.update_join_paths_space-rebuilt in
-    let b = c.args in
-    let l = list_built r.indexed b.est_time_add.link_event c.contains-seen.result (entries_in b.joins.now b.count) q.valid u.new.list u.result u.ensures.list c.in-Entries.k c.in-Entries.is in
-    record {
-      room = r.room;
-      indexed = r.indexed;
-      target_lt_n = chosen_within _ _ _ _ _ c.closest_entry-best.result c.closest_entry-best.ensures l.valid c.if-best-join.true;
-    }
+pub returns-in_err-update_join_paths_space-clause-answer : goal.returns-in_err-update_join_paths_space-clause-answer
+returns-in_err-update_join_paths_space-clause-answer c =
+    let p = c.in_err-update_join_paths_space.ensures.list in
+    let a = ap (λ (old : List EstJoinPath). extended_all (node_at c.args.floats.now c.args.numbers.now) c.args.n c.args.est_time_add.link_event c.contains-seen.result old []) (sym c.deref.ensures.0) ∙ p.0 in
+    beyond_as _ _ c.from_residual.ensures (step_over _ _ _ _ _ _ c.contains-seen.result (c.contains-seen.ensures _ _ c.requires.mapped) a) p.1
 
-pub returns-then-best-join : goal.returns-then-best-join
-returns-then-best-join c =
-    let r = c.requires in
-    let u = c.update_join_paths_space-rebuilt in
-    let b = c.args in
-    let j = c.join_target in
-    record {
-      answer = step_joins (node_at b.floats.now b.numbers.now) b.n b.w.places b.join b.est_time_add (entries_in b.joins.now b.count) c.contains-seen.result (c.contains-seen.ensures _ _ r.mapped) u.new.list u.result u.ensures.list c.in-Entries.k c.in-Entries.is c.closest_entry-best.result c.closest_entry-best.ensures _ j.result c.if-best-join.true (j.ensures.answer _);
-      table = j.ensures.table;
-      cells = u.ensures.cells;
-    }
+pub closest_of-best-requires-clause-valid : goal.closest_of-best-requires-clause-valid
+closest_of-best-requires-clause-valid c =
+    subst (λ (es : List EstJoinPath). Valid es c.args.n) (sym c.deref-2.ensures.0) (valid (goal.at.closest_of-best-requires-clause-valid c).In_ok-update_join_paths_space)
 
-pub go_on-requires : goal.go_on-requires
-go_on-requires c =
-    let r = c.requires in
-    let q = r in
-    let u = c.update_join_paths_space-rebuilt in
-    let b = c.args in
-    let l = list_built r.indexed b.est_time_add.link_event c.contains-seen.result (entries_in b.joins.now b.count) q.valid u.new.list u.result u.ensures.list c.in-Entries.k c.in-Entries.is in
-    record {
-      cells_apart = cells_apart r.cells_apart u.ensures.cells;
-      real = r.real;
-      count_bound = l.few;
-      in_bounds = omega (arith, q.in_bounds_2, u.auto);
-      in_bounds_2 = q.in_bounds;
-      valid = valid_wider _ r.n_le_places l.valid;
-      map_walkable = record { node = _; n = _; inside = r.n_le_places; mapped = cells_mapped r.mapped u.ensures.cells };
-    }
+pub join_target-requires-clause-target_lt_n : goal.join_target-requires-clause-target_lt_n
+join_target-requires-clause-target_lt_n c =
+    chosen_within _ _ _ _ _ _ (best (goal.at.join_target-requires-clause-target_lt_n c).After-closest_of-best) (valid (goal.at.join_target-requires-clause-target_lt_n c).In_ok-update_join_paths_space) c.if-best-join.true
 
-pub returns : goal.returns
-returns c =
-    let r = c.requires in
-    let m = r.mapped in
-    let u = c.update_join_paths_space-rebuilt in
-    let g = c.go_on in
-    let b = c.args in
-    let k = cells_mapped m u.ensures.cells in
-    let a = g.ensures.answer _ _ r.n_le_places k in
-    record {
-      answer = step_goes (node_at b.floats.now b.numbers.now) b.n b.w.places b.join b.est_time_add (entries_in b.joins.now b.count) c.contains-seen.result (c.contains-seen.ensures _ _ m) u.new.list u.result u.ensures.list c.in-Entries.k c.in-Entries.is c.closest_entry-best.result c.closest_entry-best.ensures _ g.result c.if-best-join.false a;
-      table = table_left_lem _ _ _ (appended (node_at b.floats.now b.numbers.now) b.n b.est_time_add.link_event (entries_in u.new.list c.in-Entries.k)) g.new.joins g.result a;
-      cells = g.ensures.cells _ _ k ∙ u.ensures.cells;
-    }
+pub returns-then-best-join-clause-answer : goal.returns-then-best-join-clause-answer
+returns-then-best-join-clause-answer c =
+    let at = goal.at.returns-then-best-join-clause-answer c in
+    step_joins _ _ _ _ _ _ c.contains-seen.result (c.contains-seen.ensures _ _ c.requires.mapped) _ (built at.In_ok-update_join_paths_space) _ (best at.After-closest_of-best) _ _ c.if-best-join.true (c.join_target.ensures.answer _)
+
+pub go_on-requires-clause-valid : goal.go_on-requires-clause-valid
+go_on-requires-clause-valid c = valid_wider _ c.requires.n_le_places (valid (goal.at.go_on-requires-clause-valid c).In_ok-update_join_paths_space)
+
+pub returns-clause-answer : goal.returns-clause-answer
+returns-clause-answer c =
+    let at = goal.at.returns-clause-answer c in
+    step_goes _ _ _ _ _ _ c.contains-seen.result (c.contains-seen.ensures _ _ c.requires.mapped) _ (built at.In_ok-update_join_paths_space) _ (best at.After-closest_of-best) _ _ c.if-best-join.false
+    (c.go_on.ensures.answer _ _ c.requires.n_le_places (cells_mapped c.requires.mapped c.update_join_paths_space.ensures.cells))

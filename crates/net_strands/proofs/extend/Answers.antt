@@ -12,7 +12,7 @@ returns-then-node-eq0 c = let r = c.requires in extends_none r.given _ (extended
 pub returns-then-not-arrive-cleared : goal.returns-then-not-arrive-cleared
 returns-then-not-arrive-cleared c =
     let p = c.push_entry in
-    extends_pushed c.requires.given _ c.args.x (extended_copied _ _ _ _ _ _ _ c.load-node.ensures c.if-node-eq0.false _ (c.eq-arrive.ensures ∙ arrive_eq _) (ap not c.if-not-arrive-cleared.true)) p.new.list.items p.result p.ensures
+    extends_pushed c.requires.given _ c.args.x (extended_copied _ _ _ _ _ _ _ c.load-node.ensures c.if-node-eq0.false _ (c.eq-arrive.ensures ∙ arrive_eq _) (ap not c.if-not-arrive-cleared.true)) p.new.list.items p.result p.ensures.list
 
 pub returns-then-not-seen : goal.returns-then-not-seen
 returns-then-not-seen c =

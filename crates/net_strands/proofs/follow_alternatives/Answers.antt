@@ -18,7 +18,7 @@ got c =
     let pushed = λ (b : Bool). pushed_if b c.loop-x.list.items (entry c.args.link_idx_match c.load-node.result.idx_next) in
     let items = λ (l : ArrayVec EstJoinPath). some l.items in
     elim c.if-eq.branch [
-      | then-eq+in_ok-push_entry w ↦ ap pushed w.if-eq.true ∙ w.in_ok-push_entry.ensures ∙ ap items (sym w.list-is)
+      | then-eq+in_ok-push_entry w ↦ ap pushed w.if-eq.true ∙ w.in_ok-push_entry.ensures.list ∙ ap items (sym w.list-is)
       | else-eq w ↦ ap pushed w.if-eq.false ∙ ap items (sym w.list-is)
     ]
 
@@ -28,7 +28,7 @@ loop-x-init c = following_start _ _ _ _ _ _ c.requires.start_lt_nodes
 pub returns-in_err-push_entry : goal.returns-in_err-push_entry
 unfolding entry
 returns-in_err-push_entry c =
-    let p = c.in_err-push_entry.ensures in
+    let p = c.in_err-push_entry.ensures.list in
     over_as _ _ c.from_residual.ensures (following_over c.requires.indexed c.loop-x.invariant _ c.load-node.ensures _ c.load-there.ensures true (sym c.if-eq.true ∙ c.eq.ensures ∙ event_eq _ _) p.0) p.1
 
 pub returns-then-node-eq0 : goal.returns-then-node-eq0

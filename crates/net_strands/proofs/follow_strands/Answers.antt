@@ -42,7 +42,7 @@ got c =
     let pushed = λ (b : Bool). pushed_if b c.loop-left.list.items (entry c.args.link_idx_match c.load-node.result.idx_next) in
     let items = λ (l : ArrayVec EstJoinPath). some l.items in
     elim c.if-has_event.branch [
-      | then-has_event+in_ok-push_entry w ↦ ap pushed w.if-has_event.true ∙ w.in_ok-push_entry.ensures ∙ ap items (sym w.list-is)
+      | then-has_event+in_ok-push_entry w ↦ ap pushed w.if-has_event.true ∙ w.in_ok-push_entry.ensures.list ∙ ap items (sym w.list-is)
       | else-has_event w ↦ ap pushed w.if-has_event.false ∙ ap items (sym w.list-is)
     ]
 
@@ -109,7 +109,7 @@ strands-preserved-in-Some-noted_span c =
 pub returns-in_err-push_entry : goal.returns-in_err-push_entry
 unfolding entry
 returns-in_err-push_entry c =
-    let p = c.in_err-push_entry.ensures in
+    let p = c.in_err-push_entry.ensures.list in
     extends_over _ _ c.from_residual-in_err-push_entry.ensures (standing_full _ _ _ _ _ c.loop-left.invariant.1 c.requires.walk_room.indexed _ c.load-node.ensures _ c.load-there.ensures _ (whole (goal.at.returns-in_err-push_entry c).At-loop-left) (sym (event_eq _ _) ∙ sym c.eq-has_event.ensures ∙ c.if-has_event.true) p.0) p.1 c.strands.invariant.4
 
 pub strands-preserved : goal.strands-preserved
