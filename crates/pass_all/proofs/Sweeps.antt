@@ -6,7 +6,7 @@ use Prim.Native.Nat.{ℕ, ◌+◌, ◌≤◌, ◌<◌}
 use native.Mathlib.Omega.{arith}
 use lib.Dec.{ltb}
 use lib.ListN.{get_or}
-use lib.Ieee.{binary64, eq, of_bits}
+use lib.Ieee.{binary64, eq, ne, of_bits}
 use Rattle.laws.specs.Below.{some_below}
 use Rattle.laws.proofs.Below.{some_at, some_more, none_more}
 use Rattle.net_node.specs.declared.EstTime.{EstTime}
@@ -31,24 +31,21 @@ module _ (p : ℕ → Bool) (n : ℕ) where
 
 -- ---- row 15: a node that is not done
 
-unfoldable pub not_done : List ℕ → ℕ → ℕ → Bool
-not_done cells base i = not (done_in cells base i)
+unfoldable pub not_done : List ℕ → ℕ → Bool
+not_done flags i = not (done_in flags i)
 
-module _ (cells : List ℕ) (base : ℕ) where
-  left_is : (n : ℕ) → some_left (done_in cells base) n ≡ some_below n (not_done cells base)
-  unfolding some_left not_done
-  left_is n = refl
-
-  pub left_start : false ≡ some_below 0 (not_done cells base)
+module _ (flags : List ℕ) where
+  pub left_start : false ≡ some_below 0 (not_done flags)
   unfolding some_below
   left_start = refl
 
-  pub left_on : (i : ℕ) (left : Bool) → left ≡ some_below i (not_done cells base) → (left || not (ltb 0 (get_or cells (base + i) 0))) ≡ some_below (i + 1) (not_done cells base)
+  pub left_on : (i : ℕ) (left : Bool) → left ≡ some_below i (not_done flags) → (left || not (ltb 0 (get_or flags i 0))) ≡ some_below (i + 1) (not_done flags)
   unfolding not_done done_in
-  left_on i left e = ap (λ (t : Bool). t || not (ltb 0 (get_or cells (base + i) 0))) e ∙ sym (some_more i (not_done cells base))
+  left_on i left e = ap (λ (t : Bool). t || not (ltb 0 (get_or flags i 0))) e ∙ sym (some_more i (not_done flags))
 
-  pub left_end : (n i : ℕ) (left : Bool) → i ≤ n → left ≡ some_below i (not_done cells base) → n ≤ i → left ≡ some_left (done_in cells base) n
-  left_end n i left h e m = let d : i ≡ n = omega (arith, h, m) in e ∙ ap (λ (k : ℕ). some_below k (not_done cells base)) d ∙ sym (left_is n)
+  pub left_end : (n i : ℕ) (left : Bool) → i ≤ n → n ≤ i → left ≡ some_below i (not_done flags) → left ≡ some_left (done_in flags) n
+  unfolding some_left not_done
+  left_end n i left h m e = let d : i ≡ n = omega (arith, h, m) in e ∙ ap (λ (k : ℕ). some_below k (not_done flags)) d
 
 -- ---- row 16: a time that is not 0 or -0
 
@@ -64,14 +61,14 @@ module _ (t : Table) (n : ℕ) where
   zero_start = none_start (not_zero t) n
 
   module _ (i : ℕ) (v : NoneYet (not_zero t) n i) where
-    zero_here : (x : EstTime) (b : Bool) → x ≡ node_at t.floats t.numbers i → not (eq x.time_sched (of_bits binary64 0)) ≡ b → not_zero t i ≡ b
-    unfolding not_zero at
+    zero_here : (x : EstTime) (b : Bool) → x ≡ node_at t.floats t.numbers i → ne x.time_sched (of_bits binary64 0) ≡ b → not_zero t i ≡ b
+    unfolding not_zero at ne
     zero_here x b e d = ap (λ (y : EstTime). not (eq y.time_sched (of_bits binary64 0))) (sym e) ∙ d
 
-    pub zero_hit : i < n → (x : EstTime) → x ≡ node_at t.floats t.numbers i → not (eq x.time_sched (of_bits binary64 0)) ≡ true → false ≡ all_zero t n
+    pub zero_hit : i < n → (x : EstTime) → x ≡ node_at t.floats t.numbers i → ne x.time_sched (of_bits binary64 0) ≡ true → false ≡ all_zero t n
     zero_hit h x e d = sym (zero_is ∙ ap not (some_at n (not_zero t) i h (zero_here x true e d)))
 
-    pub zero_on : i < n → (x : EstTime) → x ≡ node_at t.floats t.numbers i → not (eq x.time_sched (of_bits binary64 0)) ≡ false → NoneYet (not_zero t) n (i + 1)
+    pub zero_on : i < n → (x : EstTime) → x ≡ node_at t.floats t.numbers i → ne x.time_sched (of_bits binary64 0) ≡ false → NoneYet (not_zero t) n (i + 1)
     zero_on h x e d = none_on (not_zero t) n i v h (zero_here x false e d)
 
     pub zero_end : n ≤ i → true ≡ all_zero t n

@@ -1,5 +1,5 @@
 -- What the code of rows 14 to 16 answers: the checks and both passes are `passes` of pass_rules' specs/Passes.antt.
-use Rattle.std.specs.Prelude.{◌≡◌, ◌≢◌, Bool, true, false, ℕ}
+use Rattle.std.specs.Prelude.{◌≡◌, ◌≢◌, ℕ}
 use Rattle.laws.specs.Answer.{Answer, refused, given}
 use Rattle.net_node.specs.Table.{Table}
 
@@ -7,8 +7,3 @@ use Rattle.net_node.specs.Table.{Table}
 abbrev pub TimedAs : Answer Table → ℕ → Table → Type 0
 TimedAs (refused k) number left = (number ≡ k) × (k ≢ 0)
 TimedAs (given t) number left = (number ≡ 0) × (left ≡ t)
-
--- Row 16's number, where it holds
-abbrev pub sixteen_if : Bool → ℕ
-sixteen_if true = 16
-sixteen_if false = 0

@@ -43,18 +43,6 @@ pub size_inside : (n units : ℕ) → (ltb n 3 || ltb 65535 n) ≡ false → ltb
 unfolding table_row3
 size_inside n units e = units_asked n units (size_most n e) ∙ sym (ap (λ (t : Bool). t || ltb (64 * units) (36864 + 64 * min n 65535)) e)
 
--- ---- rows 4 and 5 of a node
-
-pub bad_is : (x : EstTime) (kind : ℕ) (p q r s : Bool) → p ≡ table_float x.time_sched → q ≡ table_float x.time_to_next → r ≡ table_float x.dist_to_next → s ≡ table_float x.speed
-    → (not p || not q || not r || not s || ltb 2 kind) ≡ (bad_floats x || ltb 2 kind)
-unfolding bad_floats
-bad_is x kind p q r s e f g h = cc (e, f, g, h)
-
-pub stray_is : (n : ℕ) (x : EstTime) (p q r s : Bool) → p ≡ leb n x.idx_next → q ≡ leb n x.idx_next_alt → r ≡ leb n x.idx_prev → s ≡ leb n x.idx_prev_alt
-    → (p || q || r || s) ≡ stray_node n x
-unfolding stray_node
-stray_is n x p q r s e f g h = cc (e, f, g, h)
-
 -- ---- the sweep over the nodes
 
 pub record Swept (t : Table) (n i : ℕ) (found : Bool) : Type 0 where
@@ -93,11 +81,11 @@ module _ (fs : List Float) (us : List ℕ) (n : ℕ) where
           ∙ sym (some_more i (λ k. stray_node n (at lent k)));
     }
 
-    pub sweep_end : (r : ℕ) → n ≤ i → r ≡ first_of (row 5 found ∷ []) → r ≡ nodes_number lent n
+    pub sweep_end : (t : Bool) → n ≤ i → found ≡ t → first_of (row 5 t ∷ []) ≡ nodes_number lent n
     unfolding nodes_number table_row5
-    sweep_end r h e =
+    sweep_end t h e =
         let d : i ≡ n = omega (arith, v.within) in
-        e
+        ap (λ (u : Bool). first_of (row 5 u ∷ [])) (sym e)
         ∙ ap (λ (t : Bool). first_of (row 5 t ∷ [])) (v.strays ∙ ap (λ (k : ℕ). some_below k (λ j. stray_node n (at lent j))) d)
         ∙ sym (first_passed 4 (some_below n (bad_node lent)) (row 5 (table_row5 lent n) ∷ []) (ap (λ (k : ℕ). some_below k (bad_node lent)) (sym d) ∙ v.good))
 
@@ -184,11 +172,11 @@ pub nodes_fit : (fs : List Float) (us : List ℕ) (n : ℕ) → n ≡ nodes_in (
 unfolding nodes_in
 nodes_fit fs us n e = (omega arith, omega arith)
 
-pub ready : (fs : List Float) (us : List ℕ) (n : ℕ) (departure : Float) (units rs cs ms number : ℕ) → n ≡ nodes_in (record { floats = fs; numbers = us }) → units ≡ units_of rs cs ms
-    → number ≡ first_number (record { floats = fs; numbers = us }) n departure (64 * units) → number ≡ 0 → Ready fs us n rs cs ms
+pub ready : (fs : List Float) (us : List ℕ) (n : ℕ) (departure : Float) (units rs cs ms : ℕ) → n ≡ nodes_in (record { floats = fs; numbers = us }) → units ≡ units_of rs cs ms
+    → 0 ≡ first_number (record { floats = fs; numbers = us }) n departure (64 * units) → Ready fs us n rs cs ms
 unfolding units_of
-ready fs us n departure units rs cs ms number e f g z =
-    let d = none_of_three (record { floats = fs; numbers = us }) n departure (64 * units) (sym g ∙ z) in
+ready fs us n departure units rs cs ms e f g =
+    let d = none_of_three (record { floats = fs; numbers = us }) n departure (64 * units) (sym g) in
     let s = sizes_hold n units d.0 in
     let h = nodes_fit fs us n e in record {
       room = record { floats = h.0; numbers = h.1; most = s.1.0 };

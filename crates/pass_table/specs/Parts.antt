@@ -1,10 +1,8 @@
 -- Words of the table entry's parts. Only the contracts of private functions use them.
-use Rattle.std.specs.Prelude.{[], ◌∷◌, ℕ, zero, suc, Float}
+use Rattle.std.specs.Prelude.{[], ◌∷◌, ℕ, Float}
 use Rattle.net_node.specs.Table.{Table}
 use Rattle.laws.specs.Below.{some_below}
 use Rattle.laws.specs.Refusals.{row, first_of}
-use Rattle.pass_table.specs.declared.TimedTable.{TimedTable}
-use Rattle.pass_table.specs.declared.TimedTable.TheVariants.{Whole, Refused}
 use Rattle.pass_table.specs.TableEntry.{table_row5, table_rows, bad_node}
 
 -- rows 4 and 5, as far as the nodes tell
@@ -15,12 +13,3 @@ nodes_number t n = first_of (row 4 (some_below n (bad_node t)) ∷ row 5 (table_
 unfoldable pub first_number : Table → ℕ → Float → ℕ → ℕ
 unfolding table_rows
 first_number t n departure bytes = first_of (table_rows t n departure bytes)
-
--- the nodes that a number leaves, and the answer that it is
-abbrev pub kept_nodes : ℕ → ℕ → ℕ
-kept_nodes zero n = n
-kept_nodes (suc k) n = 0
-
-abbrev pub answer_as : ℕ → ℕ → TimedTable
-answer_as zero n = Whole n
-answer_as (suc k) n = Refused (suc k)

@@ -1,8 +1,10 @@
 -- The table entry, document 01: "The passes also accept a lent node table of 3 to 65,535 nodes and a departure (row 4,
 -- either sign); each node's time is checked, then read as untimed. It gives 3, 4, 5, 14, 15 or 16. Its report: nodes
 -- alone."
-use Rattle.std.specs.Prelude.{◌≡◌, Bool, not, ◌||◌, List, [], ◌∷◌, ℕ, ◌+◌, ◌*◌, min, ltb, leb, length, Float}
-use Rattle.laws.specs.Answer.{Answer, refused, given, and_then, unless}
+use Rattle.std.specs.Prelude.{◌≡◌, Bool, not, ◌||◌, List, [], ◌∷◌, ℕ, ◌+◌, ◌*◌, min, ltb, leb, length, Float, Result}
+use Rattle.laws.specs.Answer.{Answer, given, and_then, unless}
+use Rattle.refusals.specs.Refusals.{told}
+use Rattle.refusals.specs.declared.Refusal.{Refusal}
 use Rattle.net_node.specs.Table.{Table, at}
 use Rattle.net_node.specs.Left.{Network, nodes_in, kind_at, floats_left, numbers_left}
 use Rattle.net_node.specs.Lent.{Slices}
@@ -12,8 +14,6 @@ use Rattle.floats.specs.Floats.{table_float}
 use Rattle.space.specs.Lent.{bytes_in, Cleared}
 use Rattle.net_node.specs.declared.EstTime.{EstTime}
 use Rattle.pass_rules.specs.Passes.{passes}
-use Rattle.pass_table.specs.declared.TimedTable.{TimedTable}
-use Rattle.pass_table.specs.declared.TimedTable.TheVariants.{Whole, Refused}
 
 -- Row 3: "table handed to the passes outside 3 to 65,535 nodes; work space below 36,864 + 64 times (.. table places up
 -- to 65,535) bytes"
@@ -67,23 +67,14 @@ unfolding table_times
 times_of lent departure = and_then (table_times lent.table departure (bytes_in lent.work))
     (wholly (nodes_in lent.table))
 
-abbrev pub timed_answer : Answer Network → TimedTable
-timed_answer (refused k) = Refused k
-timed_answer (given x) = Whole x.nodes
-
--- document 01's number, and the report's nodes, for each answer
-abbrev pub table_number : TimedTable → ℕ
-table_number (Whole n) = 0
-table_number (Refused k) = k
-
-abbrev pub table_nodes : TimedTable → ℕ
-table_nodes (Whole n) = n
-table_nodes (Refused k) = 0
+-- how many nodes an answer has
+abbrev pub nodes_told : Answer Network → Answer ℕ
+nodes_told answer = and_then answer (λ (x : Network). given x.nodes)
 
 -- "Accepted: nodes in the lent table (.. as many places as both slices fill, all else zero)"; "Refused: the number;
 -- every lent table .. zero"; "Work space is zero either way."
-pub record TimesUpdated (lent left : Slices) (departure : Float) (r : TimedTable) : Type 0 where
-  pub answer : r ≡ timed_answer (times_of lent departure)
+pub record TimesUpdated (lent left : Slices) (departure : Float) (r : Result ℕ Refusal) : Type 0 where
+  pub answer : told r ≡ nodes_told (times_of lent departure)
   pub floats : left.table.floats ≡ floats_left (times_of lent departure) (length lent.table.floats)
   pub numbers : left.table.numbers ≡ numbers_left (times_of lent departure) (length lent.table.numbers)
   pub work : Cleared lent.work left.work

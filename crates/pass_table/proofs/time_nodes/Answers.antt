@@ -1,51 +1,52 @@
 -- `pass_table::time_nodes` meets its contract.
-use mathlib.Core.Path.{sym}
+use mathlib.Core.Path.{refl, sym}
 use native.Mathlib.Omega.{arith}
 use lib.Seq.{length-take-le}
+use Rattle.net_node.specs.Left.{nodes_in}
 use Rattle.space.proofs.Zeros.{zeros_again}
-use Rattle.pass_table.proofs.FirstRows.{nodes_fit, ready, flags_fit}
-use Rattle.pass_table.proofs.Answers.{told_first, told_passes}
+use Rattle.pass_table.proofs.FirstRows.{ready, flags_fit}
+use Rattle.pass_table.proofs.Answers.{handed_on, told_first, told_passes}
 use Rattle.pass_table.proofs.time_nodes.Goals as goal
 
-pub first_number-number-requires : goal.first_number-number-requires
-first_number-number-requires c =
-    let all = nodes_fit _ _ _ c.requires in
-    record {
-      float_width_in_bounds = all.0;
-      number_width_in_bounds = all.1;
-    }
-
-pub returns-then-number-ne0 : goal.returns-then-number-ne0
-returns-then-number-ne0 c = told_first _ _ _ _ _ _ _ _ c.requires c.units-units.ensures c.first_number-number.ensures _ c.if-number-ne0.true
-
-pub overflow_mul-flags : goal.overflow_mul-flags
-overflow_mul-flags c =
-    let r = ready _ _ _ _ _ _ _ _ _ c.requires c.units-units.ensures c.first_number-number.ensures c.if-number-ne0.false in
-    omega (arith, r.room.most)
+pub returns-in_err-check_table-clause-timed : goal.returns-in_err-check_table-clause-timed
+unfolding nodes_in
+returns-in_err-check_table-clause-timed c =
+    handed_on _ _ c.from_residual.ensures.1 _ _ (told_first _ _ _ _ _ _ _ c.nodes_filled-n.ensures c.units-units.ensures _ c.in_err-check_table.ensures _)
 
 pub slice_bounds-flags-end : goal.slice_bounds-flags-end
+unfolding nodes_in
 slice_bounds-flags-end c =
-    let r = ready _ _ _ _ _ _ _ _ _ c.requires c.units-units.ensures c.first_number-number.ensures c.if-number-ne0.false in
+    let r = ready _ _ _ _ _ _ _ _ c.nodes_filled-n.ensures c.units-units.ensures c.in_ok-check_table.ensures in
     omega (arith, r.cells)
 
 pub slice_bounds-flags-end-2 : goal.slice_bounds-flags-end-2
+unfolding nodes_in
 slice_bounds-flags-end-2 c =
-    let r = ready _ _ _ _ _ _ _ _ _ c.requires c.units-units.ensures c.first_number-number.ensures c.if-number-ne0.false in
+    let r = ready _ _ _ _ _ _ _ _ c.nodes_filled-n.ensures c.units-units.ensures c.in_ok-check_table.ensures in
     sym (length-take-le _ _ r.cells)
 
 pub run_passes-requires : goal.run_passes-requires
+unfolding nodes_in
 run_passes-requires c =
-    let r = ready _ _ _ _ _ _ _ _ _ c.requires c.units-units.ensures c.first_number-number.ensures c.if-number-ne0.false in
+    let r = ready _ _ _ _ _ _ _ _ c.nodes_filled-n.ensures c.units-units.ensures c.in_ok-check_table.ensures in
     record {
       room = r.room;
       inside = r.inside;
       le_n = r.three;
       n_in_bounds = r.reals;
-      n_in_bounds_2 = flags_fit _ _ _ r.cells c.clear_numbers.auto.s;
+      n_in_bounds_2 = flags_fit _ _ _ r.cells c.clear.auto.s;
       n_in_bounds_3 = r.marks;
-      cells_value = zeros_again _ _ c.clear_numbers.ensures;
+      cells_value = zeros_again _ _ c.clear.ensures;
     }
 
+pub returns-in_err-run_passes-clause-timed : goal.returns-in_err-run_passes-clause-timed
+unfolding nodes_in
+returns-in_err-run_passes-clause-timed c =
+    handed_on _ _ c.from_residual-in_err-run_passes.ensures.1 _ _ (told_passes _ _ _ _ _ _ _ c.nodes_filled-n.ensures c.units-units.ensures _ c.in_ok-check_table.ensures refl _ _ c.in_err-run_passes.ensures)
+
 pub returns : goal.returns
-returns c =
-    told_passes _ _ _ _ _ _ _ _ c.requires c.units-units.ensures c.first_number-number.ensures _ _ c.if-number-ne0.false c.run_passes.ensures
+unfolding nodes_in
+returns c = record {
+  timed = told_passes _ _ _ _ _ _ _ c.nodes_filled-n.ensures c.units-units.ensures _ c.in_ok-check_table.ensures refl _ _ c.in_ok-run_passes.ensures;
+  nodes = c.nodes_filled-n.ensures;
+}
