@@ -1,6 +1,6 @@
 -- Laws of one event: the code's operations are the definition's, and a finite float is no distance from itself.
 use mathlib.Core.Path.{◌≡◌, refl, ap, ◌∙◌}
-use mathlib.Core.Bool.{Bool, true, false, not, ◌&&◌, ◌||◌, cond, and-false}
+use mathlib.Core.Bool.{Bool, true, false, not, ◌&&◌, cond, and-false}
 use Prim.Native.Nat.{ℕ, ◌-◌, ◌*◌, ◌<◌}
 use native.Mathlib.Nat.{sub_self, le_refl, mul-pos}
 use native.Mathlib.Omega.{arith}
@@ -9,10 +9,8 @@ use borrow.Author.Tests.{le-ltb}
 use lib.Ieee.{Float, nan, inf, fin, binary64, up, down, neg, add, sub, sum, round, eq, of_bits}
 use lib.Ieee.Fits.{down_pos}
 use lib.Ieee.Scale.{finite, round_same}
-use Rattle.floats.specs.Floats.{table_float}
 use Rattle.book_format.specs.declared.Sample.{Sample}
-use Rattle.event_formula.specs.declared.Passing.{Passing}
-use Rattle.event_formula.specs.Event.{twice_ahead, speed_at, time_by_quotient, stands_at, time_at, passing_at, bad_passing}
+use Rattle.event_formula.specs.Event.{time_by_quotient, stands_at, time_at}
 
 -- ---- a float less itself
 
@@ -56,14 +54,3 @@ own_time s speed d e = ap (λ (t : Bool). cond t s.time (time_by_quotient s spee
 pub quotient_time : (s : Sample) (speed d : Float) → stands_at s speed d ≡ false → time_at s speed d ≡ time_by_quotient s speed d
 unfolding time_at
 quotient_time s speed d e = ap (λ (t : Bool). cond t s.time (time_by_quotient s speed d)) e
-
-pub passing_is : (s before : Sample) (offset speed time : Float) → speed ≡ speed_at s before (twice_ahead s offset) → time ≡ time_at s speed (twice_ahead s offset)
-    → record { time = time; speed = speed } ≡ passing_at s before offset
-unfolding passing_at
-passing_is s before offset speed time e f =
-    ap {B = Passing} (λ (t : Float). record { time = t; speed = speed }) f
-    ∙ ap {B = Passing} (λ (v : Float). record { time = time_at s v (twice_ahead s offset); speed = v }) e
-
-pub bad_is : (p : Passing) (a b : Bool) → a ≡ finite p.speed → b ≡ table_float p.time → (not a || not b) ≡ bad_passing p
-unfolding bad_passing
-bad_is p a b e f = ap (λ (x : Bool). not x || not b) e ∙ ap (λ (x : Bool). not (finite p.speed) || not x) f

@@ -15,6 +15,7 @@ pub struct Passing {
 }
 
 // Where the next event is: at the front point, or where the train's end reaches the back point.
+#[tactic(auto, unfolding(crate::specs::Event::event_offset))]
 pub fn event_offset(front: f64, back: f64, length: f64) -> f64
     ensures { result ≡ event_offset front back length }
 {
@@ -22,6 +23,7 @@ pub fn event_offset(front: f64, back: f64, length: f64) -> f64
 }
 
 // Whether the next event is a Clear.
+#[tactic(auto, unfolding(crate::specs::Event::clears))]
 pub fn is_clear(front: f64, back: f64, length: f64) -> bool
     ensures { result ≡ clears front back length }
 {
@@ -53,6 +55,7 @@ pub fn pass_at(s: Sample, before: Sample, offset: f64) -> Passing
 }
 
 // Whether a float is a number and no infinity: only then is it no distance from itself.
+#[tactic(auto, using(crate::proofs::Laws::finite_is))]
 fn is_finite(x: f64) -> bool
     ensures { result ≡ finite x }
 {
@@ -60,6 +63,7 @@ fn is_finite(x: f64) -> bool
 }
 
 // Row 11: whether an event's speed or time is no number, or its time too large.
+#[tactic(auto, unfolding(crate::specs::Event::bad_passing))]
 pub fn is_bad(p: Passing) -> bool
     ensures { result ≡ bad_passing p }
 {

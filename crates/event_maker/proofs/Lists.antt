@@ -1,7 +1,7 @@
 -- The list: an event more in it, and as many of its places are left.
 use mathlib.Core.Path.{◌≡◌, refl, sym, ap, ◌∙◌}
 use mathlib.Core.List.{List, [], ◌∷◌, ◌++◌}
-use Prim.Native.Nat.{ℕ, suc, ◌+◌, ◌-◌, ◌*◌, ◌≤◌, ◌<◌}
+use Prim.Native.Nat.{ℕ, suc, ◌+◌, ◌-◌, ◌*◌, ◌≤◌}
 use native.Mathlib.Omega.{arith}
 use lib.ListN.{length, set, get_or, replicate}
 use lib.Ieee.{Float, binary64, of_bits}
@@ -81,12 +81,3 @@ module _ (ps : List PassedPoint) (p : PassedPoint) (k size : ℕ) (e : k ≡ len
       ∙ ap (λ (i : ℕ). set (set (a ++ 0 ∷ 0 ∷ b) (length a) l) i (kind_number p.est_type)) one
       ∙ store_two a b 0 0 l (kind_number p.est_type)
       ∙ sym (numbers_more links ps p b)
-
--- ---- in the code's words
-
-pub no_place : {X : Type 0} (k places : ℕ) → places ≤ k → k < places → X
-no_place k places h g = absurd (omega arith)
-
-pub numbers_stored : (us : List ℕ) (k : ℕ) (p : PassedPoint) (link : ℕ) {n : ℕ} → n ≡ kind_number p.est_type → set (set us (k * 2) link) (k * 2 + 1) n ≡ put_event_numbers us k p link
-unfolding put_event_numbers
-numbers_stored us k p link e = ap (set (set us (k * 2) link) (k * 2 + 1)) e

@@ -277,9 +277,6 @@ module _ (b : List ℕ) (offsets : List Float) (m : Movement) where
         )
 
     module _ (e : first_number course b ≡ 0) where
-      pub left_counted : Counted m
-      left_counted = counts (from_zero e).0.counted
-
       pub left_held : m.samples * 24 ≤ length b → m.points ≤ length offsets → Held b offsets m
       left_held = held_of (from_zero e).0
 

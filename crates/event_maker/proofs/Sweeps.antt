@@ -1,21 +1,14 @@
 -- One sweep over rows: none was bad so far, and whether one fell against the row before it.
 use mathlib.Core.Path.{◌≡◌, refl, sym, ap, ◌∙◌}
 use mathlib.Core.Bool.{Bool, true, false, ◌||◌, cond}
-use mathlib.Core.List.{List}
-use Prim.Native.Nat.{ℕ, ◌+◌, ◌-◌, ◌*◌, ◌≤◌, ◌<◌}
-use native.Mathlib.Numerals.{add-one}
+use Prim.Native.Nat.{ℕ, ◌+◌, ◌-◌, ◌≤◌, ◌<◌}
 use native.Mathlib.Omega.{arith}
-use lib.ListN.{get_or}
-use lib.Ieee.{Float, nan, lt}
 use Rattle.laws.specs.Below.{some_below}
 use Rattle.laws.specs.Answer.{refused, given}
 use Rattle.refusals.specs.declared.Refusal.{Refusal}
 use Rattle.refusals.specs.Refusals.{refusal_number}
 use Rattle.laws.proofs.Below.{some_more, none_more, some_at}
-use Rattle.book_format.specs.declared.Sample.{Sample}
-use Rattle.book_format.specs.Format.{sample_from}
-use Rattle.book_format.specs.Rows.{sample_falls}
-use Rattle.event_maker.specs.Parts.{sweep_answer, offset_falls, falls_at}
+use Rattle.event_maker.specs.Parts.{sweep_answer}
 
 -- the rows below i, and which of them fell against the row before it
 pub record Swept (n : ℕ) (bad falls : ℕ → Bool) (i : ℕ) (found : Bool) : Type 0 where
@@ -61,18 +54,3 @@ module _ (n : ℕ) (bad falls : ℕ → Bool) where
       go : (t : Bool) → given found ≡ cond t (refused 4) (given (some_below (n - 1) falls)) → (t ≡ false) × (found ≡ some_below (n - 1) falls)
       go true e = absurd (cc)
       go false e = (refl, cc)
-
--- ---- two points, one after the other
-
-pub offset_falls_lem : (offsets : List Float) (k : ℕ) → lt (get_or offsets (k + 1) nan) (get_or offsets k nan) ≡ offset_falls offsets k
-unfolding offset_falls
-offset_falls_lem offsets k = ap (λ (i : ℕ). lt (get_or offsets i nan) (get_or offsets k nan)) (add-one k)
-
--- ---- two samples, one after the other
-
-pub falls_is : (b : List ℕ) (i : ℕ) (x y : Sample) (r : Bool) → x ≡ sample_from b (i * 24) → y ≡ sample_from b ((i + 1) * 24) → r ≡ sample_falls x y → r ≡ falls_at b i
-unfolding falls_at
-falls_is b i x y r e f g =
-    g
-    ∙ ap (λ (s : Sample). sample_falls s y) e
-    ∙ ap (sample_falls (sample_from b (i * 24))) (f ∙ ap (λ (k : ℕ). sample_from b (k * 24)) (add-one i))

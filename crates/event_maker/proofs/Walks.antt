@@ -4,7 +4,7 @@ use mathlib.Core.Bool.{Bool, true, false, cond}
 use mathlib.Core.List.{List, [], ◌∷◌, ◌++◌, append_assoc, append-nil}
 use Prim.Native.Nat.{ℕ, zero, suc, ◌+◌, ◌-◌, ◌*◌, ◌≤◌, ◌<◌}
 use native.Mathlib.Omega.{arith}
-use borrow.Author.Tests.{lt-ltb, le-ltb, ltb-false}
+use borrow.Author.Tests.{ltb-false}
 use lib.Dec.{ltb}
 use lib.ListN.{length, get_or, length-append}
 use lib.Ieee.{Float}
@@ -19,16 +19,6 @@ use Rattle.event_walk.proofs.Theorems.{never_the_last}
 use Rattle.event_maker.specs.Maker.{list_places, event_floats, event_numbers, floats_as, numbers_as}
 use Rattle.event_maker.specs.Parts.{count_answer, walk_answer, put_event_floats, put_event_numbers, FloatsListed, NumbersListed, is_refused, kept_floats, kept_numbers}
 use Rattle.event_maker.proofs.Lists.{places_fit, floats_put, numbers_put}
-
--- ---- the answer to a count
-
-pub too_short : (count places : ℕ) → places < count → refused 12 ≡ count_answer count places
-unfolding count_answer
-too_short count places h = sym (ap (λ (t : Bool). cond t (refused 12) (given count)) (lt-ltb places count h))
-
-pub long_enough : (count places : ℕ) → count ≤ places → given count ≡ count_answer count places
-unfolding count_answer
-long_enough count places h = sym (ap (λ (t : Bool). cond t (refused 12) (given count)) (le-ltb places count h))
 
 -- ---- lists of events
 

@@ -62,9 +62,6 @@ module _ {offset : ℕ → Float} {points : ℕ} (r : Rises offset points) where
 pub gallop_found : {offset : ℕ → Float} {points : ℕ} → Rises offset points → (x : Float) (step : ℕ) → 0 < step → step ≤ points → le (offset (points - step)) x ≡ true → NoneBeyond offset points x (points - step)
 gallop_found {offset} {points} r x step h g f = record { inside = omega arith; before = λ k l. none_beyond r x (points - step) (omega arith) f k (omega arith) }
 
-pub gallop_none : (offset : ℕ → Float) (points : ℕ) (x : Float) → NoneBeyond offset points x 0
-gallop_none offset points x = record { inside = omega arith; before = λ k g. absurd (omega arith) }
-
 -- ---- the first beyond
 
 -- r is the first of n points from k on that lies beyond x, or k + n

@@ -16,14 +16,10 @@ use Rattle.fields.specs.Fields.{u64_at}
 use Rattle.laws.specs.Below.{some_below}
 use Rattle.laws.proofs.Truth.{and_left, and_right}
 use Rattle.laws.proofs.Below.{none_all, some_at}
-use Rattle.net_node.specs.declared.EstType.{EstType}
 use Rattle.net_node.specs.declared.EstType.TheVariants.{Arrive, Clear}
-use Rattle.book_format.specs.declared.Sample.{Sample}
 use Rattle.book_format.specs.Format.{sample_from}
 use Rattle.book_format.specs.Rows.{bad_sample_from}
 use Rattle.book_format.proofs.Floats.{book_no_nan, sample_floats}
-use Rattle.event_formula.specs.declared.Passing.{Passing}
-use Rattle.event_formula.specs.Event.{passing_at}
 use Rattle.event_walk.specs.declared.Heads.{Heads}
 use Rattle.event_walk.specs.declared.Movement.{Movement}
 use Rattle.event_walk.specs.declared.PassedPoint.{PassedPoint}
@@ -45,13 +41,6 @@ offset_is b at n e = ap (of_bits binary64) e
 
 pub sample_held : {b : List ℕ} {offsets : List Float} {m : Movement} → Held b offsets m → (i : ℕ) → i < m.samples → (m.at + i * 24 + 24 ≤ length b) × (bad_sample_from b (m.at + i * 24) ≡ false)
 sample_held h i g = (omega (arith, h.bytes), h.floats i g)
-
-pub point_is : (s before x y : Sample) (p : Passing) (offset : Float) (point : ℕ) (kind : EstType) → x ≡ s → y ≡ before → p ≡ passing_at x y offset
-    → record { time = p.time; offset = offset; speed = p.speed; point = point; est_type = kind } ≡ point_with s before offset point kind
-unfolding point_with
-point_is s before x y p offset point kind e f g =
-    ap {B = PassedPoint} (λ (q : Passing). record { time = q.time; offset = offset; speed = q.speed; point = point; est_type = kind })
-    (g ∙ ap (λ (z : Sample). passing_at z y offset) e ∙ ap (λ (z : Sample). passing_at s z offset) f)
 
 -- ---- samples that reach the last point
 

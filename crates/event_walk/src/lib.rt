@@ -25,8 +25,8 @@ pub struct Movement {
     pub length: f64,
 }
 
-// What the walk of a leg looks at: the bytes in which its samples stand, and the offsets of its path's points. Rows 3, 4
-// and 7 let both through, and no sample reaches the last point.
+// What the walk of a leg looks at: the bytes in which its samples stand, and the offsets of its path's points. Rows 3,
+// 4 and 7 let both through, and no sample reaches the last point.
 #[derive(Clone, Copy)]
 pub struct Course<'a> {
     pub samples: &'a [u8],
@@ -116,8 +116,8 @@ pub fn reaches_last(book: &[u8], offsets: &[f64], m: Movement) -> bool
     offsets[m.points - 1] <= farthest
 }
 
-// A point with none beyond x before it, sought from the last point back by steps that double: the cost doesn't grow with
-// the points behind it.
+// A point with none beyond x before it, sought from the last point back by steps that double: the cost doesn't grow
+// with the points behind it.
 fn gallop(offsets: &[f64], points: usize, x: f64) -> usize
     requires points_in_bounds { points ≤ length offsets.now }
     requires rises { Rises (λ k. get_or offsets.now k nan) points }
@@ -197,7 +197,8 @@ impl<'a> Course<'a> {
     // The first sample from `from` on that reaches x.
     #[tactic(auto, unfolding(crate::specs::Course::course_of))]
     fn first_reaching(&self, from: usize, x: f64) -> Option<usize>
-        ensures { FirstReaching (λ i. ((course_held self.now).sample i).offset) (course_held self.now).samples x from result }
+        ensures { FirstReaching (λ i. ((course_held self.now).sample i).offset) (course_held self.now).samples
+            x from result }
     {
         let m = self.movement;
         for i in from..m.samples {

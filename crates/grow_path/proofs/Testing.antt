@@ -1,53 +1,35 @@
--- Row 11 over a leg's events: the test goes from event to event, and what is left has a bad one just if the leg has.
+-- Row 11 over a leg's events: one after the other, and all of them.
 use mathlib.Core.Path.{◌≡◌, refl, sym, ap, ◌∙◌}
 use mathlib.Core.Bool.{Bool, true, false, ◌||◌}
-use mathlib.Core.List.{[], ◌∷◌}
-use Prim.Native.Nat.{◌-◌, ◌<◌}
+use mathlib.Core.List.{List, [], ◌∷◌}
+use Prim.Native.Nat.{◌-◌}
 use native.Mathlib.Omega.{arith}
-use lib.ListN.{length}
 use lib.Ieee.{le}
+use Rattle.std.specs.List.{list_any}
 use Rattle.laws.proofs.Below.{or_left, none_at}
 use Rattle.floats.proofs.Order.{not_le}
-use Rattle.event_walk.specs.declared.Heads.{Heads}
 use Rattle.event_walk.specs.declared.PassedPoint.{PassedPoint}
 use Rattle.event_walk.specs.Course.{Course, Walkable}
-use Rattle.event_walk.specs.Walk.{passed_from, points_passed, reaches_last, bad_point, some_bad, row11, Within}
+use Rattle.event_walk.specs.Walk.{points_passed, reaches_last, bad_point, some_bad, row11}
 use Rattle.event_walk.proofs.Searches.{size_number}
 use Rattle.grow_path.specs.Kept.{Sound}
 
--- ---- the loop
+-- ---- one event after the other
 
 -- the next event is bad, or it is what comes behind it that counts
-pub bad_first : (c : Course) (h g : Heads) (p : PassedPoint) → passed_from c h ≡ p ∷ passed_from c g → bad_point p ≡ true → some_bad (passed_from c h) ≡ true
+pub bad_first : (all later : List PassedPoint) (p : PassedPoint) → all ≡ p ∷ later → bad_point p ≡ true → some_bad all ≡ true
 unfolding some_bad
-bad_first c h g p e b = ap some_bad e ∙ or_left (bad_point p) (some_bad (passed_from c g)) b
+bad_first all later p e b = ap some_bad e ∙ or_left (bad_point p) (some_bad later) b
 
-pub fine_first : (c : Course) (h g : Heads) (p : PassedPoint) → passed_from c h ≡ p ∷ passed_from c g → bad_point p ≡ false → some_bad (passed_from c h) ≡ some_bad (passed_from c g)
+pub fine_first : (all later : List PassedPoint) (p : PassedPoint) → all ≡ p ∷ later → bad_point p ≡ false → some_bad all ≡ some_bad later
 unfolding some_bad
-fine_first c h g p e b = ap some_bad e ∙ ap (λ (x : Bool). x || some_bad (passed_from c g)) b
+fine_first all later p e b = ap some_bad e ∙ ap (λ (x : Bool). x || some_bad later) b
 
-pub record Testing (c : Course) (from h : Heads) : Type 0 where
-  pub within : Within c h
-  pub left : some_bad (passed_from c h) ≡ some_bad (passed_from c from)
-
-module _ (c : Course) (from : Heads) where
-  pub test_start : Within c from → Testing c from from
-  test_start w = record { within = w; left = refl }
-
-  pub test_end : {h : Heads} → Testing c from h → passed_from c h ≡ [] → false ≡ some_bad (passed_from c from)
-  unfolding some_bad
-  test_end t e = sym (sym t.left ∙ ap some_bad e)
-
-  pub test_bad : {h : Heads} (g : Heads) (p : PassedPoint) → Testing c from h → passed_from c h ≡ p ∷ passed_from c g → bad_point p ≡ true → true ≡ some_bad (passed_from c from)
-  test_bad {h} g p t e b = sym (sym t.left ∙ bad_first c h g p e b)
-
-  pub test_on : {h : Heads} (g : Heads) (p : PassedPoint) → Testing c from h → passed_from c h ≡ p ∷ passed_from c g → Within c g → bad_point p ≡ false → Testing c from g
-  test_on {h} g p t e w b = record { within = w; left = sym (fine_first c h g p e b) ∙ t.left }
-
-pub test_less : (c : Course) (h g : Heads) (p : PassedPoint) → passed_from c h ≡ p ∷ passed_from c g → length (passed_from c g) < length (passed_from c h)
-test_less c h g p e =
-    let l : length (passed_from c h) ≡ length (p ∷ passed_from c g) = ap length e in
-    omega arith
+-- the test of all of them is the library's
+pub some_bad_any : (ps : List PassedPoint) → some_bad ps ≡ list_any bad_point ps
+unfolding some_bad
+some_bad_any [] = refl
+some_bad_any (p ∷ ps) = ap (λ (t : Bool). bad_point p || t) (some_bad_any ps)
 
 -- ---- both parts of row 11
 

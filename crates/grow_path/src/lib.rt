@@ -6,13 +6,12 @@ ghost use Rattle.std.specs.Float.{binary64, nan};
 ghost use Rattle.std.specs.Float.Ieee.{of_bits};
 ghost use Rattle.book_format.specs.Format.{links};
 ghost use Rattle.book_format.specs.Chains.{Readable};
-ghost use Rattle.event_walk.specs.Course.{course_of, Held, Walkable};
-ghost use Rattle.event_walk.specs.Walk.{passed_from, some_bad, Within};
+ghost use Rattle.event_walk.specs.Walk.{some_bad};
 ghost use Rattle.grow_path.specs.Kept.{point_added, link_added, movement_on, event_in};
 
 use book_format::Sections;
 use book_legs::TakenLeg;
-use event_walk::{Heads, Movement, Next, PassedPoint};
+use event_walk::{Movement, PassedPoint, PassedPoints};
 use net_node::{LinkEvent, TimedEvent};
 
 // The first point of every path is at 0.
@@ -61,24 +60,11 @@ pub fn movement_of(s: Sections, leg: TakenLeg, depth: usize, length: f64) -> Mov
     }
 }
 
-// Whether an event is bad that is still to come behind these heads, in a leg whose samples don't reach the last point.
-pub fn some_bad(book: &[u8], offsets: &[f64], m: Movement, from: Heads) -> bool
-    requires held { Held book.now offsets.now m }
-    requires walkable { Walkable (course_of book.now offsets.now m) }
-    requires within { Within (course_of book.now offsets.now m) from }
-    ensures { result ≡ some_bad (passed_from (course_of book.now offsets.now m) from) }
+// Whether an event is bad among those that are still to come in a leg.
+pub fn some_bad(mut events: PassedPoints) -> bool
+    ensures { result ≡ some_bad events.entry }
 {
-    let mut h = from;
-    loop {
-        let next = event_walk::next_event(book, offsets, m, h);
-        let Next::Passed(p, g) = next else {
-            return false;
-        };
-        if event_walk::is_bad_point(p) {
-            return true;
-        }
-        h = g;
-    }
+    events.any(|event| event.is_bad())
 }
 
 // A point that is passed, as an event of the link that it names.
