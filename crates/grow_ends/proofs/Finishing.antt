@@ -1,6 +1,8 @@
 -- The ways of a finish: row 13 by the last node's number, by its next, by its being an end, and none of them.
 use mathlib.Core.Path.{◌≡◌, refl, sym, ap, ◌∙◌}
 use mathlib.Core.Bool.{Bool, true, false, not, ◌||◌}
+use Rattle.std.specs.Prelude.{Ok, Err}
+use Rattle.refusals.specs.declared.Refusal.TheVariants.{BadEnd}
 use mathlib.Core.List.{List}
 use Prim.Native.Nat.{ℕ, ◌+◌, ◌-◌, ◌*◌, ◌≤◌, ◌<◌}
 use native.Mathlib.Numerals.{add-one}
@@ -16,7 +18,7 @@ use Rattle.net_insertion.specs.Insertion.{flagged, table_of}
 use Rattle.net_insertion.proofs.Answers.{flagged_set, flagged_clear}
 use Rattle.grow_rules.specs.Run.{Net, Run, member_of}
 use Rattle.grow_rules.specs.Growth.{bad_finish}
-use Rattle.grow_ends.specs.Ends.{FinishAs, MarkedAs}
+use Rattle.grow_ends.specs.Ends.{FinishAs, MarkedAs, finish_answer}
 
 -- by whether it is the last node, whether that has no next, and whether it is an end
 abbrev bad_as : Bool → Bool → Bool → Bool
@@ -30,10 +32,14 @@ bad_is net run t n place a b c last free ended p q r =
     = λ j. bad_as (eqb (c j).idx_prev (b j - 1)) (eqb (at (a j) (b j - 1)).idx_next 0) (member_of net.ends (b j - 1)) in
     s ∙ (λ j. bad_as (p j) (q j) (r j))
 
+-- what that answers
+told_as : (net : Net) (run : Run) (bad : Bool) → bad_finish net run ≡ bad → finish_answer bad ≡ finish_answer (bad_finish net run)
+told_as net run bad h = sym (ap finish_answer h)
+
 module _ (fs : List Float) (us cells : List ℕ) (base n : ℕ) (place : Place) where
-  pub finish_elsewhere : (place.idx_prev ≡ n - 1 → ⊥) → FinishAs fs us cells base n place false
+  pub finish_elsewhere : (place.idx_prev ≡ n - 1 → ⊥) → FinishAs fs us cells base n place (Err BadEnd)
   finish_elsewhere h = record {
-    is = λ net run a b c f. bad_is net run (table_of fs us) n place a b c false (eqb (at (table_of fs us) (n - 1)).idx_next 0) (member_of net.ends (n - 1)) (ne_eqb place.idx_prev (n - 1) h) refl refl;
+    is = λ net run a b c f. told_as net run true (bad_is net run (table_of fs us) n place a b c false (eqb (at (table_of fs us) (n - 1)).idx_next 0) (member_of net.ends (n - 1)) (ne_eqb place.idx_prev (n - 1) h) refl refl);
   }
 
   module _ (p : place.idx_prev ≡ n - 1) (x : EstTime) (l : x ≡ node_at fs us (n - 1)) where
@@ -41,23 +47,19 @@ module _ (fs : List Float) (us cells : List ℕ) (base n : ℕ) (place : Place) 
     unfolding at
     next_is = sym (ap (λ (z : EstTime). z.idx_next) l)
 
-    pub finish_with_next : (x.idx_next ≡ 0 → ⊥) → FinishAs fs us cells base n place false
+    pub finish_with_next : (x.idx_next ≡ 0 → ⊥) → FinishAs fs us cells base n place (Err BadEnd)
     finish_with_next h = record {
-      is = λ net run a b c f. bad_is net run (table_of fs us) n place a b c true false (member_of net.ends (n - 1)) (eq-eqb place.idx_prev (n - 1) p) (ne_eqb (at (table_of fs us) (n - 1)).idx_next 0 (λ (e : (at (table_of fs us) (n - 1)).idx_next ≡ 0). h (sym next_is ∙ e))) refl;
+      is = λ net run a b c f. told_as net run true (bad_is net run (table_of fs us) n place a b c true false (member_of net.ends (n - 1)) (eq-eqb place.idx_prev (n - 1) p) (ne_eqb (at (table_of fs us) (n - 1)).idx_next 0 (λ (e : (at (table_of fs us) (n - 1)).idx_next ≡ 0). h (sym next_is ∙ e))) refl);
     }
 
     module _ (o : x.idx_next ≡ 0) (r : 0 < n) where
-      by_flag : (flag : Bool) → flagged cells base (n - 1) ≡ flag → FinishAs fs us cells base n place (not flag)
+      by_flag : (flag : Bool) → flagged cells base (n - 1) ≡ flag → FinishAs fs us cells base n place (finish_answer flag)
       by_flag flag h = record {
-        is = λ net run a b c f. bad_is net run (table_of fs us) n place a b c true true flag (eq-eqb place.idx_prev (n - 1) p) (eq-eqb (at (table_of fs us) (n - 1)).idx_next 0 (next_is ∙ o)) (sym (f (n - 1) (omega arith)) ∙ h) ∙ twice flag;
+        is = λ net run a b c f. told_as net run flag (bad_is net run (table_of fs us) n place a b c true true flag (eq-eqb place.idx_prev (n - 1) p) (eq-eqb (at (table_of fs us) (n - 1)).idx_next 0 (next_is ∙ o)) (sym (f (n - 1) (omega arith)) ∙ h));
       }
-        where
-          twice : (b : Bool) → b ≡ not (not b)
-          twice true = refl
-          twice false = refl
 
-      pub finish_ended : 0 < get_or cells (base + (n - 1) * 8) 0 → FinishAs fs us cells base n place false
+      pub finish_ended : 0 < get_or cells (base + (n - 1) * 8) 0 → FinishAs fs us cells base n place (Err BadEnd)
       finish_ended h = by_flag true (flagged_set cells base (n - 1) h)
 
-      pub finish_good : (last : ℕ) → get_or cells (base + (n - 1) * 8) 0 ≤ 0 → FinishAs fs us cells base n place true × MarkedAs cells (set cells (base + (n - 1) * 8) (last + 1)) base last place.idx_prev true
+      pub finish_good : (last : ℕ) → get_or cells (base + (n - 1) * 8) 0 ≤ 0 → FinishAs fs us cells base n place (Ok tt) × MarkedAs cells (set cells (base + (n - 1) * 8) (last + 1)) base last place.idx_prev (Ok tt)
       finish_good last h = (by_flag false (flagged_clear cells base (n - 1) h), λ j. set cells (base + sym p j * 8) (add-one last j))

@@ -23,7 +23,7 @@ use Rattle.laws.proofs.Below.{or_right}
 use Rattle.grow_rules.specs.Run.{Net, Run, member_of}
 use Rattle.grow_rules.specs.Growth.{fake_node, bad_finish, leads_to_end, room_for, end_fakes, last_node}
 use Rattle.net_node.specs.Left.{Network}
-use Rattle.grow_ends.specs.declared.TailAnswer.TheVariants.{Nodes}
+use Rattle.std.specs.Prelude.{Ok}
 use Rattle.grow_ends.specs.Ends.{EndsIn, Below, SomeEnds, TailAs, MarkedAs}
 
 -- ---- members
@@ -154,7 +154,7 @@ pub record Finished (net : Net) (run : Run) (cells cells' : List ℕ) (base : �
   pub within : run.place.idx_prev < net.nodes
 
 pub finished : (net : Net) (run : Run) (cells cells' : List ℕ) (base last : ℕ) → bad_finish net run ≡ false → 1 < net.nodes → base + net.nodes * 8 ≤ length cells + 7
-    → EndsIn cells base last net.ends → MarkedAs cells cells' base last run.place.idx_prev true → Finished net run cells cells' base
+    → EndsIn cells base last net.ends → MarkedAs cells cells' base last run.place.idx_prev (Ok tt) → Finished net run cells cells' base
 finished net run cells cells' base last h n l e m =
     let g = good_finish net run h in
     let p : run.place.idx_prev ≡ net.nodes - 1 = g.last in
@@ -223,12 +223,12 @@ counted_fakes places (i ∷ is) alt t h = go (ltb t.nodes places) refl (counted_
     go false e r = tt
 
 -- by the contract of `end_fakes`, where it has not refused
-pub fakes_counted : (places n k : ℕ) (is : List ℕ) (t : Table) (fs : List Float) (us : List ℕ) → n ≤ places → TailAs (end_fakes places is 0 (record { table = t; nodes = n })) fs us (Nodes k)
+pub fakes_counted : (places n k : ℕ) (is : List ℕ) (t : Table) (fs : List Float) (us : List ℕ) → n ≤ places → TailAs (end_fakes places is 0 (record { table = t; nodes = n })) fs us (Ok k)
     → (k ≡ n + length is) × (k ≤ places)
 fakes_counted places n k is t fs us h e = subst (Counted (n + length is) places) e (counted_fakes places is 0 (record { table = t; nodes = n }) h)
 
 -- and of `last_node`
-pub last_counted : (places n k : ℕ) (t : Table) (fs : List Float) (us : List ℕ) → TailAs (last_node places (record { table = t; nodes = n })) fs us (Nodes k) → (k ≡ suc n) × (k ≤ places)
+pub last_counted : (places n k : ℕ) (t : Table) (fs : List Float) (us : List ℕ) → TailAs (last_node places (record { table = t; nodes = n })) fs us (Ok k) → (k ≡ suc n) × (k ≤ places)
 unfolding last_node
 last_counted places n k t fs us e = subst (Counted (suc n) places) e (go (ltb n places) refl)
   where

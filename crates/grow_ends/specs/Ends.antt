@@ -2,19 +2,20 @@
 -- any other node; an end's has one more than the number of the end before it. So the ends are chained, the latest
 -- first. And what the code of the first nodes, of a finish and of the end Fakes answers: the definitions are
 -- grow_rules' specs/Growth.antt.
-use Rattle.std.specs.Prelude.{◌≡◌, Bool, true, false, not, List, [], ◌∷◌, ℕ, suc, ◌+◌, ◌*◌, ◌<◌, get_or, set, Float}
+use Rattle.std.specs.Prelude.{◌≡◌, Bool, true, false, List, [], ◌∷◌, ℕ, suc, ◌+◌, ◌*◌, ◌<◌, get_or, set, Float, Result, Ok, Err}
 use Rattle.std.specs.Float.{binary64}
 use Rattle.std.specs.Float.Ieee.{of_bits}
-use Rattle.laws.specs.Answer.{Answer, given}
+use Rattle.laws.specs.Answer.{Answer, refused, given}
 use Rattle.net_insertion.specs.declared.Place.{Place}
 use Rattle.net_insertion.specs.Insertion.{flagged}
 use Rattle.net_event_map.specs.EventMap.{head_of}
 use Rattle.grow_rules.specs.Run.{Net, Run, member_of}
-use Rattle.grow_rules.specs.Growth.{bad_finish, no_room, end_fakes, fake_node}
+use Rattle.grow_rules.specs.Growth.{bad_finish, end_fakes, fake_node}
 use Rattle.net_node.specs.Left.{Network}
 use Rattle.net_node.specs.Table.{Table, put}
-use Rattle.grow_ends.specs.declared.TailAnswer.{TailAnswer}
-use Rattle.grow_ends.specs.declared.TailAnswer.TheVariants.{Nodes, Full}
+use Rattle.refusals.specs.declared.Refusal.{Refusal}
+use Rattle.refusals.specs.declared.Refusal.TheVariants.{BadEnd}
+use Rattle.refusals.specs.Refusals.{refusal_number}
 
 -- the ends, the latest first: 0 is none, since node 0 is no end
 abbrev pub EndsIn : List ℕ → ℕ → ℕ → List ℕ → Type 0
@@ -33,13 +34,13 @@ pub record SomeEnds (cells : List ℕ) (base last n : ℕ) : Type 0 where
   pub chained : EndsIn cells base last ends
   pub below : Below n ends
 
--- what each answer is: the table's lists and so many nodes, or row 12
-abbrev pub TailAs : Answer Network → List Float → List ℕ → TailAnswer → Type 0
-TailAs answer fs us (Nodes k) = answer ≡ given (record { table = record { floats = fs; numbers = us }; nodes = k })
-TailAs answer fs us Full = answer ≡ no_room
+-- what each answer is: the table's lists and so many nodes, or a refusal
+abbrev pub TailAs : Answer Network → List Float → List ℕ → Result ℕ Refusal → Type 0
+TailAs answer fs us (Ok k) = answer ≡ given (record { table = record { floats = fs; numbers = us }; nodes = k })
+TailAs answer fs us (Err r) = answer ≡ refused (refusal_number r)
 
 -- "End Fakes are pushed for the ends in reverse", of a network whose ends these cells chain
-abbrev pub PushesEnds : List ℕ → ℕ → ℕ → ℕ → Network → List Float → List ℕ → TailAnswer → Type 0
+abbrev pub PushesEnds : List ℕ → ℕ → ℕ → ℕ → Network → List Float → List ℕ → Result ℕ Refusal → Type 0
 PushesEnds cells base last places t fs us r =
     (ends : List ℕ) → EndsIn cells base last ends → TailAs (end_fakes places ends 0 t) fs us r
 
@@ -47,13 +48,19 @@ PushesEnds cells base last places t fs us r =
 abbrev pub first_two : Table → Float → Table
 first_two t departure = put (put t 0 (fake_node 1 0 0 (of_bits binary64 0))) 1 (fake_node 0 0 0 departure)
 
--- a finish of a run at a place of a network of n nodes: true where row 13 doesn't hold
-pub record FinishAs (fs : List Float) (us cells : List ℕ) (base n : ℕ) (place : Place) (r : Bool) : Type 0 where
+-- what is answered to a finish, by whether it is bad: row 13
+abbrev pub finish_answer : Bool → Result (Unit {0}) Refusal
+finish_answer true = Err BadEnd
+finish_answer false = Ok tt
+
+-- a finish of a run at a place of a network of n nodes
+pub record FinishAs (fs : List Float) (us cells : List ℕ) (base n : ℕ) (place : Place)
+    (r : Result (Unit {0}) Refusal) : Type 0 where
   pub is : (net : Net) (run : Run) → net.table ≡ record { floats = fs; numbers = us } → net.nodes ≡ n
       → run.place ≡ place → ((i : ℕ) → i < n → flagged cells base i ≡ member_of net.ends i)
-      → bad_finish net run ≡ not r
+      → r ≡ finish_answer (bad_finish net run)
 
 -- the end is marked, if it is one
-abbrev pub MarkedAs : List ℕ → List ℕ → ℕ → ℕ → ℕ → Bool → Type 0
-MarkedAs cells cells' base last i true = cells' ≡ set cells (base + i * 8) (suc last)
-MarkedAs cells cells' base last i false = cells' ≡ cells
+abbrev pub MarkedAs : List ℕ → List ℕ → ℕ → ℕ → ℕ → Result (Unit {0}) Refusal → Type 0
+MarkedAs cells cells' base last i (Ok u) = cells' ≡ set cells (base + i * 8) (suc last)
+MarkedAs cells cells' base last i (Err r) = cells' ≡ cells

@@ -10,24 +10,20 @@ ghost use Rattle.grow_ends.specs.Ends.{SomeEnds, TailAs, FinishAs, MarkedAs, Pus
 
 use net_insertion::Place;
 use net_node::EstTime;
-
-// How many nodes there are then, or that one did not fit (refusal 12).
-#[derive(Clone, Copy)]
-pub enum TailAnswer {
-    Nodes(usize),
-    Full,
-}
+use refusals::Refusal;
 
 // A Fake: its next, its previous and previous alternative, and a held time.
+#[tactic(auto, unfolding(grow_rules::specs::Growth::fake_node))]
 fn fake_node(next: u32, prev: u32, prev_alt: u32, time: f64) -> EstTime
     ensures { result ≡ fake_node next prev prev_alt time }
 {
-    let mut fake = net_node::blank_node();
-    fake.time_to_next = time;
-    fake.idx_next = next;
-    fake.idx_prev = prev;
-    fake.idx_prev_alt = prev_alt;
-    fake
+    EstTime {
+        time_to_next: time,
+        idx_next: next,
+        idx_prev: prev,
+        idx_prev_alt: prev_alt,
+        ..net_node::blank_node()
+    }
 }
 
 // Node 0 leads to node 1, the start, which holds the departure.
@@ -52,7 +48,7 @@ pub fn finish(
     n: usize,
     last_end: u32,
     place: Place,
-) -> bool
+) -> Result<(), Refusal>
     requires room { Room floats.now numbers.now n }
     requires n_nonzero { 0 < n }
     requires n_in_bounds { ends_at + n * 8 ≤ length cells.old + 7 }
@@ -64,32 +60,35 @@ pub fn finish(
 {
     let last = n - 1;
     if place.idx_prev as usize != last {
-        return false;
+        return Err(Refusal::BadEnd);
     }
     let node = net_node::load(floats, numbers, last);
     if node.idx_next != 0 {
-        return false;
+        return Err(Refusal::BadEnd);
     }
     let at = ends_at + last * 8;
     if 0 < cells[at] {
-        return false;
+        return Err(Refusal::BadEnd);
     }
     cells[at] = last_end + 1;
-    true
+    Ok(())
 }
 
 // A finished run's event leads to its end Fake.
+#[tactic(auto, unfolding(grow_rules::specs::Growth::leads_to_end))]
 fn lead_to_end(node: EstTime, next: u32) -> EstTime
     ensures { result ≡ leads_to_end node next }
 {
-    let mut led = node;
-    led.time_to_next = 0.0;
-    led.dist_to_next = 0.0;
-    led.idx_next = next;
-    led
+    EstTime {
+        time_to_next: 0.0,
+        dist_to_next: 0.0,
+        idx_next: next,
+        ..node
+    }
 }
 
-// "End Fakes are pushed for the ends in reverse": the latest is `last_end`, or 0.
+// "End Fakes are pushed for the ends in reverse": the latest is `last_end`, or 0. How many nodes there are then; row 12:
+// one doesn't fit.
 pub fn end_fakes(
     floats: &mut [f64],
     numbers: &mut [u32],
@@ -98,7 +97,7 @@ pub fn end_fakes(
     cells: &[u32],
     ends_at: usize,
     last_end: u32,
-) -> TailAnswer
+) -> Result<usize, Refusal>
     requires room { Room floats.old numbers.old places }
     requires n_le_places { n ≤ places }
     requires n_in_bounds { ends_at + n * 8 ≤ length cells.now + 7 }
@@ -111,7 +110,7 @@ pub fn end_fakes(
     let mut k = n;
     while i != 0 {
         if places <= k {
-            return TailAnswer::Full;
+            return Err(Refusal::NoPlace);
         }
         let fake = fake_node(k as u32 + 1, i, alt, 0.0);
         net_node::store(floats, numbers, k, fake);
@@ -122,20 +121,20 @@ pub fn end_fakes(
         k += 1;
         i = cells[ends_at + i as usize * 8] - 1;
     }
-    TailAnswer::Nodes(k)
+    Ok(k)
 }
 
-// The last node, the end.
-pub fn last_node(floats: &mut [f64], numbers: &mut [u32], n: usize, places: usize) -> TailAnswer
+// The last node, the end. How many nodes there are then; row 12: it doesn't fit.
+pub fn last_node(floats: &mut [f64], numbers: &mut [u32], n: usize, places: usize) -> Result<usize, Refusal>
     requires room { Room floats.old numbers.old places }
     requires n_nonzero { 0 < n }
     ensures { TailAs (last_node places (record { table = table_at_entry floats numbers; nodes = n }))
         floats.new numbers.new result }
 {
     if places <= n {
-        return TailAnswer::Full;
+        return Err(Refusal::NoPlace);
     }
     let last = fake_node(0, n as u32 - 1, 0, 0.0);
     net_node::store(floats, numbers, n, last);
-    TailAnswer::Nodes(n + 1)
+    Ok(n + 1)
 }

@@ -17,6 +17,9 @@ use Rattle.net_node.specs.declared.TimedEvent.{TimedEvent}
 use Rattle.net_node.specs.Table.{node_at, Indexed, Table, at}
 use Rattle.net_insertion.specs.declared.Place.{Place}
 use Rattle.net_insertion.specs.declared.Inserted.{Inserted}
+use Rattle.net_insertion.proofs.Numbers.{RefusesAs, inserted_refuses}
+use Rattle.refusals.specs.declared.Refusal.{Refusal}
+use Rattle.refusals.specs.Refusals.{refusal_number}
 use Rattle.net_insertion.specs.declared.Inserted.TheVariants.{Added, Moved, Refused}
 use Rattle.net_insertion.specs.Insertion.{linked_to, event_node, split_fake, inserted, inserted_table, InsertedInto, flagged, table_of}
 use Rattle.net_insertion.proofs.Kept.{inserted_same, more, Kept, inserted_room, call_kept}
@@ -138,6 +141,10 @@ module _ {w : Layout} {start : List ℕ} {fs : List Float} {us cells : List ℕ}
     pub added_fresh : (fs' : List Float) (us' : List ℕ) (a : Inserted) → a ≡ answer → InsertedInto (table_of fs us) c.nodes join p e fs' us' a → (q : Place) (split : Bool) → a ≡ Added q split → Fresh q.idx_prev split
     added_fresh fs' us' a f l q split g = (added_ready fs' us' a f l q split g).fresh
 
+-- row 12 or 13
+pub inserted_rows : (t : Table) (n places : ℕ) (ended : ℕ → Bool) (join : Float) (p : Place) (e : TimedEvent) (a : Inserted) → a ≡ inserted t n places ended join p e → (k : ℕ) → a ≡ Refused k → (k ≡ 12) ⊎ (k ≡ 13)
+inserted_rows t n places ended join p e a f k h = subst RefusesAs (sym f ∙ h) (inserted_refuses t n places ended join p e)
+
 -- ---- the network and the run then
 
 module _ {w : Layout} {start : List ℕ} {fs : List Float} {us cells : List ℕ} {c : Counts} {net : Net} (v : NetIn w start fs us cells c net) {leg : ℕ} {joins : List ℕ} {m : Mover} {run : Run} (u : RunIn c.nodes leg joins m run)
@@ -158,8 +165,8 @@ module _ {w : Layout} {start : List ℕ} {fs : List Float} {us cells : List ℕ}
     answers : (x : Inserted) → a ≡ x → goes_on (insert_event w.places join net run e) ≡ goes_on (answeredAs net run e table_then x)
     answers x h = ap goes_on (event_is ∙ ap (answeredAs net run e table_then) (sym f ∙ h))
 
-    pub insert_refused : (k : ℕ) → a ≡ Refused k → goes_on (insert_event w.places join net run e) ≡ refused k
-    insert_refused k h = answers (Refused k) h
+    pub insert_refused : (k : ℕ) → a ≡ Refused k → (r : Refusal) → refusal_number r ≡ k → insert_event w.places join net run e ≡ refused (refusal_number r)
+    insert_refused k h r g = event_is ∙ ap (answeredAs net run e table_then) (sym f ∙ h) ∙ ap refused (sym g)
 
     pub insert_moved : (q : Place) → a ≡ Moved q → GoesAs (goes_on (insert_event w.places join net run e)) w start leg fs' us' cells joins c (record { place = q; has_split = m.has_split; count = m.count })
     unfolding moved_to

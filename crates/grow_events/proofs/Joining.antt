@@ -7,7 +7,7 @@ use native.Mathlib.Omega.{arith}
 use borrow.Author.Tests.{not-true, not-false}
 use lib.Ieee.{Float}
 use Rattle.net_node.proofs.Tables.{RoomIn}
-use Rattle.laws.specs.Answer.{refused}
+use Rattle.laws.specs.Answer.{Answer, refused}
 use Rattle.net_node.specs.declared.TimedEvent.{TimedEvent}
 use Rattle.net_node.specs.Table.{node_at, Indexed, Table, at}
 use Rattle.net_event_map.specs.declared.Layout.{Layout}
@@ -18,17 +18,30 @@ use Rattle.net_joins.specs.declared.Step.{Step}
 use Rattle.net_joins.specs.declared.Step.TheVariants.{Joined, Waits, Refused}
 use Rattle.net_joins.specs.Joins.{JoinStep, join_step, joined_table, StepAs, SteppedInto}
 use Rattle.net_joins.proofs.Kept.{Target, joined_target, waits_sound, stepped_table, joined_room, joined_indexed, joined_mapped}
-use Rattle.grow_rules.specs.Run.{Net, Run, joined_to, with_joins, insert_event, goes_on, joined_as, event_as, run_event}
+use Rattle.grow_rules.specs.Run.{Net, Run, After, joined_to, with_joins, insert_event, goes_on, joined_as, event_as, run_event}
 use Rattle.grow_events.specs.declared.Counts.{Counts}
 use Rattle.grow_events.specs.declared.Mover.{Mover}
-use Rattle.grow_events.specs.declared.RunAnswer.{RunAnswer}
-use Rattle.grow_events.specs.Held.{NetIn, RunIn, Growing, Moving, LeftAs, OutcomeAs, counts_joined}
+use Rattle.std.specs.Prelude.{Result, Ok, Err}
+use Rattle.refusals.specs.declared.Refusal.{Refusal}
+use Rattle.grow_events.specs.declared.RunOutcome.{RunOutcome}
+use Rattle.grow_events.specs.declared.RunOutcome.TheVariants.{On}
+use Rattle.grow_events.specs.Held.{NetIn, RunIn, Growing, Moving, LeftAs, GoesAs, OutcomeAs, InsertedAs, counts_joined}
 use Rattle.grow_ends.proofs.Kept.{below_more}
 use Rattle.grow_events.proofs.Inserting.{net_indexed, net_mapped}
 use Rattle.net_insertion.specs.Insertion.{table_of}
 
 pub moving_grows : {w : Layout} {fs : List Float} {us cells joins : List ℕ} {c : Counts} {m : Mover} → Moving w fs us cells joins c m → Growing w fs us cells c
 moving_grows v = record { start = v.start; net = v.net; holds = v.holds }
+
+-- what an insertion gives is what the event gives
+abbrev pub as_outcome : Result (Counts × Mover) Refusal → Result RunOutcome Refusal
+as_outcome (Ok r) = Ok (On r.0 r.1)
+as_outcome (Err r) = Err r
+
+pub inserted_outcome : (answer : Answer After) (w : Layout) (start : List ℕ) (leg : ℕ) (fs : List Float) (us cells joins : List ℕ) (r : Result (Counts × Mover) Refusal)
+    → InsertedAs answer w start leg fs us cells joins r → OutcomeAs (goes_on answer) w start leg fs us cells joins (as_outcome r)
+inserted_outcome answer w start leg fs us cells joins (Ok r) h = h
+inserted_outcome answer w start leg fs us cells joins (Err r) h = ap goes_on h
 
 module _ {w : Layout} {start : List ℕ} {fs : List Float} {us cells : List ℕ} {c : Counts} {net : Net} (v : NetIn w start fs us cells c net) {leg : ℕ} {joins : List ℕ} {m : Mover} {run : Run} (u : RunIn c.nodes leg joins m run)
     (join : Float) (e : TimedEvent) where
@@ -37,8 +50,10 @@ module _ {w : Layout} {start : List ℕ} {fs : List Float} {us cells : List ℕ}
   unfolding run_event
   event_alone h = ap (λ (b : Bool). event_as b w.places join net run e) (u.has_split ∙ not-true m.has_split h)
 
-  pub alone_as : not m.has_split ≡ true → (fs' : List Float) (us' cells' joins' : List ℕ) (r : RunAnswer) → OutcomeAs (goes_on (insert_event w.places join net run e)) w start leg fs' us' cells' joins' r → OutcomeAs (run_event w.places join net run e) w start leg fs' us' cells' joins' r
-  alone_as h fs' us' cells' joins' r o = subst (λ a. OutcomeAs a w start leg fs' us' cells' joins' r) (sym (event_alone h)) o
+  pub alone_as : not m.has_split ≡ true → (fs' : List Float) (us' cells' joins' : List ℕ) (r : Result (Counts × Mover) Refusal) → InsertedAs (insert_event w.places join net run e) w start leg fs' us' cells' joins' r → (x : Result RunOutcome Refusal) → x ≡ as_outcome r → OutcomeAs (run_event w.places join net run e) w start leg fs' us' cells' joins' x
+  alone_as h fs' us' cells' joins' r o x q =
+      subst (OutcomeAs (run_event w.places join net run e) w start leg fs' us' cells' joins') (sym q)
+      (subst (λ a. OutcomeAs a w start leg fs' us' cells' joins' (as_outcome r)) (sym (event_alone h)) (inserted_outcome (insert_event w.places join net run e) w start leg fs' us' cells' joins' r o))
 
   abbrev step_now : JoinStep
   step_now = join_step (node_at fs us) c.nodes w.places join e (entries_in joins m.count)
@@ -54,8 +69,8 @@ module _ {w : Layout} {start : List ℕ} {fs : List Float} {us cells : List ℕ}
         ∙ ap (λ (es : List EstJoinPath). joined_as w.places join net run e (join_step (node_at fs us) c.nodes w.places join e es)) u.joins
         ∙ ap (joined_as w.places join net run e) g
 
-    pub step_refused : (n : ℕ) → s ≡ Refused n → run_event w.places join net run e ≡ refused n
-    step_refused n g = let z : StepAs step_now joins' (Refused n) = subst (StepAs step_now joins') g f in step_is _ z.0 ∙ ap refused (sym z.1)
+    pub step_refused : (n : ℕ) → s ≡ Refused n → run_event w.places join net run e ≡ refused 12
+    step_refused n g = let z : StepAs step_now joins' (Refused n) = subst (StepAs step_now joins') g f in step_is _ z.0
 
     -- ---- the run has joined
 
@@ -116,7 +131,8 @@ module _ {w : Layout} {start : List ℕ} {fs : List Float} {us cells : List ℕ}
           let z : StepAs step_now joins' (Waits n) = subst (StepAs step_now joins') g f in
           record { place = u.place; leg = u.leg; has_split = u.has_split; joins = refl; few = z.1; valid = (waits_sound v.indexed w.places join e (entries_in joins m.count) u.valid joins' n z).valid; stands = u.stands }
 
-      pub step_waits : (fs'' : List Float) (us'' cells'' joins'' : List ℕ) (r : RunAnswer) → OutcomeAs (goes_on (insert_event w.places join net (with_joins run (entries_in joins' n)) e)) w start leg fs'' us'' cells'' joins'' r → OutcomeAs (run_event w.places join net run e) w start leg fs'' us'' cells'' joins'' r
-      step_waits fs'' us'' cells'' joins'' r o =
+      pub step_waits : (fs'' : List Float) (us'' cells'' joins'' : List ℕ) (r : Result (Counts × Mover) Refusal) → InsertedAs (insert_event w.places join net (with_joins run (entries_in joins' n)) e) w start leg fs'' us'' cells'' joins'' r → (x : Result RunOutcome Refusal) → x ≡ as_outcome r → OutcomeAs (run_event w.places join net run e) w start leg fs'' us'' cells'' joins'' x
+      step_waits fs'' us'' cells'' joins'' r o x q =
           let z : StepAs step_now joins' (Waits n) = subst (StepAs step_now joins') g f in
-          subst (λ a. OutcomeAs a w start leg fs'' us'' cells'' joins'' r) (sym (step_is _ z.0)) o
+          subst (OutcomeAs (run_event w.places join net run e) w start leg fs'' us'' cells'' joins'') (sym q)
+          (subst (λ a. OutcomeAs a w start leg fs'' us'' cells'' joins'' (as_outcome r)) (sym (step_is _ z.0)) (inserted_outcome (insert_event w.places join net (with_joins run (entries_in joins' n)) e) w start leg fs'' us'' cells'' joins'' r o))

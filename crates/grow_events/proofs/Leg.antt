@@ -1,6 +1,5 @@
 -- The events of a leg: the loop goes from event to event, and what is left of the leg gives what the whole gives. Each event is a link's Arrive or Clear, and the cells of the path stay.
 use mathlib.Core.Path.{◌≡◌, refl, sym, ap, ◌∙◌, subst}
-use mathlib.Core.Logic.{◌⊎◌, ⊎_elim}
 use mathlib.Core.Bool.{Bool, true, false, cond}
 use mathlib.Core.List.{List, [], ◌∷◌}
 use Prim.{tt}
@@ -28,8 +27,10 @@ use Rattle.grow_rules.specs.Run.{Outcome}
 use Rattle.grow_path.specs.Kept.{event_in}
 use Rattle.grow_events.specs.declared.Counts.{Counts}
 use Rattle.grow_events.specs.declared.Mover.{Mover}
-use Rattle.grow_events.specs.declared.RunAnswer.{RunAnswer}
-use Rattle.grow_events.specs.declared.RunAnswer.TheVariants.{On, Ended, Refused}
+use Rattle.std.specs.Prelude.{Result, Ok, Err}
+use Rattle.refusals.specs.declared.Refusal.{Refusal}
+use Rattle.grow_events.specs.declared.RunOutcome.{RunOutcome}
+use Rattle.grow_events.specs.declared.RunOutcome.TheVariants.{On, Ended}
 use Rattle.grow_events.specs.Held.{NetIn, RunIn, Moving, Along, SomePath, GoesAs, OutcomeAs, NotFewer, unless_bad, stopped_as}
 use Rattle.grow_events.proofs.Kept.{along_kept}
 
@@ -165,7 +166,7 @@ module _ (b : List ℕ) (reals : List Float) (v : Movement) (w : Layout) (join :
           next-real x z = subst (λ (y : TimedEvent). Real y.link_event w.links) (sym z) (event_real way.along next-ahead)
 
         -- what became of it
-        module _ (x : TimedEvent) (z : x ≡ event_in cells p) (fs' : List Float) (us' cells' joins' : List ℕ) (r : RunAnswer)
+        module _ (x : TimedEvent) (z : x ≡ event_in cells p) (fs' : List Float) (us' cells' joins' : List ℕ) (r : Result RunOutcome Refusal)
             (f : (start : List ℕ) (leg : ℕ) (net : Net) (run : Run) → NetIn w start fs us cells c net → RunIn c.nodes leg joins m run → OutcomeAs (run_event w.places join net run x) w start leg fs' us' cells' joins' r)
             (k : NotFewer c r) (ok : bad_point p ≡ false) where
           fine-left : some_bad (points_passed course) ≡ some_bad (passed_from course g)
@@ -177,20 +178,20 @@ module _ (b : List ℕ) (reals : List Float) (v : Movement) (w : Layout) (join :
               ap (λ (ps : List PassedPoint). run_events w.places join (events_at b path ps) (record { net = net; run = run })) e
               ∙ ap (λ (y : TimedEvent). then_left path g (run_event w.places join net run y)) (sym (z ∙ event_is a next-ahead))
 
-          stopped : (r : RunAnswer) → ((d : Counts) (n : Mover) → r ≡ On d n → ⊥) → (start path : List ℕ) (leg : ℕ) (net : Net) (run : Run) → Along b reals cells w v.points path
+          stopped : (r : Result RunOutcome Refusal) → ((d : Counts) (n : Mover) → r ≡ Ok (On d n) → ⊥) → (start path : List ℕ) (leg : ℕ) (net : Net) (run : Run) → Along b reals cells w v.points path
               → OutcomeAs (run_event w.places join net run x) w start leg fs' us' cells' joins' r → OutcomeAs (left_of path h net run) w start leg fs' us' cells' joins' r
-          stopped (On d n) i start path leg net run a o = absurd (i d n refl)
-          stopped (Ended d) i start path leg net run a o = record { after = o.after; is = step path net run a ∙ ap (then_left path g) o.is; net = o.net }
-          stopped (Refused n) i start path leg net run a o = step path net run a ∙ ap (then_left path g) o
+          stopped (Ok (On d n)) i start path leg net run a o = absurd (i d n refl)
+          stopped (Ok (Ended d)) i start path leg net run a o = record { after = o.after; is = step path net run a ∙ ap (then_left path g) o.is; net = o.net }
+          stopped (Err n) i start path leg net run a o = step path net run a ∙ ap (then_left path g) o
 
-          stays : ((d : Counts) (n : Mover) → r ≡ On d n → ⊥) → (start path : List ℕ) (leg : ℕ) (net : Net) (run : Run) → NetIn w start fs₀ us₀ cells₀ c₀ net → RunIn c₀.nodes leg joins₀ m₀ run → Along b reals cells₀ w v.points path
+          stays : ((d : Counts) (n : Mover) → r ≡ Ok (On d n) → ⊥) → (start path : List ℕ) (leg : ℕ) (net : Net) (run : Run) → NetIn w start fs₀ us₀ cells₀ c₀ net → RunIn c₀.nodes leg joins₀ m₀ run → Along b reals cells₀ w v.points path
               → OutcomeAs (whole_of path net run) w start leg fs' us' cells' joins' r
           stays i start path leg net run n u a =
               let o = s.goes start path leg net run n u a in
               subst (λ (y : Answer Outcome). OutcomeAs y w start leg fs' us' cells' joins' r) o.left (stopped r i start path leg o.net o.run o.along (f start leg o.net o.run o.holds o.runs))
 
           -- it is the last, unless a bad one is left
-          pub going-stop : ((d : Counts) (n : Mover) → r ≡ On d n → ⊥) → (r' : RunAnswer) → r' ≡ stopped_as (some_bad (passed_from course g)) r
+          pub going-stop : ((d : Counts) (n : Mover) → r ≡ Ok (On d n) → ⊥) → (r' : Result RunOutcome Refusal) → r' ≡ stopped_as (some_bad (passed_from course g)) r
               → (start path : List ℕ) (leg : ℕ) (net : Net) (run : Run) → NetIn w start fs₀ us₀ cells₀ c₀ net → RunIn c₀.nodes leg joins₀ m₀ run → Along b reals cells₀ w v.points path
               → OutcomeAs (unless_bad (some_bad (points_passed course)) (whole_of path net run)) w start leg fs' us' cells' joins' r'
           going-stop i r' q start path leg net run n u a =
@@ -201,19 +202,19 @@ module _ (b : List ℕ) (reals : List Float) (v : Movement) (w : Layout) (join :
               go true = refl
               go false = stays i start path leg net run n u a
 
-          pub stop-more : (r' : RunAnswer) → r' ≡ stopped_as (some_bad (passed_from course g)) r → NotFewer c₀ r'
+          pub stop-more : (r' : Result RunOutcome Refusal) → r' ≡ stopped_as (some_bad (passed_from course g)) r → NotFewer c₀ r'
           stop-more r' q = subst (NotFewer c₀) (sym q) (either (some_bad (passed_from course g)))
             where
-              go : (r : RunAnswer) → NotFewer c r → NotFewer c₀ r
-              go (On d n) i = omega (arith, s.more)
-              go (Ended d) i = omega (arith, s.more)
-              go (Refused n) i = tt
+              go : (r : Result RunOutcome Refusal) → NotFewer c r → NotFewer c₀ r
+              go (Ok (On d n)) i = omega (arith, s.more)
+              go (Ok (Ended d)) i = omega (arith, s.more)
+              go (Err n) i = tt
 
               either : (t : Bool) → NotFewer c₀ (stopped_as t r)
               either true = tt
               either false = go r k
 
-          pub going_on : Within course g → (d : Counts) (n : Mover) → r ≡ On d n → Going fs' us' cells' joins' g d n
+          pub going_on : Within course g → (d : Counts) (n : Mover) → r ≡ Ok (On d n) → Going fs' us' cells' joins' g d n
           going_on l d n i = record {
             within = l;
             ahead = next-all.1;
@@ -234,9 +235,16 @@ module _ (b : List ℕ) (reals : List Float) (v : Movement) (w : Layout) (join :
                     left = sym (step path o.net o.run o.along ∙ ap (then_left path g) y.is) ∙ o.left;
                   }
 
--- an outcome whose number is another than that of going on
-pub not_on : (◌≡◌ {A = ℕ} 0 1) ⊎ (◌≡◌ {A = ℕ} 0 2) → ⊥
-not_on o = ⊎_elim (λ (e : ◌≡◌ {A = ℕ} 0 1). omega arith) (λ (e : ◌≡◌ {A = ℕ} 0 2). omega arith) o
+-- ---- what became of a run, by its arms
+
+pub went_on : (r : Result RunOutcome Refusal) (o : RunOutcome) (d : Counts) (n : Mover) → r ≡ Ok o → o ≡ On d n → r ≡ Ok (On d n)
+went_on r o d n p q = p ∙ ap Ok q
+
+pub not_ended : (r : Result RunOutcome Refusal) (o : RunOutcome) (d : Counts) → r ≡ Ok o → o ≡ Ended d → (x : Counts) (n : Mover) → r ≡ Ok (On x n) → ⊥
+not_ended r o d p q x n e = cc
+
+pub not_refused : (r : Result RunOutcome Refusal) (k : Refusal) → r ≡ Err k → (x : Counts) (n : Mover) → r ≡ Ok (On x n) → ⊥
+not_refused r k p x n e = cc
 
 -- ---- the slices keep their lengths
 

@@ -1,7 +1,7 @@
 -- How the lent slices hold the network under growth and the run that moves. Contracts use these words; the definitions
 -- of growth are grow_rules' specs/. A node's unit of cells has the map's two (net_event_map's specs), and in cell 2
 -- what `ends` keeps of a node at which a run has finished.
-use Rattle.std.specs.Prelude.{◌≡◌, ◌≢◌, Bool, true, false, List, ℕ, ◌+◌, ◌*◌, ◌≤◌, ◌<◌, length, get_or, Float}
+use Rattle.std.specs.Prelude.{◌≡◌, ◌≢◌, Bool, true, false, List, ℕ, ◌+◌, ◌*◌, ◌≤◌, ◌<◌, length, get_or, Float, Result, Ok, Err}
 use Rattle.laws.specs.Answer.{Answer, refused, given}
 use Rattle.net_node.specs.Table.{node_at, Room, Indexed, Table}
 use Rattle.net_insertion.specs.Insertion.{flagged}
@@ -21,8 +21,11 @@ use Rattle.event_walk.specs.Course.{course_of}
 use Rattle.event_walk.specs.Walk.{points_passed, some_bad}
 use Rattle.grow_events.specs.declared.Counts.{Counts}
 use Rattle.grow_events.specs.declared.Mover.{Mover}
-use Rattle.grow_events.specs.declared.RunAnswer.{RunAnswer}
-use Rattle.grow_events.specs.declared.RunAnswer.TheVariants.{On, Ended, Refused}
+use Rattle.grow_events.specs.declared.RunOutcome.{RunOutcome}
+use Rattle.grow_events.specs.declared.RunOutcome.TheVariants.{On, Ended}
+use Rattle.refusals.specs.declared.Refusal.{Refusal}
+use Rattle.refusals.specs.declared.Refusal.TheVariants.{BadEvent}
+use Rattle.refusals.specs.Refusals.{refusal_number}
 
 -- where a node's mark of an end stands
 abbrev pub ends_at : Layout → ℕ
@@ -124,10 +127,18 @@ pub record LeftAs (answer : Answer Outcome) (w : Layout) (start : List ℕ) (fs 
   pub net : NetIn w start fs us cells c after
 
 -- the run goes on, has ended, or a refusal
-abbrev pub OutcomeAs : Answer Outcome → Layout → List ℕ → ℕ → List Float → List ℕ → List ℕ → List ℕ → RunAnswer → Type 0
-OutcomeAs answer w start leg fs us cells joins (On c m) = GoesAs answer w start leg fs us cells joins c m
-OutcomeAs answer w start leg fs us cells joins (Ended c) = LeftAs answer w start fs us cells c
-OutcomeAs answer w start leg fs us cells joins (Refused k) = answer ≡ refused k
+abbrev pub OutcomeAs : Answer Outcome → Layout → List ℕ → ℕ → List Float → List ℕ → List ℕ → List ℕ
+    → Result RunOutcome Refusal → Type 0
+OutcomeAs answer w start leg fs us cells joins (Ok (On c m)) = GoesAs answer w start leg fs us cells joins c m
+OutcomeAs answer w start leg fs us cells joins (Ok (Ended c)) = LeftAs answer w start fs us cells c
+OutcomeAs answer w start leg fs us cells joins (Err r) = answer ≡ refused (refusal_number r)
+
+-- an insertion never ends a run
+abbrev pub InsertedAs : Answer After → Layout → List ℕ → ℕ → List Float → List ℕ → List ℕ → List ℕ
+    → Result (Counts × Mover) Refusal → Type 0
+InsertedAs answer w start leg fs us cells joins (Ok r) =
+    GoesAs (goes_on answer) w start leg fs us cells joins r.0 r.1
+InsertedAs answer w start leg fs us cells joins (Err r) = answer ≡ refused (refusal_number r)
 
 -- ---- row 11 of a leg, asked as its events come
 
@@ -137,8 +148,8 @@ unless_bad true answer = refused bad_leg_number
 unless_bad false answer = answer
 
 -- what the code answers where a run stops before its leg's end, by whether an event is bad that is left
-abbrev pub stopped_as : Bool → RunAnswer → RunAnswer
-stopped_as true r = Refused bad_leg_number
+abbrev pub stopped_as : Bool → Result RunOutcome Refusal → Result RunOutcome Refusal
+stopped_as true r = Err BadEvent
 stopped_as false r = r
 
 -- ---- the answer to an event, and to all of a leg, of every network and run that the slices hold
@@ -169,23 +180,24 @@ net_at_exit floats numbers cells joins = record {
 }
 
 -- an event is inserted at the run's place
-abbrev pub InsertsEvent : Layout → Float → Counts → Mover → TimedEvent → Table → List ℕ → Table → List ℕ → RunAnswer
-    → Type 0
+abbrev pub InsertsEvent : Layout → Float → Counts → Mover → TimedEvent → Table → List ℕ → Table → List ℕ
+    → Result (Counts × Mover) Refusal → Type 0
 InsertsEvent w join c m e t cells t' cells' r =
     (start joins : List ℕ) (leg : ℕ) (net : Net) (run : Run)
     → NetIn w start t.floats t.numbers cells c net → RunIn c.nodes leg joins m run
-    → OutcomeAs (goes_on (insert_event w.places join net run e)) w start leg t'.floats t'.numbers cells' joins r
+    → InsertedAs (insert_event w.places join net run e) w start leg t'.floats t'.numbers cells' joins r
 
 -- "Only a run that has added since its pop joins."
-abbrev pub RunsEvent : Layout → Float → Counts → Mover → TimedEvent → NetLists → NetLists → RunAnswer → Type 0
+abbrev pub RunsEvent : Layout → Float → Counts → Mover → TimedEvent → NetLists → NetLists → Result RunOutcome Refusal
+    → Type 0
 RunsEvent w join c m e s s' r =
     (start : List ℕ) (leg : ℕ) (net : Net) (run : Run)
     → NetIn w start s.floats s.numbers s.cells c net → RunIn c.nodes leg s.joins m run
     → OutcomeAs (run_event w.places join net run e) w start leg s'.floats s'.numbers s'.cells s'.joins r
 
 -- all events of a leg, whose points are passed along a path
-abbrev pub RunsLeg : List ℕ → List Float → Movement → Layout → Float → Counts → Mover → NetLists → NetLists → RunAnswer
-    → Type 0
+abbrev pub RunsLeg : List ℕ → List Float → Movement → Layout → Float → Counts → Mover → NetLists → NetLists
+    → Result RunOutcome Refusal → Type 0
 RunsLeg b reals v w join c m s s' r =
     (start path : List ℕ) (leg : ℕ) (net : Net) (run : Run)
     → NetIn w start s.floats s.numbers s.cells c net → RunIn c.nodes leg s.joins m run
@@ -195,7 +207,7 @@ RunsLeg b reals v w join c m s s' r =
     w start leg s'.floats s'.numbers s'.cells s'.joins r
 
 -- no node is lost
-abbrev pub NotFewer : Counts → RunAnswer → Type 0
-NotFewer c (On more m) = c.nodes ≤ more.nodes
-NotFewer c (Ended more) = c.nodes ≤ more.nodes
-NotFewer c (Refused k) = Unit
+abbrev pub NotFewer : Counts → Result RunOutcome Refusal → Type 0
+NotFewer c (Ok (On more m)) = c.nodes ≤ more.nodes
+NotFewer c (Ok (Ended more)) = c.nodes ≤ more.nodes
+NotFewer c (Err r) = Unit

@@ -2,12 +2,13 @@
 // specs/Held.antt.
 #![tactic(auto)]
 
-ghost use Rattle.std.specs.Prelude.{◌≡◌, ℕ, ◌+◌, ◌≤◌, ◌<◌, length};
+ghost use Rattle.std.specs.Prelude.{◌≡◌, ℕ, ◌+◌, ◌≤◌, ◌<◌, length, ◌⊎◌, IfOk};
 ghost use Rattle.event_walk.specs.Course.{course_of, Held, Walkable};
 ghost use Rattle.event_walk.specs.Walk.{passed_from, some_bad, Within};
 ghost use Rattle.net_event_map.specs.EventMap.{Real};
 ghost use Rattle.net_node.specs.Lent.{table_at_entry, table_at_exit};
 ghost use Rattle.net_stack.specs.Openings.{stack_length};
+ghost use Rattle.refusals.specs.Refusals.{refusal_number};
 ghost use Rattle.grow_events.specs.Held.{Growing, Moving, SomePath, NotFewer, stopped_as, net_at_entry, net_at_exit};
 ghost use Rattle.grow_events.specs.Held.{InsertsEvent, RunsEvent, RunsLeg, counts_added, counts_joined};
 
@@ -16,6 +17,7 @@ use net_event_map::Layout;
 use net_insertion::{Inserted, Place};
 use net_joins::Step;
 use net_node::TimedEvent;
+use refusals::Refusal;
 
 // What is counted of a network: its nodes, event nodes, split Fakes and joins; and the latest node at which a run has
 // finished, or 0.
@@ -36,12 +38,11 @@ pub struct Mover {
     pub count: usize,
 }
 
-// What becomes of a run at an event: it goes on, it has ended by a join, or a refusal's number.
+// What becomes of a run at an event, or at all of a leg: it goes on, or it has ended by a join.
 #[derive(Clone, Copy)]
-pub enum RunAnswer {
+pub enum RunOutcome {
     On(Counts, Mover),
     Ended(Counts),
-    Refused(u32),
 }
 
 // The counts with one event node more, and a split's Fake.
@@ -55,8 +56,19 @@ fn with_added(c: Counts, node: u32, split: bool) -> Counts
         nodes: node as usize + 1,
         added: c.added + 1,
         splits,
-        joined: c.joined,
-        last_end: c.last_end,
+        ..c
+    }
+}
+
+// The row of an insertion that is refused, by its number.
+fn refusal_of(k: u32) -> Refusal
+    requires { (k ≡ 12) ⊎ (k ≡ 13) }
+    ensures { refusal_number result ≡ k }
+{
+    if k == 12 {
+        Refusal::NoPlace
+    } else {
+        Refusal::BadEnd
     }
 }
 
@@ -70,13 +82,13 @@ pub fn insert_event(
     c: Counts,
     m: Mover,
     e: TimedEvent,
-) -> RunAnswer
+) -> Result<(Counts, Mover), Refusal>
     requires growing { Growing w floats.old numbers.old cells.old c }
     requires idx_prev_bound { m.place.idx_prev < c.nodes }
     requires real { Real e.link_event w.links }
     ensures outcome { InsertsEvent w join c m e (table_at_entry floats numbers) cells.old
         (table_at_exit floats numbers) cells.new result }
-    ensures more { NotFewer c result }
+    ensures more { IfOk result (λ r. c.nodes ≤ r.0.nodes) }
 {
     let place = m.place;
     let inserted = net_insertion::insert_est_time(
@@ -91,27 +103,18 @@ pub fn insert_event(
         e,
     );
     match inserted {
-        Inserted::Refused(k) => RunAnswer::Refused(k),
-        Inserted::Moved(place) => RunAnswer::On(
-            c,
-            Mover {
-                place,
-                has_split: m.has_split,
-                count: m.count,
-            },
-        ),
+        Inserted::Refused(k) => Err(refusal_of(k)),
+        Inserted::Moved(place) => Ok((c, Mover { place, ..m })),
         Inserted::Added(place, split) => {
             let event = e.link_event;
             net_event_map::insert(cells, w, place.idx_prev, event);
             let counts = with_added(c, place.idx_prev, split);
-            RunAnswer::On(
-                counts,
-                Mover {
-                    place,
-                    has_split: true,
-                    count: m.count,
-                },
-            )
+            let mover = Mover {
+                place,
+                has_split: true,
+                ..m
+            };
+            Ok((counts, mover))
         }
     }
 }
@@ -124,10 +127,8 @@ fn with_joined(c: Counts) -> Counts
 {
     Counts {
         nodes: c.nodes + 1,
-        added: c.added,
-        splits: c.splits,
         joined: c.joined + 1,
-        last_end: c.last_end,
+        ..c
     }
 }
 
@@ -144,7 +145,7 @@ pub fn run_event(
     c: Counts,
     m: Mover,
     e: TimedEvent,
-) -> RunAnswer
+) -> Result<RunOutcome, Refusal>
     requires moving { Moving w floats.old numbers.old cells.old joins.old c m }
     requires real { Real e.link_event w.links }
     requires in_bounds { 2048 ≤ length joins.old }
@@ -155,28 +156,31 @@ pub fn run_event(
     ensures more { NotFewer c result }
 {
     if !m.has_split {
-        return insert_event(floats, numbers, cells, w, join, c, m, e);
+        let (counts, mover) = insert_event(floats, numbers, cells, w, join, c, m, e)?;
+        return Ok(RunOutcome::On(counts, mover));
     }
     let step = net_joins::join_step(
         floats, numbers, c.nodes, cells, w, join, joins, m.count, scratch, stack, e,
     );
     match step {
-        Step::Refused(k) => RunAnswer::Refused(k),
-        Step::Joined(_) => RunAnswer::Ended(with_joined(c)),
+        Step::Refused(_) => Err(Refusal::NoPlace),
+        Step::Joined(_) => Ok(RunOutcome::Ended(with_joined(c))),
         Step::Waits(count) => {
-            let place = m.place;
-            let waits = Mover {
-                place,
-                has_split: m.has_split,
-                count,
-            };
-            insert_event(floats, numbers, cells, w, join, c, waits, e)
+            let waits = Mover { count, ..m };
+            let (counts, mover) = insert_event(floats, numbers, cells, w, join, c, waits, e)?;
+            Ok(RunOutcome::On(counts, mover))
         }
     }
 }
 
 // What a leg gives whose run has stopped, or is refused, before its end: 11, if an event is bad that is left.
-fn stopped(book: &[u8], reals: &[f64], v: Movement, from: Heads, became: RunAnswer) -> RunAnswer
+fn stopped(
+    book: &[u8],
+    reals: &[f64],
+    v: Movement,
+    from: Heads,
+    became: Result<RunOutcome, Refusal>,
+) -> Result<RunOutcome, Refusal>
     requires held { Held book.now reals.now v }
     requires walkable { Walkable (course_of book.now reals.now v) }
     requires within { Within (course_of book.now reals.now v) from }
@@ -184,7 +188,7 @@ fn stopped(book: &[u8], reals: &[f64], v: Movement, from: Heads, became: RunAnsw
         became }
 {
     if grow_path::some_bad(book, reals, v, from) {
-        return RunAnswer::Refused(11);
+        return Err(Refusal::BadEvent);
     }
     became
 }
@@ -206,7 +210,7 @@ pub fn run_events(
     v: Movement,
     c: Counts,
     m: Mover,
-) -> RunAnswer
+) -> Result<RunOutcome, Refusal>
     requires held { Held book.now reals.now v }
     requires walkable { Walkable (course_of book.now reals.now v) }
     requires some_path { SomePath book.now reals.now cells.old w v.points }
@@ -224,16 +228,19 @@ pub fn run_events(
     loop {
         let next = event_walk::next_event(book, reals, v, h);
         let Next::Passed(p, g) = next else {
-            return RunAnswer::On(counts, mover);
+            return Ok(RunOutcome::On(counts, mover));
         };
         if event_walk::is_bad_point(p) {
-            return RunAnswer::Refused(11);
+            return Err(Refusal::BadEvent);
         }
         let e = grow_path::event_at(cells, p);
         let became = run_event(
             floats, numbers, cells, w, join, joins, scratch, stack, counts, mover, e,
         );
-        let RunAnswer::On(more, moved) = became else {
+        let Ok(outcome) = became else {
+            return stopped(book, reals, v, g, became);
+        };
+        let RunOutcome::On(more, moved) = outcome else {
             return stopped(book, reals, v, g, became);
         };
         counts = more;

@@ -15,7 +15,11 @@ use Rattle.book_format.specs.Format.{links, destinations, link_at, link_next, li
 use Rattle.book_options.specs.Options.{OptionsIn, in_set}
 use Rattle.grow_rules.specs.Run.{Net, Run}
 use Rattle.grow_rules.specs.Growth.{is_destination, on_over, save_over, on_as}
-use Rattle.grow_leg.specs.declared.Ways.TheVariants.{None, One, Both}
+use Rattle.grow_leg.specs.declared.Ways.TheVariants.{One, Both}
+use Rattle.std.specs.Prelude.{Ok, Err}
+use Rattle.refusals.specs.declared.Refusal.{Refusal}
+use Rattle.refusals.specs.declared.Refusal.TheVariants.{NoWayOn}
+use Rattle.refusals.specs.Refusals.{refusal_number}
 use Rattle.grow_leg.specs.OneLeg.{ways_as}
 
 -- ---- destinations
@@ -76,21 +80,21 @@ pub record Fork (z : Bool) (next alt x y : ℕ) : Type 0 where
   pub second : y ≡ alt
 
 module _ (b : List ℕ) (places : ℕ) (net : Net) (run : Run) (rest : List Run) (next alt : ℕ) where
-  pub go_none : (z m a : Bool) → None ≡ ways_as z m a next alt → on_as z m a b places net run next alt rest ≡ refused 9
-  go_none true m a e = refl
-  go_none false false false e = refl
-  go_none false true false e = let o : ◌≡◌ {A = ℕ} 0 1 = cc in absurd (omega arith)
-  go_none false false true e = let o : ◌≡◌ {A = ℕ} 0 1 = cc in absurd (omega arith)
-  go_none false true true e = let o : ◌≡◌ {A = ℕ} 0 1 = cc in absurd (omega arith)
+  pub go_none : (z m a : Bool) (r : Refusal) → Err r ≡ ways_as z m a next alt → on_as z m a b places net run next alt rest ≡ refused (refusal_number r)
+  go_none true m a r e = let d : r ≡ NoWayOn = cc in ap (λ (x : Refusal). refused (refusal_number x)) (sym d)
+  go_none false false false r e = let d : r ≡ NoWayOn = cc in ap (λ (x : Refusal). refused (refusal_number x)) (sym d)
+  go_none false true false r e = cc
+  go_none false false true r e = cc
+  go_none false true true r e = cc
 
-  pub go_one : (z m a : Bool) (x : ℕ) → One x ≡ ways_as z m a next alt → on_as z m a b places net run next alt rest ≡ on_over b net run x rest
+  pub go_one : (z m a : Bool) (x : ℕ) → Ok (One x) ≡ ways_as z m a next alt → on_as z m a b places net run next alt rest ≡ on_over b net run x rest
   go_one true m a x e = let o : ◌≡◌ {A = ℕ} 0 1 = cc in absurd (omega arith)
   go_one false false false x e = let o : ◌≡◌ {A = ℕ} 0 1 = cc in absurd (omega arith)
   go_one false true false x e = let d : x ≡ next = cc in ap (λ (k : ℕ). on_over b net run k rest) (sym d)
   go_one false false true x e = let d : x ≡ alt = cc in ap (λ (k : ℕ). on_over b net run k rest) (sym d)
   go_one false true true x e = let o : ◌≡◌ {A = ℕ} 0 1 = cc in absurd (omega arith)
 
-  pub go_both : (z m a : Bool) (x y : ℕ) → Both x y ≡ ways_as z m a next alt → on_as z m a b places net run next alt rest ≡ and_then (save_over b places run y rest) (on_over b net run x)
+  pub go_both : (z m a : Bool) (x y : ℕ) → Ok (Both x y) ≡ ways_as z m a next alt → on_as z m a b places net run next alt rest ≡ and_then (save_over b places run y rest) (on_over b net run x)
   go_both true m a x y e = let o : ◌≡◌ {A = ℕ} 0 1 = cc in absurd (omega arith)
   go_both false false false x y e = let o : ◌≡◌ {A = ℕ} 0 1 = cc in absurd (omega arith)
   go_both false true false x y e = let o : ◌≡◌ {A = ℕ} 0 1 = cc in absurd (omega arith)
@@ -101,7 +105,7 @@ module _ (b : List ℕ) (places : ℕ) (net : Net) (run : Run) (rest : List Run)
       ap (λ (k : ℕ). and_then (save_over b places run k rest) (on_over b net run next)) (sym f) ∙ ap (λ (k : ℕ). and_then (save_over b places run y rest) (on_over b net run k)) (sym d)
 
 -- both links are there, each where it was found
-pub both_are : (z m a : Bool) (next alt x y : ℕ) → Both x y ≡ ways_as z m a next alt → Fork z next alt x y
+pub both_are : (z m a : Bool) (next alt x y : ℕ) → Ok (Both x y) ≡ ways_as z m a next alt → Fork z next alt x y
 both_are true m a next alt x y e = let o : ◌≡◌ {A = ℕ} 0 1 = cc in absurd (omega arith)
 both_are false false false next alt x y e = let o : ◌≡◌ {A = ℕ} 0 1 = cc in absurd (omega arith)
 both_are false true false next alt x y e = let o : ◌≡◌ {A = ℕ} 0 1 = cc in absurd (omega arith)

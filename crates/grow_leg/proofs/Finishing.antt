@@ -1,6 +1,10 @@
 -- A run finishes, or row 13 refuses it.
 use mathlib.Core.Path.{◌≡◌, refl, sym, ap, ◌∙◌, subst}
-use mathlib.Core.Bool.{Bool, true, false, not}
+use mathlib.Core.Bool.{Bool, true, false}
+use Rattle.std.specs.Prelude.{Result, Ok, Err}
+use Rattle.refusals.specs.declared.Refusal.{Refusal}
+use Rattle.refusals.specs.declared.Refusal.TheVariants.{BadEnd}
+use Rattle.refusals.specs.Refusals.{refusal_number}
 use mathlib.Core.List.{List, ◌∷◌}
 use Prim.Native.Nat.{ℕ, suc, ◌+◌, ◌*◌, ◌≤◌, ◌<◌}
 use native.Mathlib.Omega.{arith}
@@ -13,7 +17,7 @@ use Rattle.net_insertion.specs.declared.Place.{Place}
 use Rattle.net_event_map.specs.declared.Layout.{Layout}
 use Rattle.net_event_map.specs.EventMap.{Mapped}
 use Rattle.net_event_map.proofs.Kept.{mapped_else, apart_same}
-use Rattle.grow_ends.specs.Ends.{EndsIn, FinishAs, MarkedAs}
+use Rattle.grow_ends.specs.Ends.{EndsIn, FinishAs, MarkedAs, finish_answer}
 use Rattle.grow_ends.proofs.Kept.{Finished, finished, last_below}
 use Rattle.grow_path.specs.Path.{path_of}
 use Rattle.grow_rules.specs.Run.{Net, Run, arc_to_end}
@@ -21,11 +25,13 @@ use Rattle.grow_rules.specs.Growth.{bad_finish, finished_at, finish_as}
 use Rattle.grow_events.specs.declared.Counts.{Counts}
 use Rattle.grow_events.specs.Held.{NetIn, ends_at}
 use Rattle.grow_state.specs.declared.Plan.{Plan}
+use Rattle.grow_state.specs.declared.Front.{Front}
+use Rattle.grow_state.specs.declared.Rest.{Rest}
 use Rattle.grow_state.specs.declared.State.{State}
-use Rattle.grow_state.specs.Held.{PlanIn, GivesAs, lists}
+use Rattle.grow_state.specs.Held.{PlanIn, GivesAs, idle, lists}
 use Rattle.grow_state.proofs.Keeping.{plan_room, chained_same, wait_same}
 use Rattle.grow_events.proofs.Kept.{net_anew, counts_with}
-use Rattle.grow_leg.specs.OneLeg.{AtEnd, standing_at}
+use Rattle.grow_leg.specs.OneLeg.{AtEnd}
 
 -- ---- what `grow_ends::finish` asks
 
@@ -45,7 +51,7 @@ module _ {w : Layout} {start : List ℕ} {fs : List Float} {us cells : List ℕ}
   -- ---- what it answers
 
   module _ (run : Run) (place : Place) (same : run.place ≡ place) where
-    pub finish_told : (r : Bool) → FinishAs fs us cells (ends_at w) c.nodes place r → bad_finish net run ≡ not r
+    pub finish_told : (r : Result (Unit {0}) Refusal) → FinishAs fs us cells (ends_at w) c.nodes place r → r ≡ finish_answer (bad_finish net run)
     finish_told r f = f.is net run v.table v.nodes same (λ i h. v.ended i (omega (arith, v.within)))
 
     -- ---- the network then
@@ -53,7 +59,7 @@ module _ {w : Layout} {start : List ℕ} {fs : List Float} {us cells : List ℕ}
     abbrev ended : Counts
     ended = counts_with c place.idx_prev
 
-    module _ (cells' : List ℕ) (good : bad_finish net run ≡ false) (marked : MarkedAs cells cells' (ends_at w) c.last_end place.idx_prev true) where
+    module _ (cells' : List ℕ) (good : bad_finish net run ≡ false) (marked : MarkedAs cells cells' (ends_at w) c.last_end place.idx_prev (Ok tt)) where
       abbrev i : ℕ
       i = place.idx_prev
 
@@ -88,37 +94,44 @@ module _ {w : Layout} {start : List ℕ} {fs : List Float} {us cells : List ℕ}
 
 -- ---- the whole
 
-module _ {b : List ℕ} {p : Plan} {fs : List Float} {us : List ℕ} {reals : List Float} {cells joins : List ℕ} {g : State} {net : Net} {run : Run} {rest : List Run}
-    (plan : PlanIn b p (length reals)) (a : AtEnd b p (lists fs us reals cells joins) g net run rest) where
-  same_place : run.place ≡ g.front.mover.place
+module _ {b : List ℕ} {p : Plan} {fs : List Float} {us : List ℕ} {reals : List Float} {cells joins : List ℕ} {g : Rest} {front : Front} {net : Net} {run : Run} {rest : List Run}
+    (plan : PlanIn b p (length reals)) (a : AtEnd b p (lists fs us reals cells joins) g front net run rest) where
+  same_place : run.place ≡ front.mover.place
   same_place = a.front.moves.place
 
-  pub finish_refused : (r : Bool) → FinishAs fs us cells (ends_at p.w) g.counts.nodes g.front.mover.place r → r ≡ false → finish_as (bad_finish net run) net run rest ≡ refused 13
-  finish_refused r f e = ap (λ (t : Bool). finish_as t net run rest) (finish_told a.grown run g.front.mover.place same_place r f ∙ ap not e)
+  pub finish_refused : (r : Result (Unit {0}) Refusal) → FinishAs fs us cells (ends_at p.w) g.counts.nodes front.mover.place r → (k : Refusal) → r ≡ Err k → finish_as (bad_finish net run) net run rest ≡ refused (refusal_number k)
+  finish_refused r f k e = go (bad_finish net run) (sym e ∙ finish_told a.grown run front.mover.place same_place r f)
+    where
+      go : (t : Bool) → Err k ≡ finish_answer t → finish_as t net run rest ≡ refused (refusal_number k)
+      go true q = let d : k ≡ BadEnd = cc in ap (λ (x : Refusal). refused (refusal_number x)) (sym d)
+      go false q = cc
 
-  pub finish_gives : (r : Bool) (cells' : List ℕ) → FinishAs fs us cells (ends_at p.w) g.counts.nodes g.front.mover.place r → MarkedAs cells cells' (ends_at p.w) g.counts.last_end g.front.mover.place.idx_prev r
-      → r ≡ true → (h : State)
-      → h ≡ standing_at g (counts_with g.counts g.front.mover.place.idx_prev) g.front.mover false
-      → GivesAs (finish_as (bad_finish net run) net run rest) b p (lists fs us reals cells' joins) h
-  finish_gives r cells' f m e h d = subst (GivesAs (finish_as (bad_finish net run) net run rest) b p (lists fs us reals cells' joins)) (sym d) gives
+  pub finish_gives : (r : Result (Unit {0}) Refusal) (cells' : List ℕ) → FinishAs fs us cells (ends_at p.w) g.counts.nodes front.mover.place r → MarkedAs cells cells' (ends_at p.w) g.counts.last_end front.mover.place.idx_prev r
+      → r ≡ Ok tt
+      → GivesAs (finish_as (bad_finish net run) net run rest) b p (lists fs us reals cells' joins) (idle (record { counts = counts_with g.counts front.mover.place.idx_prev; top = g.top; used = g.used }))
+  finish_gives r cells' f m e = gives
     where
       good : bad_finish net run ≡ false
-      good = finish_told a.grown run g.front.mover.place same_place r f ∙ ap not e
+      good = go (bad_finish net run) (sym e ∙ finish_told a.grown run front.mover.place same_place r f)
+        where
+          go : (t : Bool) → Ok tt ≡ finish_answer t → t ≡ false
+          go true q = cc
+          go false q = refl
 
-      marked : MarkedAs cells cells' (ends_at p.w) g.counts.last_end g.front.mover.place.idx_prev true
-      marked = subst (MarkedAs cells cells' (ends_at p.w) g.counts.last_end g.front.mover.place.idx_prev) e m
+      marked : MarkedAs cells cells' (ends_at p.w) g.counts.last_end front.mover.place.idx_prev (Ok tt)
+      marked = subst (MarkedAs cells cells' (ends_at p.w) g.counts.last_end front.mover.place.idx_prev) e m
 
-      other : (q : ℕ) → (q ≡ ends_at p.w + g.front.mover.place.idx_prev * 8 → ⊥) → get_or cells' q 0 ≡ get_or cells q 0
-      other = marked_else a.grown run g.front.mover.place same_place cells' good marked
+      other : (q : ℕ) → (q ≡ ends_at p.w + front.mover.place.idx_prev * 8 → ⊥) → get_or cells' q 0 ≡ get_or cells q 0
+      other = marked_else a.grown run front.mover.place same_place cells' good marked
 
-      gives : GivesAs (finish_as (bad_finish net run) net run rest) b p (lists fs us reals cells' joins) (standing_at g (counts_with g.counts g.front.mover.place.idx_prev) g.front.mover false)
+      gives : GivesAs (finish_as (bad_finish net run) net run rest) b p (lists fs us reals cells' joins) (idle (record { counts = counts_with g.counts front.mover.place.idx_prev; top = g.top; used = g.used }))
       gives = record {
         growth = record { net = finished_at net run; saved = rest };
         is = ap (λ (t : Bool). finish_as t net run rest) good;
         path = path_of b run.leg;
         holds = record {
-          grown = net_finished a.grown run g.front.mover.place same_place cells' good marked;
-          chained = chained_same (marked_long a.grown run g.front.mover.place same_place cells' good marked) (λ q k l. other q (λ e. omega (arith, plan.nodes_at))) a.chained;
+          grown = net_finished a.grown run front.mover.place same_place cells' good marked;
+          chained = chained_same (marked_long a.grown run front.mover.place same_place cells' good marked) (λ q k l. other q (λ e. omega (arith, plan.nodes_at))) a.chained;
           kept = record { offsets = a.kept.offsets; links = λ k l. other (k * 8 + 3) (λ e. omega (arith, plan.nodes_at)) ∙ a.kept.links k l };
           short = a.short;
           waiting = wait_same (record {

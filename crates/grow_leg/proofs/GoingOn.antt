@@ -25,8 +25,10 @@ use Rattle.grow_rules.specs.Run.{Net, Run}
 use Rattle.grow_rules.specs.Growth.{on_leg, takes, seek_leg, on_over, waiting, fits_in, save_over}
 use Rattle.grow_events.specs.Held.{ends_at}
 use Rattle.grow_state.specs.declared.Plan.{Plan}
+use Rattle.grow_state.specs.declared.Front.{Front}
+use Rattle.grow_state.specs.declared.Rest.{Rest}
 use Rattle.grow_state.specs.declared.State.{State}
-use Rattle.grow_state.specs.Held.{PlanIn, GivesAs, RunSound, Begins, Prefixes, path_before, lists}
+use Rattle.grow_state.specs.Held.{PlanIn, GivesAs, RunSound, Begins, Prefixes, path_before, with_front, lists}
 use Rattle.grow_state.proofs.Keeping.{plan_legs, plan_room}
 use Rattle.grow_events.proofs.Kept.{net_same}
 use Rattle.grow_leg.specs.OneLeg.{AtEnd, Free, SavedOver}
@@ -45,12 +47,12 @@ record Child (b : List ℕ) (p l n : ℕ) : Type 0 where
   number : n ≡ suc row
 
 module _ (b : List ℕ) (p l : ℕ) (t : Taken) (told : t ≡ taken_leg b p l) where
-  taken_none : (k : ℕ) → t ≡ Refused k → (leg_below b (legs b) p l ≡ 0) × (k ≡ 10)
+  taken_none : (k : ℕ) → t ≡ Refused k → leg_below b (legs b) p l ≡ 0
   unfolding taken_leg leg_search
   taken_none k e = go (leg_below b (legs b) p l) refl (sym told ∙ e)
     where
-      go : (n : ℕ) → leg_below b (legs b) p l ≡ n → taken_by b (search_of n) ≡ Refused k → (leg_below b (legs b) p l ≡ 0) × (k ≡ 10)
-      go zero h q = let z : ◌≡◌ {A = ℕ} 10 k = cc in (h, sym z)
+      go : (n : ℕ) → leg_below b (legs b) p l ≡ n → taken_by b (search_of n) ≡ Refused k → leg_below b (legs b) p l ≡ 0
+      go zero h q = h
       go (suc n) h q = let z : ◌≡◌ {A = ℕ} 0 1 = cc in absurd (omega arith)
 
   taken_leg_lem : (x : TakenLeg) → t ≡ Leg x → Child b p l x.number
@@ -67,33 +69,32 @@ module _ (b : List ℕ) (p l : ℕ) (t : Taken) (told : t ≡ taken_leg b p l) w
 
 -- ---- the way on
 
-module _ {b : List ℕ} {p : Plan} {fs : List Float} {us : List ℕ} {reals : List Float} {cells joins : List ℕ} {g : State} {net : Net} {run : Run} {rest : List Run}
-    (plan : PlanIn b p (length reals)) (a : AtEnd b p (lists fs us reals cells joins) g net run rest) where
-  pub front_leg : g.front.leg ≤ legs b
+module _ {b : List ℕ} {p : Plan} {fs : List Float} {us : List ℕ} {reals : List Float} {cells joins : List ℕ} {g : Rest} {front : Front} {net : Net} {run : Run} {rest : List Run}
+    (plan : PlanIn b p (length reals)) (a : AtEnd b p (lists fs us reals cells joins) g front net run rest) where
+  pub front_leg : front.leg ≤ legs b
   front_leg = omega (arith, a.front.moves.leg, a.sound.0.within)
 
-  pub front_some : 0 < g.front.leg
+  pub front_some : 0 < front.leg
   front_some = omega (arith, a.front.moves.leg, a.sound.0.some)
 
-  pub front_depth : g.front.depth + 1 ≤ 65535
+  pub front_depth : front.depth + 1 ≤ 65535
   front_depth = omega (arith, a.front.depth, path_long (plan_above plan) run.leg a.sound.0.some a.sound.0.within, a.short, plan_legs plan)
 
-  pub front_used : (g.used ≤ 65535) × (g.front.mover.count ≤ 1024)
+  pub front_used : (g.used ≤ 65535) × (front.mover.count ≤ 1024)
   front_used = (omega (arith, saved_room cells reals p.r g.top g.used a.waiting.runs a.waiting.kept, plan.same_places, a.grown.room.most), a.front.moves.few)
 
-  module _ (link : ℕ) (t : Taken) (told : t ≡ taken_leg b g.front.leg link) where
+  module _ (link : ℕ) (t : Taken) (told : t ≡ taken_leg b front.leg link) where
     at_run : t ≡ taken_leg b run.leg link
     at_run = told ∙ ap (λ (j : ℕ). taken_leg b j link) (sym a.front.moves.leg)
 
-    pub on_refused : (k : ℕ) → t ≡ Refused k → on_over b net run link rest ≡ refused k
+    pub on_refused : (k : ℕ) → t ≡ Refused k → on_over b net run link rest ≡ refused 10
     unfolding on_over seek_leg
     on_refused k e =
-        let n = taken_none b run.leg link t at_run k e in
-        ap (λ (j : ℕ). and_then (takes run j) (λ (r : Run). given (record { net = net; saved = on_leg r r.leg run.has_split ∷ rest }))) n.0 ∙ ap refused (sym n.1)
+        ap (λ (j : ℕ). and_then (takes run j) (λ (r : Run). given (record { net = net; saved = on_leg r r.leg run.has_split ∷ rest }))) (taken_none b run.leg link t at_run k e)
 
     pub save_none : (k : ℕ) → t ≡ Refused k → save_over b p.w.places run link rest ≡ refused 10
     unfolding save_over seek_leg
-    save_none k e = ap (λ (j : ℕ). and_then (takes run j) (λ (r : Run). fits_in (ltb p.w.places (waiting (r ∷ rest))) (r ∷ rest))) (taken_none b run.leg link t at_run k e).0
+    save_none k e = ap (λ (j : ℕ). and_then (takes run j) (λ (r : Run). fits_in (ltb p.w.places (waiting (r ∷ rest))) (r ∷ rest))) (taken_none b run.leg link t at_run k e)
 
     -- the leg is there
     module _ (x : TakenLeg) (is : t ≡ Leg x) where
@@ -106,7 +107,7 @@ module _ {b : List ℕ} {p : Plan} {fs : List Float} {us : List ℕ} {reals : Li
       before : path_before b (suc i) ≡ path_of b run.leg
       before = before_child (plan_above plan) i run.leg child.of.parent
 
-      deeper : g.front.depth + 1 ≡ length (path_before b (suc i))
+      deeper : front.depth + 1 ≡ length (path_before b (suc i))
       deeper = omega (arith, a.front.depth, path_long (plan_above plan) run.leg a.sound.0.some a.sound.0.within, ap length before)
 
       abbrev taking : Bool → Run
@@ -124,7 +125,7 @@ module _ {b : List ℕ} {p : Plan} {fs : List Float} {us : List ℕ} {reals : Li
 
       -- the run takes it next
       pub on_gives : Free b run rest link
-          → GivesAs (on_over b net run link rest) b p (lists fs us reals cells joins) (record { counts = g.counts; top = g.top; used = g.used; front = record { moves = true; mover = g.front.mover; leg = x.number; depth = g.front.depth + 1 } })
+          → GivesAs (on_over b net run link rest) b p (lists fs us reals cells joins) (with_front g (record { mover = front.mover; leg = x.number; depth = front.depth + 1 }))
       on_gives f = record {
         growth = record { net = net; saved = taking run.has_split ∷ rest };
         is = on_is;
@@ -157,26 +158,26 @@ module _ {b : List ℕ} {p : Plan} {fs : List Float} {us : List ℕ} {reals : Li
 
       -- ---- a copy is saved
 
-      many : waiting (taking false ∷ rest) ≡ g.used + g.front.mover.count
+      many : waiting (taking false ∷ rest) ≡ g.used + front.mover.count
       unfolding waiting
-      many = omega (arith, wait_used a.waiting, ap length a.front.moves.joins, entries_count joins g.front.mover.count)
+      many = omega (arith, wait_used a.waiting, ap length a.front.moves.joins, entries_count joins front.mover.count)
 
-      save_is : save_over b p.w.places run link rest ≡ fits_in (ltb p.r.places (g.used + g.front.mover.count)) (taking false ∷ rest)
+      save_is : save_over b p.w.places run link rest ≡ fits_in (ltb p.r.places (g.used + front.mover.count)) (taking false ∷ rest)
       unfolding save_over seek_leg
       save_is =
           ap (λ (j : ℕ). and_then (takes run j) (λ (r : Run). fits_in (ltb p.w.places (waiting (r ∷ rest))) (r ∷ rest))) child.found
           ∙ ap (λ (n : ℕ). fits_in (ltb n (waiting (taking false ∷ rest))) (taking false ∷ rest)) (sym plan.same_places)
           ∙ ap (λ (n : ℕ). fits_in (ltb p.r.places n) (taking false ∷ rest)) many
 
-      pub save_full : p.r.places < g.used + g.front.mover.count → save_over b p.w.places run link rest ≡ refused 12
-      save_full h = save_is ∙ ap (λ (s : Bool). fits_in s (taking false ∷ rest)) (lt-ltb p.r.places (g.used + g.front.mover.count) h)
+      pub save_full : p.r.places < g.used + front.mover.count → save_over b p.w.places run link rest ≡ refused 12
+      save_full h = save_is ∙ ap (λ (s : Bool). fits_in s (taking false ∷ rest)) (lt-ltb p.r.places (g.used + front.mover.count) h)
 
       -- what `grow_waiting::save` asks
       pub save_leg : (0 < x.number) × (x.number ≤ p.r.legs)
       save_leg = (omega (arith, child.number), omega (arith, child.number, child.of.within, plan.all_legs))
 
-      module _ (room : g.used + g.front.mover.count ≤ p.r.places) (reals' : List Float) (cells' : List ℕ) (long : length cells' ≡ length cells) (else : SavedElsewhere cells cells' reals reals' p.r)
-          (saved : (ws : List Waiting) → SavedIn cells reals p.r g.top g.used ws → Untaken x.number ws → SavedIn cells' reals' p.r x.number (g.used + g.front.mover.count) (waiting_of g.front.mover.place x.number (g.front.depth + 1) (entries_in joins g.front.mover.count) ∷ ws))
+      module _ (room : g.used + front.mover.count ≤ p.r.places) (reals' : List Float) (cells' : List ℕ) (long : length cells' ≡ length cells) (else : SavedElsewhere cells cells' reals reals' p.r)
+          (saved : (ws : List Waiting) → SavedIn cells reals p.r g.top g.used ws → Untaken x.number ws → SavedIn cells' reals' p.r x.number (g.used + front.mover.count) (waiting_of front.mover.place x.number (front.depth + 1) (entries_in joins front.mover.count) ∷ ws))
           (free : Free b run rest link) where
         ends-left : (k : ℕ) → k < p.w.places → get_or cells' (ends_at p.w + k * 8) 0 ≡ get_or cells (ends_at p.w + k * 8) 0
         ends-left k h =
@@ -186,20 +187,19 @@ module _ {b : List ℕ} {p : Plan} {fs : List Float} {us : List ℕ} {reals : Li
         others : Untaken x.number a.waiting.runs
         others = subst (λ (j : ℕ). Untaken j a.waiting.runs) (sym child.number) (clear_others (plan_above plan) (suc i) g.counts.nodes a.waiting.runs rest a.sound.1 a.waiting.same (free.legs_separate i child.of.within child.of.parent child.of.link))
 
-        save-kept : SavedOver (save_over b p.w.places run link rest) b p (lists fs us reals' cells' joins) (record { counts = g.counts; top = x.number; used = g.used + g.front.mover.count; front = g.front }) net run rest link
+        save-kept : SavedOver (save_over b p.w.places run link rest) b p (lists fs us reals' cells' joins) (record { counts = g.counts; top = x.number; used = g.used + front.mover.count }) front net run rest link
         unfolding waiting_of
         save-kept = record {
           more = taking false ∷ rest;
-          is = save_is ∙ ap (λ (s : Bool). fits_in s (taking false ∷ rest)) (le-ltb p.r.places (g.used + g.front.mover.count) room);
+          is = save_is ∙ ap (λ (s : Bool). fits_in s (taking false ∷ rest)) (le-ltb p.r.places (g.used + front.mover.count) room);
           ends = record {
-            moves = a.moves;
             grown = net_same a.grown cells' long (save_mapped else (plan_room plan) a.grown.apart (sym plan.same_nodes) (sym plan.same_places) a.grown.within a.grown.mapped) ends-left;
             chained = save_chained else (plan_room plan) (omega (arith, plan.all_legs)) long a.chained;
             kept = save_path else (plan_room plan) (omega (arith, a.short, plan.all_legs)) (omega (arith, a.short, plan.pairs_at)) a.kept;
             short = a.short;
             front = a.front;
             waiting = record {
-              runs = waiting_of g.front.mover.place x.number (g.front.depth + 1) (entries_in joins g.front.mover.count) ∷ a.waiting.runs;
+              runs = waiting_of front.mover.place x.number (front.depth + 1) (entries_in joins front.mover.count) ∷ a.waiting.runs;
               kept = saved a.waiting.runs a.waiting.kept others;
               same = (record { place = sym a.front.moves.place; leg = child.number; depth = deeper; joins = sym a.front.moves.joins; has_split = refl }, a.waiting.same);
             };
@@ -210,5 +210,5 @@ module _ {b : List ℕ} {p : Plan} {fs : List Float} {us : List ℕ} {reals : Li
           free = λ l d f. free_more (plan_above plan) run (taking false) i rest link child.of.within child.of.parent child.of.link refl l d f;
         }
 
-        pub save-gives : (used : ℕ) → used ≡ g.used + g.front.mover.count → SavedOver (save_over b p.w.places run link rest) b p (lists fs us reals' cells' joins) (record { counts = g.counts; top = x.number; used = used; front = g.front }) net run rest link
-        save-gives used e = subst (λ (n : ℕ). SavedOver (save_over b p.w.places run link rest) b p (lists fs us reals' cells' joins) (record { counts = g.counts; top = x.number; used = n; front = g.front }) net run rest link) (sym e) save-kept
+        pub save-gives : (used : ℕ) → used ≡ g.used + front.mover.count → SavedOver (save_over b p.w.places run link rest) b p (lists fs us reals' cells' joins) (record { counts = g.counts; top = x.number; used = used }) front net run rest link
+        save-gives used e = subst (λ (n : ℕ). SavedOver (save_over b p.w.places run link rest) b p (lists fs us reals' cells' joins) (record { counts = g.counts; top = x.number; used = n }) front net run rest link) (sym e) save-kept

@@ -21,14 +21,18 @@ use Rattle.grow_rules.specs.Run.{Net, Run, Outcome}
 use Rattle.grow_rules.specs.Growth.{Growth, leg_as, leg_done, leg_end_as, finishes, take_leg}
 use Rattle.grow_events.specs.declared.Counts.{Counts}
 use Rattle.grow_events.specs.declared.Mover.{Mover}
-use Rattle.grow_events.specs.declared.RunAnswer.{RunAnswer}
-use Rattle.grow_events.specs.declared.RunAnswer.TheVariants.{On, Ended, Refused}
+use Rattle.refusals.specs.Refusals.{refusal_number}
+use Rattle.grow_events.specs.declared.RunOutcome.{RunOutcome}
+use Rattle.grow_events.specs.declared.RunOutcome.TheVariants.{On, Ended}
 use Rattle.grow_events.specs.Held.{NetIn, RunIn, GoesAs, LeftAs, OutcomeAs, NotFewer}
 use Rattle.grow_events.proofs.Kept.{before_kept, unit_kept, net_restart}
 use Rattle.grow_state.specs.declared.Plan.{Plan}
+use Rattle.grow_state.specs.declared.Front.{Front}
+use Rattle.grow_state.specs.declared.Rest.{Rest}
 use Rattle.grow_state.specs.declared.State.{State}
-use Rattle.grow_state.specs.declared.GrowthAnswer.{GrowthAnswer}
-use Rattle.grow_state.specs.Held.{PlanIn, DriveIn, WaitIn, AllSound, Prefixes, SeparateFrom, GivesAs, TurnedAs, path_before, lists}
+use Rattle.std.specs.Prelude.{Result, Ok, Err}
+use Rattle.refusals.specs.declared.Refusal.{Refusal}
+use Rattle.grow_state.specs.Held.{PlanIn, DriveIn, WaitIn, AllSound, Prefixes, SeparateFrom, GivesAs, TurnedAs, path_before, idle, with_front, lists}
 use Rattle.grow_state.proofs.Keeping.{plan_room, chained_same, wait_same, sound_more}
 use Rattle.grow_leg.specs.OneLeg.{outcome_as, leg_outcome, WalkedAs, AtEnd, SomeWay, Free}
 use Rattle.grow_leg.proofs.Paths.{path_is}
@@ -46,14 +50,14 @@ take_is b places net run saved = go (row11 (leg_course b run.leg))
     go true = refl
     go false = refl
 
-module _ {b : List ℕ} {p : Plan} {fs : List Float} {us : List ℕ} {reals : List Float} {cells joins path : List ℕ} {g : State} {net : Net} {run : Run} {saved : List Run}
-    (plan : PlanIn b p (length reals)) (moves : g.front.moves ≡ true) (d : DriveIn b p (lists fs us reals cells joins) path g net (run ∷ saved))
-    (fs' : List Float) (us' : List ℕ) (reals' : List Float) (cells' joins' : List ℕ) (long : length cells' ≡ length cells) (r : RunAnswer)
-    (w : WalkedAs b p run.leg g.front.depth (leg_outcome b p.w.places net run) reals cells fs' us' reals' cells' joins' r) (more : NotFewer g.counts r) where
+module _ {b : List ℕ} {p : Plan} {fs : List Float} {us : List ℕ} {reals : List Float} {cells joins path : List ℕ} {g : Rest} {front : Front} {net : Net} {run : Run} {saved : List Run}
+    (plan : PlanIn b p (length reals)) (d : DriveIn b p (lists fs us reals cells joins) path (with_front g front) net (run ∷ saved))
+    (fs' : List Float) (us' : List ℕ) (reals' : List Float) (cells' joins' : List ℕ) (long : length cells' ≡ length cells) (r : Result RunOutcome Refusal)
+    (w : WalkedAs b p run.leg front.depth (leg_outcome b p.w.places net run) reals cells fs' us' reals' cells' joins' r) (more : NotFewer g.counts r) where
   abbrev start : List ℕ
-  start = set cells (g.front.depth * 8 + 3) (link_of b run.leg)
+  start = set cells (front.depth * 8 + 3) (link_of b run.leg)
 
-  pub take_refused : (k : ℕ) → r ≡ Refused k → take_leg b p.w.places net run saved ≡ refused k
+  pub take_refused : (k : Refusal) → r ≡ Err k → take_leg b p.w.places net run saved ≡ refused (refusal_number k)
   take_refused k e =
       take_is b p.w.places net run saved
       ∙ ap (λ (x : Answer Outcome). and_then x (leg_done b p.w.places saved)) (subst (OutcomeAs (leg_outcome b p.w.places net run) p.w start run.leg fs' us' cells' joins') e w.outcome)
@@ -67,11 +71,11 @@ module _ {b : List ℕ} {p : Plan} {fs : List Float} {us : List ℕ} {reals : Li
   prefixes = subst (λ (xs : List ℕ). Prefixes b xs saved) (sym (path_is (plan_above plan) run.leg d.sound.0.some d.sound.0.within)) (prefixes_more b (path_before b run.leg) (run.leg ∷ []) saved d.prefixes.1)
 
   module _ {c : Counts} {after : Net} (v : NetIn p.w start fs' us' cells' c after) where
-    left : (q : ℕ) → q < p.w.nodes_at → (q ≡ g.front.depth * 8 + 3 → ⊥) → get_or cells' q 0 ≡ get_or cells q 0
-    left q h f = before_kept v q h ∙ get_or-set_other cells (g.front.depth * 8 + 3) q (link_of b run.leg) 0 f
+    left : (q : ℕ) → q < p.w.nodes_at → (q ≡ front.depth * 8 + 3 → ⊥) → get_or cells' q 0 ≡ get_or cells q 0
+    left q h f = before_kept v q h ∙ get_or-set_other cells (front.depth * 8 + 3) q (link_of b run.leg) 0 f
 
     chained : Chained b cells'
-    chained = chained_same long (λ q h f. left q (omega (arith, plan.nodes_at)) (f g.front.depth)) d.chained
+    chained = chained_same long (λ q h f. left q (omega (arith, plan.nodes_at)) (f front.depth)) d.chained
 
     kept : PathIn b reals' cells' (path_of b run.leg)
     kept = record { offsets = w.kept.offsets; links = λ k h. before_kept v (k * 8 + 3) (omega (arith, short, plan.nodes_at)) ∙ w.kept.links k h }
@@ -80,20 +84,19 @@ module _ {b : List ℕ} {p : Plan} {fs : List Float} {us : List ℕ} {reals : Li
     waits = wait_same (record {
       fields = λ j k h l m. left (j * 8 + k) (omega (arith, plan_room plan, plan.same_nodes)) (λ e. omega arith);
       entries = λ i k h l m. subst (λ (n : ℕ). get_or cells' (n + i * 8 + k) 0 ≡ get_or cells (n + i * 8 + k) 0) (sym plan.same_nodes) (entry i k (omega (arith, plan.same_places)) l m);
-      reals = λ q h. w.reals_left q (λ e. omega (arith, depth_inside plan moves d, plan.pairs_at));
-    }) (wait_in plan moves d)
+      reals = λ q h. w.reals_left q (λ e. omega (arith, depth_inside plan d, plan.pairs_at));
+    }) (wait_in plan d)
       where
         entry : (i k : ℕ) → i < p.w.places → 3 ≤ k → k < 5 → get_or cells' (p.w.nodes_at + i * 8 + k) 0 ≡ get_or cells (p.w.nodes_at + i * 8 + k) 0
         entry i k h l m =
             unit_kept v i k h l (omega arith)
-            ∙ get_or-set_other cells (g.front.depth * 8 + 3) (p.w.nodes_at + i * 8 + k) (link_of b run.leg) 0 (λ (e : p.w.nodes_at + i * 8 + k ≡ g.front.depth * 8 + 3). omega (arith, depth_inside plan moves d, plan.nodes_at))
+            ∙ get_or-set_other cells (front.depth * 8 + 3) (p.w.nodes_at + i * 8 + k) (link_of b run.leg) 0 (λ (e : p.w.nodes_at + i * 8 + k ≡ front.depth * 8 + 3). omega (arith, depth_inside plan d, plan.nodes_at))
 
   -- ---- the run has ended by a join
 
-  pub take_ended : (c : Counts) → r ≡ Ended c → (h : State)
-      → h ≡ record { counts = c; top = g.top; used = g.used; front = record { moves = false; mover = g.front.mover; leg = g.front.leg; depth = g.front.depth } }
-      → GivesAs (take_leg b p.w.places net run saved) b p (lists fs' us' reals' cells' joins') h
-  take_ended c e h is = subst (GivesAs (take_leg b p.w.places net run saved) b p (lists fs' us' reals' cells' joins')) (sym is) gives
+  pub take_ended : (c : Counts) → r ≡ Ok (Ended c)
+      → GivesAs (take_leg b p.w.places net run saved) b p (lists fs' us' reals' cells' joins') (idle (record { counts = c; top = g.top; used = g.used }))
+  take_ended c e = gives
     where
       o : LeftAs (leg_outcome b p.w.places net run) p.w start fs' us' cells' c
       o = subst (OutcomeAs (leg_outcome b p.w.places net run) p.w start run.leg fs' us' cells' joins') e w.outcome
@@ -101,7 +104,7 @@ module _ {b : List ℕ} {p : Plan} {fs : List Float} {us : List ℕ} {reals : Li
       grows : g.counts.nodes ≤ c.nodes
       grows = subst (NotFewer g.counts) e more
 
-      gives : GivesAs (take_leg b p.w.places net run saved) b p (lists fs' us' reals' cells' joins') (record { counts = c; top = g.top; used = g.used; front = record { moves = false; mover = g.front.mover; leg = g.front.leg; depth = g.front.depth } })
+      gives : GivesAs (take_leg b p.w.places net run saved) b p (lists fs' us' reals' cells' joins') (idle (record { counts = c; top = g.top; used = g.used }))
       gives = record {
         growth = record { net = o.after; saved = saved };
         is = take_is b p.w.places net run saved ∙ ap (λ (x : Answer Outcome). and_then x (leg_done b p.w.places saved)) o.is;
@@ -120,7 +123,13 @@ module _ {b : List ℕ} {p : Plan} {fs : List Float} {us : List ℕ} {reals : Li
 
   -- ---- the run has done its leg
 
-  module _ (c : Counts) (m : Mover) (e : r ≡ On c m) (h : State) (is : h ≡ record { counts = c; top = g.top; used = g.used; front = record { moves = true; mover = m; leg = g.front.leg; depth = g.front.depth } }) where
+  module _ (c : Counts) (m : Mover) (e : r ≡ Ok (On c m)) where
+    abbrev then_rest : Rest
+    then_rest = record { counts = c; top = g.top; used = g.used }
+
+    abbrev then_front : Front
+    then_front = record { mover = m; leg = front.leg; depth = front.depth }
+
     pub took : GoesAs (leg_outcome b p.w.places net run) p.w start run.leg fs' us' cells' joins' c m
     took = subst (OutcomeAs (leg_outcome b p.w.places net run) p.w start run.leg fs' us' cells' joins') e w.outcome
 
@@ -145,31 +154,29 @@ module _ {b : List ℕ} {p : Plan} {fs : List Float} {us : List ℕ} {reals : Li
       sound_more b g.counts.nodes c.nodes saved grows d.sound.1,
     )
 
-    pub took_ends : AtEnd b p (lists fs' us' reals' cells' joins') h took.after.net on saved
+    pub took_ends : AtEnd b p (lists fs' us' reals' cells' joins') then_rest then_front took.after.net on saved
     took_ends =
-        subst (λ (s : State). AtEnd b p (lists fs' us' reals' cells' joins') s took.after.net on saved) (sym is)
-        (record {
-          moves = refl;
+        record {
           grown = net_restart took.net;
           chained = chained took.net;
           kept = subst (λ (j : ℕ). PathIn b reals' cells' (path_of b j)) (sym leg_same) (kept took.net);
           short = subst (λ (j : ℕ). length (path_of b j) ≤ legs b) (sym leg_same) short;
           front = record {
-            moves = subst (λ (j : ℕ). RunIn c.nodes j joins' m on) (same_leg plan moves d) took.run;
-            depth = (front_in plan moves d).depth ∙ ap (λ (j : ℕ). length (path_before b j)) (sym leg_same);
+            moves = subst (λ (j : ℕ). RunIn c.nodes j joins' m on) (same_leg plan d) took.run;
+            depth = (front_in plan d).depth ∙ ap (λ (j : ℕ). length (path_before b j)) (sym leg_same);
           };
           waiting = waits took.net;
           sound = sound;
           prefixes = subst (λ (j : ℕ). Prefixes b (path_of b j) saved) (sym leg_same) prefixes;
           separate = d.separate.1;
-        })
+        }
 
     pub took_free : (l : ℕ) → Free b on saved l
     took_free = all_free (plan_above plan) on c.nodes saved sound (subst (λ (j : ℕ). SeparateFrom b j saved) (sym leg_same) d.separate.0)
 
-    pub took_way : SomeWay b p (lists fs' us' reals' cells' joins') h
+    pub took_way : SomeWay b p (lists fs' us' reals' cells' joins') then_rest then_front
     took_way = record { net = took.after.net; run = on; rest = saved; ends = took_ends; free = took_free }
 
-    pub take_on : (reals'' : List Float) (cells'' : List ℕ) (t : GrowthAnswer) → TurnedAs (leg_end_as (finishes b on.leg) b p.w.places took.after saved) b p (lists fs' us' reals'' cells'' joins') t → TurnedAs (take_leg b p.w.places net run saved) b p (lists fs' us' reals'' cells'' joins') t
+    pub take_on : (reals'' : List Float) (cells'' : List ℕ) (t : Result State Refusal) → TurnedAs (leg_end_as (finishes b on.leg) b p.w.places took.after saved) b p (lists fs' us' reals'' cells'' joins') t → TurnedAs (take_leg b p.w.places net run saved) b p (lists fs' us' reals'' cells'' joins') t
     take_on reals'' cells'' t x =
         subst (λ (y : Answer Growth). TurnedAs y b p (lists fs' us' reals'' cells'' joins') t) (sym (take_is b p.w.places net run saved ∙ ap (λ (y : Answer Outcome). and_then y (leg_done b p.w.places saved)) took.is)) x

@@ -34,12 +34,16 @@ use Rattle.grow_path.proofs.Legs.{leg_held, leg_sound, leg_alike}
 use Rattle.grow_path.proofs.Testing.{reaches, passes, walkable}
 use Rattle.grow_rules.specs.Run.{Net, Run, Outcome, run_events}
 use Rattle.grow_rules.specs.Growth.{join_gap}
-use Rattle.grow_events.specs.declared.RunAnswer.{RunAnswer}
-use Rattle.grow_events.specs.declared.RunAnswer.TheVariants.{Refused}
+use Rattle.std.specs.Prelude.{Result, Err}
+use Rattle.refusals.specs.declared.Refusal.{Refusal}
+use Rattle.refusals.specs.declared.Refusal.TheVariants.{BadEvent}
+use Rattle.grow_events.specs.declared.RunOutcome.{RunOutcome}
 use Rattle.grow_events.specs.Held.{NetIn, RunIn, Moving, Along, SomePath, OutcomeAs, unless_bad}
 use Rattle.grow_state.specs.declared.Plan.{Plan}
+use Rattle.grow_state.specs.declared.Front.{Front}
+use Rattle.grow_state.specs.declared.Rest.{Rest}
 use Rattle.grow_state.specs.declared.State.{State}
-use Rattle.grow_state.specs.Held.{PlanIn, DriveIn, Driving, FrontIn, WaitIn, RunsIn, path_before, lists}
+use Rattle.grow_state.specs.Held.{PlanIn, DriveIn, Driving, FrontIn, WaitIn, path_before, with_front, lists}
 use Rattle.grow_events.proofs.Kept.{net_same}
 use Rattle.grow_leg.specs.OneLeg.{outcome_as, leg_outcome, WalkedAs}
 use Rattle.grow_leg.proofs.Paths.{path_is, path_long, path_named}
@@ -62,54 +66,51 @@ row_alike c d s a = go (true_or_false (reaches_last c))
 -- ---- the run at the front
 
 -- What is read of its leg, written behind its path, and then walked.
-pub record Looks (b : List ℕ) (p : Plan) (reals : List Float) (cells : List ℕ) (g : State) (reals' : List Float) (cells' : List ℕ) (v : Movement) : Type 0 where
+pub record Looks (b : List ℕ) (p : Plan) (reals : List Float) (cells : List ℕ) (front : Front) (reals' : List Float) (cells' : List ℕ) (v : Movement) : Type 0 where
   pub leg : Leg
-  pub is : leg ≡ leg_at b (g.front.leg - 1)
+  pub is : leg ≡ leg_at b (front.leg - 1)
   pub taken : TakenLeg
-  pub samples : taken ≡ record { number = g.front.leg; first = get_or cells ((g.front.leg - 1) * 8 + 2) 0; end = get_or cells (g.front.leg * 8 + 2) 0 }
-  pub reals_then : reals' ≡ set reals (g.front.depth + 1) (add binary64 (get_or reals g.front.depth nan) (float_of (link_length b leg.link_idx)))
-  pub cells_then : cells' ≡ set cells (g.front.depth * 8 + 3) leg.link_idx
-  pub moves : v ≡ record { at = p.s.samples_at + taken.first * 24; samples = taken.end - taken.first; points = g.front.depth + 1 + 1; length = p.length }
+  pub samples : taken ≡ record { number = front.leg; first = get_or cells ((front.leg - 1) * 8 + 2) 0; end = get_or cells (front.leg * 8 + 2) 0 }
+  pub reals_then : reals' ≡ set reals (front.depth + 1) (add binary64 (get_or reals front.depth nan) (float_of (link_length b leg.link_idx)))
+  pub cells_then : cells' ≡ set cells (front.depth * 8 + 3) leg.link_idx
+  pub moves : v ≡ record { at = p.s.samples_at + taken.first * 24; samples = taken.end - taken.first; points = front.depth + 1 + 1; length = p.length }
 
 -- where one moves there is one
-pub record SomeFront (b : List ℕ) (p : Plan) (fs : List Float) (us : List ℕ) (reals : List Float) (cells joins : List ℕ) (g : State) : Type 0 where
+pub record SomeFront (b : List ℕ) (p : Plan) (fs : List Float) (us : List ℕ) (reals : List Float) (cells joins : List ℕ) (g : Rest) (front : Front) : Type 0 where
   pub path : List ℕ
   pub net : Net
   pub run : Run
   pub saved : List Run
-  pub holds : DriveIn b p (lists fs us reals cells joins) path g net (run ∷ saved)
+  pub holds : DriveIn b p (lists fs us reals cells joins) path (with_front g front) net (run ∷ saved)
 
-pub some_front : {b : List ℕ} {p : Plan} {fs : List Float} {us : List ℕ} {reals : List Float} {cells joins : List ℕ} {g : State} → g.front.moves ≡ true → Driving b p (lists fs us reals cells joins) g → SomeFront b p fs us reals cells joins g
-some_front {b} {p} {fs} {us} {reals} {cells} {joins} {g} moves v = go v.runs v.holds
+pub some_front : {b : List ℕ} {p : Plan} {fs : List Float} {us : List ℕ} {reals : List Float} {cells joins : List ℕ} {g : Rest} {front : Front} → Driving b p (lists fs us reals cells joins) (with_front g front) → SomeFront b p fs us reals cells joins g front
+some_front {b} {p} {fs} {us} {reals} {cells} {joins} {g} {front} v = go v.runs v.holds
   where
-    go : (runs : List Run) → DriveIn b p (lists fs us reals cells joins) v.path g v.net runs → SomeFront b p fs us reals cells joins g
-    go [] d = absurd (subst (λ (t : Bool). RunsIn t b p.r reals cells joins g []) moves d.waiting)
+    go : (runs : List Run) → DriveIn b p (lists fs us reals cells joins) v.path (with_front g front) v.net runs → SomeFront b p fs us reals cells joins g front
+    go [] d = absurd d.waiting
     go (run ∷ saved) d = record { path = v.path; net = v.net; run = run; saved = saved; holds = d }
 
-module _ {b : List ℕ} {p : Plan} {fs : List Float} {us : List ℕ} {reals : List Float} {cells joins path : List ℕ} {g : State} {net : Net} {run : Run} {saved : List Run}
-    (plan : PlanIn b p (length reals)) (moves : g.front.moves ≡ true) (d : DriveIn b p (lists fs us reals cells joins) path g net (run ∷ saved)) where
-  both : FrontIn b joins g.counts.nodes g.front run × WaitIn b p.r reals cells g.top g.used saved
-  both = subst (λ (t : Bool). RunsIn t b p.r reals cells joins g (run ∷ saved)) moves d.waiting
-
-  pub front_in : FrontIn b joins g.counts.nodes g.front run
-  front_in = both.0
+module _ {b : List ℕ} {p : Plan} {fs : List Float} {us : List ℕ} {reals : List Float} {cells joins path : List ℕ} {g : Rest} {front : Front} {net : Net} {run : Run} {saved : List Run}
+    (plan : PlanIn b p (length reals)) (d : DriveIn b p (lists fs us reals cells joins) path (with_front g front) net (run ∷ saved)) where
+  pub front_in : FrontIn b joins g.counts.nodes front run
+  front_in = d.waiting.0
 
   pub wait_in : WaitIn b p.r reals cells g.top g.used saved
-  wait_in = both.1
+  wait_in = d.waiting.1
 
-  pub same_leg : run.leg ≡ g.front.leg
+  pub same_leg : run.leg ≡ front.leg
   same_leg = front_in.moves.leg
 
-  pub some_leg : 0 < g.front.leg
+  pub some_leg : 0 < front.leg
   some_leg = omega (arith, same_leg, d.sound.0.some)
 
-  pub leg_inside : g.front.leg ≤ legs b
+  pub leg_inside : front.leg ≤ legs b
   leg_inside = omega (arith, same_leg, d.sound.0.within)
 
-  pub path_length : length (path_of b run.leg) ≡ g.front.depth + 1
+  pub path_length : length (path_of b run.leg) ≡ front.depth + 1
   path_length = omega (arith, front_in.depth, path_long (plan_above plan) run.leg d.sound.0.some d.sound.0.within)
 
-  pub depth_inside : g.front.depth + 1 ≤ legs b
+  pub depth_inside : front.depth + 1 ≤ legs b
   depth_inside = omega (arith, path_length, path_most b run.leg, d.sound.0.within)
 
   before : PathIn b reals cells (path_before b run.leg)
@@ -117,7 +118,7 @@ module _ {b : List ℕ} {p : Plan} {fs : List Float} {us : List ℕ} {reals : Li
 
   -- ---- its link
 
-  module _ (leg : Leg) (is : leg ≡ leg_at b (g.front.leg - 1)) where
+  module _ (leg : Leg) (is : leg ≡ leg_at b (front.leg - 1)) where
     pub link_is : leg.link_idx ≡ link_of b run.leg
     unfolding link_of leg_at
     link_is = ap (λ (x : Leg). x.link_idx) is ∙ ap (λ (j : ℕ). leg_link b (j - 1)) (sym same_leg)
@@ -130,9 +131,9 @@ module _ {b : List ℕ} {p : Plan} {fs : List Float} {us : List ℕ} {reals : Li
   pub section_inside : p.s.samples_at ≤ 4000000
   section_inside = omega (arith, sized_samples_at plan.readable.sized, follow b, limits b plan.readable.counted.counts)
 
-  module _ (taken : TakenLeg) (samples-are : taken ≡ record { number = g.front.leg; first = get_or cells ((g.front.leg - 1) * 8 + 2) 0; end = get_or cells (g.front.leg * 8 + 2) 0 }) where
-    taken_is : taken ≡ record { number = g.front.leg; first = first_sample b (g.front.leg - 1); end = first_sample b g.front.leg }
-    taken_is = leg_of b cells g.front.leg d.chained leg_inside samples-are
+  module _ (taken : TakenLeg) (samples-are : taken ≡ record { number = front.leg; first = get_or cells ((front.leg - 1) * 8 + 2) 0; end = get_or cells (front.leg * 8 + 2) 0 }) where
+    taken_is : taken ≡ record { number = front.leg; first = first_sample b (front.leg - 1); end = first_sample b front.leg }
+    taken_is = leg_of b cells front.leg d.chained leg_inside samples-are
 
     first_is : taken.first ≡ first_sample b (run.leg - 1)
     first_is = ap (λ (x : TakenLeg). x.first) taken_is ∙ ap (λ (j : ℕ). first_sample b (j - 1)) (sym same_leg)
@@ -140,56 +141,56 @@ module _ {b : List ℕ} {p : Plan} {fs : List Float} {us : List ℕ} {reals : Li
     end_is : taken.end ≡ first_sample b (run.leg - 1) + leg_samples b (run.leg - 1)
     unfolding first_sample
     end_is =
-        let e : g.front.leg ≡ run.leg - 1 + 1 = omega (arith, same_leg, d.sound.0.some) in
+        let e : front.leg ≡ run.leg - 1 + 1 = omega (arith, same_leg, d.sound.0.some) in
         ap (λ (x : TakenLeg). x.end) taken_is ∙ ap (first_sample b) e ∙ sum_more (run.leg - 1) (leg_samples b)
 
     end_most : taken.end ≤ samples b
     unfolding first_sample
-    end_most = omega (arith, ap (λ (x : TakenLeg). x.end) taken_is, sum_part (legs b) g.front.leg (leg_samples b) leg_inside, plan.readable.counted.sums)
+    end_most = omega (arith, ap (λ (x : TakenLeg). x.end) taken_is, sum_part (legs b) front.leg (leg_samples b) leg_inside, plan.readable.counted.sums)
 
     pub samples_inside : (taken.first ≤ taken.end) × (taken.end ≤ 1000000)
     samples_inside = (omega (arith, first_is, end_is), omega (arith, end_most, (limits b plan.readable.counted.counts).samples_most))
 
   -- ---- its leg is put behind its path, and what the walk looks at
 
-  module _ {reals' : List Float} {cells' : List ℕ} {v : Movement} (k : Looks b p reals cells g reals' cells' v) where
+  module _ {reals' : List Float} {cells' : List ℕ} {v : Movement} (k : Looks b p reals cells front reals' cells' v) where
     abbrev link : ℕ
     link = k.leg.link_idx
 
     abbrev next : Float
-    next = add binary64 (get_or reals g.front.depth nan) (float_of (link_length b link))
+    next = add binary64 (get_or reals front.depth nan) (float_of (link_length b link))
 
     link_here : link ≡ link_of b run.leg
     link_here = link_is k.leg k.is
 
     long_reals : length reals' ≡ length reals
-    long_reals = ap length k.reals_then ∙ length-set reals (g.front.depth + 1) next
+    long_reals = ap length k.reals_then ∙ length-set reals (front.depth + 1) next
 
     long_cells : length cells' ≡ length cells
-    long_cells = ap length k.cells_then ∙ length-set cells (g.front.depth * 8 + 3) link
+    long_cells = ap length k.cells_then ∙ length-set cells (front.depth * 8 + 3) link
 
-    cells_are : cells' ≡ set cells (g.front.depth * 8 + 3) (link_of b run.leg)
-    cells_are = k.cells_then ∙ ap (set cells (g.front.depth * 8 + 3)) link_here
+    cells_are : cells' ≡ set cells (front.depth * 8 + 3) (link_of b run.leg)
+    cells_are = k.cells_then ∙ ap (set cells (front.depth * 8 + 3)) link_here
 
-    cells_else : (q : ℕ) → (q ≡ g.front.depth * 8 + 3 → ⊥) → get_or cells' q 0 ≡ get_or cells q 0
-    cells_else q h = ap (λ (xs : List ℕ). get_or xs q 0) k.cells_then ∙ get_or-set_other cells (g.front.depth * 8 + 3) q link 0 h
+    cells_else : (q : ℕ) → (q ≡ front.depth * 8 + 3 → ⊥) → get_or cells' q 0 ≡ get_or cells q 0
+    cells_else q h = ap (λ (xs : List ℕ). get_or xs q 0) k.cells_then ∙ get_or-set_other cells (front.depth * 8 + 3) q link 0 h
 
-    reals_else : (q : ℕ) → q ≢ g.front.depth + 1 → get_or reals' q nan ≡ get_or reals q nan
-    reals_else q h = ap (λ (xs : List Float). get_or xs q nan) k.reals_then ∙ get_or-set_other reals (g.front.depth + 1) q next nan h
+    reals_else : (q : ℕ) → q ≢ front.depth + 1 → get_or reals' q nan ≡ get_or reals q nan
+    reals_else q h = ap (λ (xs : List Float). get_or xs q nan) k.reals_then ∙ get_or-set_other reals (front.depth + 1) q next nan h
 
     kept : PathIn b reals' cells' (path_of b run.leg)
     kept =
         subst (λ (xs : List Float). PathIn b xs cells' (path_of b run.leg)) (sym k.reals_then)
-        (subst (λ (ys : List ℕ). PathIn b (set reals (g.front.depth + 1) next) ys (path_of b run.leg)) (sym k.cells_then)
-        (subst (PathIn b (set reals (g.front.depth + 1) next) (set cells (g.front.depth * 8 + 3) link))
+        (subst (λ (ys : List ℕ). PathIn b (set reals (front.depth + 1) next) ys (path_of b run.leg)) (sym k.cells_then)
+        (subst (PathIn b (set reals (front.depth + 1) next) (set cells (front.depth * 8 + 3) link))
         (sym (path_is (plan_above plan) run.leg d.sound.0.some d.sound.0.within))
-        (path_extends b reals cells (path_before b run.leg) run.leg g.front.depth link before front_in.depth link_here (omega (arith, depth_inside, plan.pairs, plan.pairs_at)) (omega (arith, depth_inside, d.chained.room)))))
+        (path_extends b reals cells (path_before b run.leg) run.leg front.depth link before front_in.depth link_here (omega (arith, depth_inside, plan.pairs, plan.pairs_at)) (omega (arith, depth_inside, d.chained.room)))))
 
     -- the network is as it was
     grown : NetIn p.w cells' fs us cells' g.counts net
     grown =
         net_same d.grown cells' long_cells
-        (subst (λ (xs : List ℕ). Mapped xs p.w (node_at fs us) g.counts.nodes) (sym k.cells_then) (mapped_before d.grown.mapped d.grown.apart link (g.front.depth * 8 + 3) (omega (arith, depth_inside, plan.nodes_at)) d.grown.within))
+        (subst (λ (xs : List ℕ). Mapped xs p.w (node_at fs us) g.counts.nodes) (sym k.cells_then) (mapped_before d.grown.mapped d.grown.apart link (front.depth * 8 + 3) (omega (arith, depth_inside, plan.nodes_at)) d.grown.within))
         (λ i h. cells_else (p.w.nodes_at + 2 + i * 8) (λ e. omega (arith, depth_inside, plan.nodes_at)))
 
     row : run.leg - 1 < legs b
@@ -211,7 +212,7 @@ module _ {b : List ℕ} {p : Plan} {fs : List Float} {us : List ℕ} {reals : Li
     moves_are =
         let x : p.s.samples_at + k.taken.first * 24 ≡ samples_at_of b + first_sample b (run.leg - 1) * 24 = omega (arith, sized_samples_at plan.readable.sized, first_is k.taken k.samples) in
         let y : k.taken.end - k.taken.first ≡ leg_samples b (run.leg - 1) = omega (arith, first_is k.taken k.samples, end_is k.taken k.samples) in
-        let z : g.front.depth + 1 + 1 ≡ length (path_of b run.leg) + 1 = omega (arith, path_length) in
+        let z : front.depth + 1 + 1 ≡ length (path_of b run.leg) + 1 = omega (arith, path_length) in
         k.moves ∙ (λ i. record { at = x i; samples = y i; points = z i; length = plan.train i })
 
     room : length (path_of b run.leg) + 1 ≤ length reals'
@@ -232,7 +233,7 @@ module _ {b : List ℕ} {p : Plan} {fs : List Float} {us : List ℕ} {reals : Li
     row_is : row11 (course_of b reals' v) ≡ row11 (leg_course b run.leg)
     row_is = row_alike (course_of b reals' v) (leg_course b run.leg) walk_sound alike
 
-    walked : {answer : Answer Outcome} (fs' : List Float) (us' cells'' joins' : List ℕ) (r : RunAnswer) → OutcomeAs answer p.w cells' run.leg fs' us' cells'' joins' r → WalkedAs b p run.leg g.front.depth answer reals cells fs' us' reals' cells'' joins' r
+    walked : {answer : Answer Outcome} (fs' : List Float) (us' cells'' joins' : List ℕ) (r : Result RunOutcome Refusal) → OutcomeAs answer p.w cells' run.leg fs' us' cells'' joins' r → WalkedAs b p run.leg front.depth answer reals cells fs' us' reals' cells'' joins' r
     walked {answer} fs' us' cells'' joins' r o = record {
       kept = subst (λ (xs : List ℕ). PathIn b reals' xs (path_of b run.leg)) cells_are kept;
       reals_left = reals_else;
@@ -240,9 +241,9 @@ module _ {b : List ℕ} {p : Plan} {fs : List Float} {us : List ℕ} {reals : Li
     }
 
     -- a sample reaches the last point
-    pub walk_refused : (t : Bool) → t ≡ reaches_last (course_of b reals' v) → t ≡ true → (fs' : List Float) (us' joins' : List ℕ) → WalkedAs b p run.leg g.front.depth (leg_outcome b p.w.places net run) reals cells fs' us' reals' cells' joins' (Refused 11)
+    pub walk_refused : (t : Bool) → t ≡ reaches_last (course_of b reals' v) → t ≡ true → (fs' : List Float) (us' joins' : List ℕ) → WalkedAs b p run.leg front.depth (leg_outcome b p.w.places net run) reals cells fs' us' reals' cells' joins' (Err BadEvent)
     unfolding leg_outcome
-    walk_refused t e f fs' us' joins' = walked fs' us' cells' joins' (Refused 11) (ap (λ (s : Bool). outcome_as s b p.w.places net run) (sym row_is ∙ sym (reaches (course_of b reals' v) (sym f ∙ e))))
+    walk_refused t e f fs' us' joins' = walked fs' us' cells' joins' (Err BadEvent) (ap (λ (s : Bool). outcome_as s b p.w.places net run) (sym row_is ∙ sym (reaches (course_of b reals' v) (sym f ∙ e))))
 
     -- or none does
     module _ (t : Bool) (tested : t ≡ reaches_last (course_of b reals' v)) (free : t ≡ false) where
@@ -260,10 +261,10 @@ module _ {b : List ℕ} {p : Plan} {fs : List Float} {us : List ℕ} {reals : Li
       pub walk_path : SomePath b reals' cells' p.w v.points
       walk_path = record { path = path_of b run.leg; along = along }
 
-      runs : RunIn g.counts.nodes run.leg joins g.front.mover run
-      runs = subst (λ (j : ℕ). RunIn g.counts.nodes j joins g.front.mover run) (sym same_leg) front_in.moves
+      runs : RunIn g.counts.nodes run.leg joins front.mover run
+      runs = subst (λ (j : ℕ). RunIn g.counts.nodes j joins front.mover run) (sym same_leg) front_in.moves
 
-      pub walk_moving : Moving p.w fs us cells' joins g.counts g.front.mover
+      pub walk_moving : Moving p.w fs us cells' joins g.counts front.mover
       walk_moving = record { start = cells'; leg = run.leg; net = net; run = run; holds = grown; runs = runs }
 
       events_are : events_at b (path_of b run.leg) (points_passed (course_of b reals' v)) ≡ leg_events b run.leg
@@ -282,9 +283,9 @@ module _ {b : List ℕ} {p : Plan} {fs : List Float} {us : List ℕ} {reals : Li
           as-tested true = refl
           as-tested false = refl
 
-      pub walk_goes : (fs' : List Float) (us' cells'' joins' : List ℕ) (r : RunAnswer)
-          → ((start path : List ℕ) (leg : ℕ) (net : Net) (run : Run) → NetIn p.w start fs us cells' g.counts net → RunIn g.counts.nodes leg joins g.front.mover run → Along b reals' cells' p.w v.points path
+      pub walk_goes : (fs' : List Float) (us' cells'' joins' : List ℕ) (r : Result RunOutcome Refusal)
+          → ((start path : List ℕ) (leg : ℕ) (net : Net) (run : Run) → NetIn p.w start fs us cells' g.counts net → RunIn g.counts.nodes leg joins front.mover run → Along b reals' cells' p.w v.points path
           → OutcomeAs (unless_bad (some_bad (points_passed (course_of b reals' v))) (run_events p.w.places p.join (events_at b path (points_passed (course_of b reals' v))) (record { net = net; run = run }))) p.w start leg fs' us' cells'' joins' r)
-          → WalkedAs b p run.leg g.front.depth (leg_outcome b p.w.places net run) reals cells fs' us' reals' cells'' joins' r
+          → WalkedAs b p run.leg front.depth (leg_outcome b p.w.places net run) reals cells fs' us' reals' cells'' joins' r
       walk_goes fs' us' cells'' joins' r f =
           walked fs' us' cells'' joins' r (subst (λ (y : Answer Outcome). OutcomeAs y p.w cells' run.leg fs' us' cells'' joins' r) outcome_is (f cells' (path_of b run.leg) run.leg net run grown runs along))

@@ -2,51 +2,33 @@
 // grow_state's specs/Held.antt, specs/OneLeg.antt.
 #![tactic(auto)]
 
-ghost use Rattle.std.specs.Prelude.{◌≡◌, true, ℕ, ◌%◌, ◌≤◌, ◌<◌, ◌+◌, eqb, length, get_or};
+ghost use Rattle.std.specs.Prelude.{◌≡◌, ℕ, ◌%◌, ◌≤◌, ◌<◌, ◌+◌, eqb, length, get_or};
 ghost use Rattle.book_format.specs.Format.{Sized, links};
 ghost use Rattle.book_format.specs.Chains.{Readable};
 ghost use Rattle.book_options.specs.Options.{OptionsIn};
 ghost use Rattle.grow_path.specs.Path.{link_of};
 ghost use Rattle.grow_rules.specs.Growth.{is_destination};
 ghost use Rattle.grow_events.specs.Held.{NotFewer};
-ghost use Rattle.grow_state.specs.Held.{PlanIn, Driving, lists_at_entry, lists_at_exit, lists};
+ghost use Rattle.grow_state.specs.Held.{PlanIn, Driving, lists_at_entry, lists_at_exit, lists, with_front};
 ghost use Rattle.net_node.specs.Lent.{table_seen};
 ghost use Rattle.net_stack.specs.Openings.{stack_length};
 ghost use Rattle.grow_waiting.specs.Steps.{stacks_at_entry, stacks_at_exit};
 ghost use Rattle.grow_leg.specs.OneLeg.{SomeFinish, SomeLeg, SomeEnding, SomeWay, SomeGoing, ways_behind};
 ghost use Rattle.grow_leg.specs.OneLeg.{lists_saved};
-ghost use Rattle.grow_leg.specs.OneLeg.{standing_at, FinishesRun, GoesOver, SavesOver, GoesBehind, EndsLeg};
+ghost use Rattle.grow_leg.specs.OneLeg.{FinishesRun, GoesOver, SavesOver, GoesBehind, EndsLeg};
 ghost use Rattle.grow_leg.specs.OneLeg.{WalksLeg, TakesLeg};
 
 use book_format::Sections;
 use book_legs::Taken;
-use grow_events::{Counts, Mover, RunAnswer};
-use grow_state::{Front, GrowthAnswer, Plan, State};
+use grow_events::{Counts, RunOutcome};
+use grow_state::{Front, Plan, Rest, State};
+use refusals::Refusal;
 
 // The links over which a run can go on. Of two the alternative is saved.
 #[derive(Clone, Copy)]
 pub enum Ways {
-    None,
     One(u32),
     Both(u32, u32),
-}
-
-// A state with other counts, and the run at the front where it stands now.
-fn standing(g: State, counts: Counts, mover: Mover, moves: bool) -> State
-    ensures { result ≡ standing_at g counts mover moves }
-{
-    let front = g.front;
-    State {
-        counts,
-        top: g.top,
-        used: g.used,
-        front: Front {
-            moves,
-            mover,
-            leg: front.leg,
-            depth: front.depth,
-        },
-    }
 }
 
 // Whether a link is a destination.
@@ -54,12 +36,10 @@ fn is_destination(book: &[u8], s: Sections, link_idx: u32) -> bool
     requires { Sized book.now s }
     ensures { result ≡ is_destination book.now link_idx }
 {
-    let mut i = 0;
-    while i < s.destinations {
+    for i in 0..s.destinations {
         if book_format::destination_link(book, s, i) == link_idx {
             return true;
         }
-        i += 1;
     }
     false
 }
@@ -73,7 +53,7 @@ fn leads_on(marks: &[u32], link_idx: u32) -> bool
 }
 
 // The links over which a run goes on behind a link. Row 9: there are none.
-fn ways_behind(book: &[u8], s: Sections, marks: &[u32], link_idx: u32) -> Ways
+fn ways_behind(book: &[u8], s: Sections, marks: &[u32], link_idx: u32) -> Result<Ways, Refusal>
     requires readable { Readable book.now s }
     requires options_in { OptionsIn book.now marks.now }
     requires book_in_bounds { links book.now ≤ length marks.now }
@@ -82,76 +62,79 @@ fn ways_behind(book: &[u8], s: Sections, marks: &[u32], link_idx: u32) -> Ways
 {
     let link = book_format::link_at(book, s, link_idx as usize);
     if link.idx_next == 0 {
-        return Ways::None;
+        return Err(Refusal::NoWayOn);
     }
     let by_alt = leads_on(marks, link.idx_next_alt);
     if !leads_on(marks, link.idx_next) {
         if by_alt {
-            return Ways::One(link.idx_next_alt);
+            return Ok(Ways::One(link.idx_next_alt));
         }
-        return Ways::None;
+        return Err(Refusal::NoWayOn);
     }
     if by_alt {
-        return Ways::Both(link.idx_next, link.idx_next_alt);
+        return Ok(Ways::Both(link.idx_next, link.idx_next_alt));
     }
-    Ways::One(link.idx_next)
+    Ok(Ways::One(link.idx_next))
 }
 
 // The run at the front finishes, unless row 13 holds.
-fn finish_run(floats: &[f64], numbers: &[u32], cells: &mut [u32], p: Plan, g: State) -> GrowthAnswer
-    requires { SomeFinish p floats.now numbers.now cells.old g }
-    ensures { FinishesRun p g (table_seen floats numbers) cells.old cells.new result }
+fn finish_run(
+    floats: &[f64],
+    numbers: &[u32],
+    cells: &mut [u32],
+    p: Plan,
+    g: Rest,
+    front: Front,
+) -> Result<State, Refusal>
+    requires { SomeFinish p floats.now numbers.now cells.old g front }
+    ensures { FinishesRun p g front (table_seen floats numbers) cells.old cells.new result }
 {
     let counts = g.counts;
-    let front = g.front;
-    let mover = front.mover;
-    let place = mover.place;
-    let w = p.w;
-    if !grow_ends::finish(
+    let place = front.mover.place;
+    grow_ends::finish(
         floats,
         numbers,
         cells,
-        w.nodes_at + 2,
+        p.w.nodes_at + 2,
         counts.nodes,
         counts.last_end,
         place,
-    ) {
-        return GrowthAnswer::Refused(13);
-    }
+    )?;
     let ended = Counts {
-        nodes: counts.nodes,
-        added: counts.added,
-        splits: counts.splits,
-        joined: counts.joined,
         last_end: place.idx_prev,
+        ..counts
     };
-    GrowthAnswer::On(standing(g, ended, mover, false))
+    Ok(State {
+        rest: Rest { counts: ended, ..g },
+        front: None,
+    })
 }
 
 // The run at the front goes on over a link: "The leg is found or the book is refused with 10".
-fn on_over(book: &[u8], cells: &[u32], p: Plan, g: State, link_idx: u32) -> GrowthAnswer
-    requires { SomeLeg book.now cells.now p g }
-    ensures { GoesOver book.now p g cells.now link_idx result }
+fn on_over(
+    book: &[u8],
+    cells: &[u32],
+    p: Plan,
+    g: Rest,
+    front: Front,
+    link_idx: u32,
+) -> Result<State, Refusal>
+    requires { SomeLeg book.now cells.now p g front }
+    ensures { GoesOver book.now p g front cells.now link_idx result }
 {
-    let s = p.s;
-    let counts = g.counts;
-    let front = g.front;
-    let mover = front.mover;
-    let taken = book_legs::take_leg(book, s, cells, front.leg, link_idx);
-    match taken {
-        Taken::Refused(k) => GrowthAnswer::Refused(k),
-        Taken::Leg(leg) => GrowthAnswer::On(State {
-            counts,
-            top: g.top,
-            used: g.used,
-            front: Front {
-                moves: true,
-                mover,
-                leg: leg.number,
-                depth: front.depth + 1,
-            },
-        }),
-    }
+    let taken = book_legs::take_leg(book, p.s, cells, front.leg, link_idx);
+    let Taken::Leg(leg) = taken else {
+        return Err(Refusal::MissingLeg);
+    };
+    let on = Front {
+        leg: leg.number,
+        depth: front.depth + 1,
+        ..front
+    };
+    Ok(State {
+        rest: g,
+        front: Some(on),
+    })
 }
 
 // The entries of all runs that wait, once one that has `count` of them waits too. The run at the front doesn't wait.
@@ -171,28 +154,25 @@ fn save_over(
     cells: &mut [u32],
     joins: &[u32],
     p: Plan,
-    g: State,
+    g: Rest,
+    front: Front,
     link_idx: u32,
-) -> GrowthAnswer
+) -> Result<Rest, Refusal>
     requires plan_in { PlanIn book.now p (length reals.old) }
-    requires some_ending { SomeEnding book.now p reals.old cells.old joins.now g }
+    requires some_ending { SomeEnding book.now p reals.old cells.old joins.now g front }
     requires in_bounds { 2048 ≤ length joins.now }
-    ensures { SavesOver book.now p g link_idx (stacks_at_entry cells reals)
+    ensures { SavesOver book.now p g front link_idx (stacks_at_entry cells reals)
         (stacks_at_exit cells reals) joins.now result }
 {
-    let s = p.s;
     let r = p.r;
-    let counts = g.counts;
-    let front = g.front;
     let mover = front.mover;
-    let place = mover.place;
-    let taken = book_legs::take_leg(book, s, cells, front.leg, link_idx);
+    let taken = book_legs::take_leg(book, p.s, cells, front.leg, link_idx);
     let Taken::Leg(leg) = taken else {
-        return GrowthAnswer::Refused(10);
+        return Err(Refusal::MissingLeg);
     };
     let used = waiting_entries(g.used, mover.count);
     if r.places < used {
-        return GrowthAnswer::Refused(12);
+        return Err(Refusal::NoPlace);
     }
     grow_waiting::save(
         cells,
@@ -200,17 +180,16 @@ fn save_over(
         r,
         g.top,
         g.used,
-        place,
+        mover.place,
         leg.number,
         front.depth + 1,
         joins,
         mover.count,
     );
-    GrowthAnswer::On(State {
-        counts,
+    Ok(Rest {
         top: leg.number,
         used,
-        front,
+        ..g
     })
 }
 
@@ -222,29 +201,25 @@ fn go_on(
     marks: &[u32],
     joins: &[u32],
     p: Plan,
-    g: State,
+    g: Rest,
+    front: Front,
     link_idx: u32,
-) -> GrowthAnswer
+) -> Result<State, Refusal>
     requires plan_in { PlanIn book.now p (length reals.old) }
     requires options_in { OptionsIn book.now marks.now }
     requires book_in_bounds { links book.now ≤ length marks.now }
-    requires some_going { SomeGoing book.now p reals.old cells.old joins.now g }
-    requires link_idx_value { link_idx ≡ link_of book.now g.front.leg }
+    requires some_going { SomeGoing book.now p reals.old cells.old joins.now g front }
+    requires link_idx_value { link_idx ≡ link_of book.now front.leg }
     requires in_bounds { 2048 ≤ length joins.now }
-    ensures { GoesBehind book.now p g (stacks_at_entry cells reals) (stacks_at_exit cells reals)
+    ensures { GoesBehind book.now p g front (stacks_at_entry cells reals) (stacks_at_exit cells reals)
         joins.now result }
 {
-    let s = p.s;
-    let ways = ways_behind(book, s, marks, link_idx);
+    let ways = ways_behind(book, p.s, marks, link_idx)?;
     match ways {
-        Ways::None => GrowthAnswer::Refused(9),
-        Ways::One(next) => on_over(book, cells, p, g, next),
+        Ways::One(next) => on_over(book, cells, p, g, front, next),
         Ways::Both(next, alt) => {
-            let saved = save_over(book, reals, cells, joins, p, g, alt);
-            match saved {
-                GrowthAnswer::Refused(k) => GrowthAnswer::Refused(k),
-                GrowthAnswer::On(h) => on_over(book, cells, p, h, next),
-            }
+            let rest = save_over(book, reals, cells, joins, p, g, front, alt)?;
+            on_over(book, cells, p, rest, front, next)
         }
     }
 }
@@ -260,24 +235,26 @@ fn end_leg(
     marks: &[u32],
     joins: &[u32],
     p: Plan,
-    g: State,
-) -> GrowthAnswer
+    g: Rest,
+    front: Front,
+) -> Result<State, Refusal>
     requires plan_in { PlanIn book.now p (length reals.old) }
     requires options_in { OptionsIn book.now marks.now }
     requires book_in_bounds { links book.now ≤ length marks.now }
-    requires some_way { SomeWay book.now p (lists floats.now numbers.now reals.old cells.old joins.now) g }
+    requires some_way { SomeWay book.now p (lists floats.now numbers.now reals.old cells.old joins.now) g front }
     requires in_bounds { 2048 ≤ length joins.now }
-    ensures { EndsLeg book.now p g (lists floats.now numbers.now reals.old cells.old joins.now)
+    ensures { EndsLeg book.now p g front (lists floats.now numbers.now reals.old cells.old joins.now)
         (lists_saved floats numbers reals cells joins) result }
 {
     let s = p.s;
-    let front = g.front;
     let leg = book_format::leg_at(book, s, front.leg as usize - 1);
     let here = is_destination(book, s, leg.link_idx);
     if here & (0 < leg.parent) {
-        return finish_run(floats, numbers, cells, p, g);
+        return finish_run(floats, numbers, cells, p, g, front);
     }
-    go_on(book, reals, cells, marks, joins, p, g, leg.link_idx)
+    go_on(
+        book, reals, cells, marks, joins, p, g, front, leg.link_idx,
+    )
 }
 
 // The events of the leg of the run at the front, behind its path: one after the other, unless row 11 refuses them.
@@ -291,32 +268,41 @@ fn walk_leg(
     scratch: &mut [u32],
     stack: &mut [u32],
     p: Plan,
-    g: State,
-) -> RunAnswer
+    g: Rest,
+    front: Front,
+) -> Result<RunOutcome, Refusal>
     requires plan_in { PlanIn book.now p (length reals.old) }
-    requires driving { Driving book.now p (lists floats.old numbers.old reals.old cells.old joins.old) g }
-    requires moves_value { g.front.moves ≡ true }
+    requires driving { Driving book.now p (lists floats.old numbers.old reals.old cells.old joins.old)
+        (with_front g front) }
     requires in_bounds { 2048 ≤ length joins.old }
     requires in_bounds_2 { 2048 ≤ length scratch.old }
     requires stack_length_in_bounds { stack_length ≤ length stack.old }
-    ensures walked { WalksLeg book.now p g (lists_at_entry floats numbers reals cells joins)
+    ensures walked { WalksLeg book.now p g front (lists_at_entry floats numbers reals cells joins)
         (lists_at_exit floats numbers reals cells joins) result }
     ensures more { NotFewer g.counts result }
 {
     let s = p.s;
-    let w = p.w;
-    let counts = g.counts;
-    let front = g.front;
-    let mover = front.mover;
     let leg = book_format::leg_at(book, s, front.leg as usize - 1);
     let taken = book_legs::leg_samples(cells, front.leg);
     grow_path::extend_path(book, s, reals, cells, front.depth, leg.link_idx);
     let v = grow_path::movement_of(s, taken, front.depth + 1, p.length);
     if event_walk::reaches_last(book, reals, v) {
-        return RunAnswer::Refused(11);
+        return Err(Refusal::BadEvent);
     }
     grow_events::run_events(
-        book, reals, floats, numbers, cells, w, p.join, joins, scratch, stack, v, counts, mover,
+        book,
+        reals,
+        floats,
+        numbers,
+        cells,
+        p.w,
+        p.join,
+        joins,
+        scratch,
+        stack,
+        v,
+        g.counts,
+        front.mover,
     )
 }
 
@@ -332,30 +318,34 @@ pub fn turn(
     scratch: &mut [u32],
     stack: &mut [u32],
     p: Plan,
-    g: State,
-) -> GrowthAnswer
+    g: Rest,
+    front: Front,
+) -> Result<State, Refusal>
     requires plan_in { PlanIn book.now p (length reals.old) }
     requires options_in { OptionsIn book.now marks.now }
     requires book_in_bounds { links book.now ≤ length marks.now }
-    requires driving { Driving book.now p (lists floats.old numbers.old reals.old cells.old joins.old) g }
-    requires moves_value { g.front.moves ≡ true }
+    requires driving { Driving book.now p (lists floats.old numbers.old reals.old cells.old joins.old)
+        (with_front g front) }
     requires in_bounds { 2048 ≤ length joins.old }
     requires in_bounds_2 { 2048 ≤ length scratch.old }
     requires stack_length_in_bounds { stack_length ≤ length stack.old }
-    ensures { TakesLeg book.now p g (lists_at_entry floats numbers reals cells joins)
+    ensures { TakesLeg book.now p g front (lists_at_entry floats numbers reals cells joins)
         (lists_at_exit floats numbers reals cells joins) result }
 {
-    let front = g.front;
-    let before = front.mover;
     let became = walk_leg(
-        book, floats, numbers, reals, cells, joins, scratch, stack, p, g,
-    );
+        book, floats, numbers, reals, cells, joins, scratch, stack, p, g, front,
+    )?;
     match became {
-        RunAnswer::Refused(k) => GrowthAnswer::Refused(k),
-        RunAnswer::Ended(counts) => GrowthAnswer::On(standing(g, counts, before, false)),
-        RunAnswer::On(counts, mover) => {
-            let h = standing(g, counts, mover, true);
-            end_leg(book, floats, numbers, reals, cells, marks, joins, p, h)
+        RunOutcome::Ended(counts) => Ok(State {
+            rest: Rest { counts, ..g },
+            front: None,
+        }),
+        RunOutcome::On(counts, mover) => {
+            let rest = Rest { counts, ..g };
+            let moved = Front { mover, ..front };
+            end_leg(
+                book, floats, numbers, reals, cells, marks, joins, p, rest, moved,
+            )
         }
     }
 }

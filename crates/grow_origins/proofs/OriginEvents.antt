@@ -24,9 +24,10 @@ use Rattle.grow_rules.specs.Run.{Outcome, Ended as Left, On as Goes}
 use Rattle.grow_rules.specs.Growth.{join_gap, departure, origin_event, origin_run, seek_leg, grow_origin, origin_clear, origin_arrive}
 use Rattle.grow_events.specs.declared.Counts.{Counts}
 use Rattle.grow_events.specs.declared.Mover.{Mover}
-use Rattle.grow_events.specs.declared.RunAnswer.{RunAnswer}
-use Rattle.grow_events.specs.declared.RunAnswer.TheVariants.{On, Ended, Refused}
-use Rattle.grow_events.specs.Held.{NetIn, RunIn, Growing, OutcomeAs, NotFewer, InsertsEvent}
+use Rattle.std.specs.Prelude.{Result, Ok, Err, IfOk, IsErrAnd}
+use Rattle.refusals.specs.declared.Refusal.{Refusal}
+use Rattle.refusals.specs.Refusals.{refusal_number}
+use Rattle.grow_events.specs.Held.{NetIn, RunIn, Growing, InsertedAs, InsertsEvent}
 use Rattle.grow_events.proofs.Kept.{goes_given, net_noted}
 use Rattle.grow_state.specs.declared.Plan.{Plan}
 use Rattle.grow_state.specs.Held.{PlanIn}
@@ -59,47 +60,29 @@ first_there time i m e n h = subst (λ (x : Mover). x.place.idx_prev < n) (sym e
 
 -- ---- how many nodes there are
 
-pub fewer_more : (c d : Counts) (r : RunAnswer) → c.nodes ≤ d.nodes → NotFewer d r → NotFewer c r
-fewer_more c d (On x y) h g = omega arith
-fewer_more c d (Ended x) h g = omega arith
-fewer_more c d (Refused k) h g = tt
+pub fewer_more : (c d : Counts) (r : Result (Counts × Mover) Refusal) → c.nodes ≤ d.nodes → IfOk r (λ x. d.nodes ≤ x.0.nodes) → IfOk r (λ x. c.nodes ≤ x.0.nodes)
+fewer_more c d (Ok x) h g = omega (arith, g)
+fewer_more c d (Err k) h g = tt
 
-pub fewer_as : (c d : Counts) (m : Mover) (r : RunAnswer) → r ≡ On d m → NotFewer c r → c.nodes ≤ d.nodes
-fewer_as c d m r e h = subst (NotFewer c) e h
+pub fewer_as : (c d : Counts) (m : Mover) (r : Result (Counts × Mover) Refusal) → r ≡ Ok (d, m) → IfOk r (λ x. c.nodes ≤ x.0.nodes) → c.nodes ≤ d.nodes
+fewer_as c d m r e h = subst (λ (y : Result (Counts × Mover) Refusal). IfOk y (λ x. c.nodes ≤ x.0.nodes)) e h
 
 -- ---- the first event
 
-module _ (w : Layout) (join time : Float) (last : ℕ) (fs : List Float) (us cells : List ℕ) (c : Counts) (m : Mover) (e : TimedEvent) (fs' : List Float) (us' cells' : List ℕ) (r : RunAnswer) (t : InsertsEvent w join c m e (table_of fs us) cells (table_of fs' us') cells' r)
+module _ (w : Layout) (join time : Float) (last : ℕ) (fs : List Float) (us cells : List ℕ) (c : Counts) (m : Mover) (e : TimedEvent) (fs' : List Float) (us' cells' : List ℕ) (r : Result (Counts × Mover) Refusal) (t : InsertsEvent w join c m e (table_of fs us) cells (table_of fs' us') cells' r)
     (dm : m ≡ mover_at time last) (within : last < c.nodes) where
   -- a network is there for the second
-  pub first_grown : Growing w fs us cells c → (d : Counts) (n : Mover) → r ≡ On d n → Growing w fs' us' cells' d × (n.place.idx_prev < d.nodes)
+  pub first_grown : Growing w fs us cells c → (d : Counts) (n : Mover) → r ≡ Ok (d, n) → Growing w fs' us' cells' d × (n.place.idx_prev < d.nodes)
   first_grown g d n q =
-      let o = subst (OutcomeAs (goes_on (insert_event w.places join g.net (run_at time last) e)) w g.start 0 fs' us' cells' []) q (t g.start [] 0 g.net (run_at time last) g.holds (run_there c.nodes [] time last m dm within)) in
+      let o = subst (InsertedAs (insert_event w.places join g.net (run_at time last) e) w g.start 0 fs' us' cells' []) q (t g.start [] 0 g.net (run_at time last) g.holds (run_there c.nodes [] time last m dm within)) in
       (record { start = g.start; net = o.after.net; holds = o.net }, o.run.stands)
 
--- ---- answers
+-- ---- a refusal that is handed on
 
-abbrev Lost : Answer Outcome → Type 0
-Lost (given (Goes x)) = ⊥
-Lost (given (Left net)) = Unit
-Lost (refused n) = ⊥
-
--- insertion never ends a run
-pub never_left : (a : Answer After) (net : Net) → goes_on a ≡ given (Left net) → ⊥
-never_left (given x) net e = subst Lost (sym e) tt
-never_left (refused n) net e = subst Lost (sym e) tt
-
-abbrev number_in : Answer Outcome → ℕ
-number_in (given x) = 0
-number_in (refused n) = n
-
-abbrev NotGiven : Answer Outcome → Type 0
-NotGiven (given x) = ⊥
-NotGiven (refused n) = Unit
-
-pub goes_refused : (a : Answer After) (k : ℕ) → goes_on a ≡ refused k → a ≡ refused k
-goes_refused (given x) k e = absurd (subst NotGiven (sym e) tt)
-goes_refused (refused n) k e = ap (λ (x : Answer Outcome). refused (number_in x)) e
+pub inserted_refused : (answer : Answer After) (w : Layout) (start : List ℕ) (leg : ℕ) (fs : List Float) (us cells joins : List ℕ) (r : Result (Counts × Mover) Refusal) (k : Refusal) → IsErrAnd r (λ (x : Refusal). x ≡ k) → answer ≡ refused (refusal_number k)
+    → InsertedAs answer w start leg fs us cells joins r
+inserted_refused answer w start leg fs us cells joins (Ok x) k h q = absurd h
+inserted_refused answer w start leg fs us cells joins (Err x) k h q = q ∙ ap (λ (y : Refusal). refused (refusal_number y)) (sym h)
 
 -- ---- where the Arrive is inserted from
 
@@ -108,9 +91,9 @@ gone_in d (given (Goes x)) = x
 gone_in d (given (Left net)) = d
 gone_in d (refused n) = d
 
-module _ (net : Net) (time : Float) (last : ℕ) (e : TimedEvent) (w : Layout) (start : List ℕ) (fs : List Float) (us cells joins : List ℕ) (r : RunAnswer) where
+module _ (net : Net) (time : Float) (last : ℕ) (e : TimedEvent) (w : Layout) (start : List ℕ) (fs : List Float) (us cells joins : List ℕ) (r : Result (Counts × Mover) Refusal) where
   -- an answer from node `last` is one from the start: only the arc differs
-  answer_from : (t : Table) (x : Inserted) → OutcomeAs (goes_on (inserted_run net (run_at time last) e t x)) w start 0 fs us cells joins r → OutcomeAs (goes_on (inserted_run net (run_at time 1) e t x)) w start 0 fs us cells joins r
+  answer_from : (t : Table) (x : Inserted) → InsertedAs (inserted_run net (run_at time last) e t x) w start 0 fs us cells joins r → InsertedAs (inserted_run net (run_at time 1) e t x) w start 0 fs us cells joins r
   unfolding moved_to added_to
   answer_from t (NotIn k) o = o
   answer_from t (Moved q) o = o
@@ -119,8 +102,8 @@ module _ (net : Net) (time : Float) (last : ℕ) (e : TimedEvent) (w : Layout) (
       from : Arc
       from = arc_to (place_on time (of_bits binary64 0) last) q.idx_prev e
 
-      go : (r : RunAnswer) → OutcomeAs (goes_on (inserted_run net (run_at time last) e t (Added q split))) w start 0 fs us cells joins r → OutcomeAs (goes_on (inserted_run net (run_at time 1) e t (Added q split))) w start 0 fs us cells joins r
-      go (On c m) o =
+      go : (r : Result (Counts × Mover) Refusal) → InsertedAs (inserted_run net (run_at time last) e t (Added q split)) w start 0 fs us cells joins r → InsertedAs (inserted_run net (run_at time 1) e t (Added q split)) w start 0 fs us cells joins r
+      go (Ok (c, m)) o =
           let s = ap (gone_in o.after) (sym o.is) in
           record {
             after = record { net = added_to net t q split (arc_to (place_on time (of_bits binary64 0) 1) q.idx_prev e); run = moved_to (run_at time 1) q true };
@@ -128,17 +111,16 @@ module _ (net : Net) (time : Float) (last : ℕ) (e : TimedEvent) (w : Layout) (
             net = net_noted (subst (λ (z : After). NetIn w start fs us cells c z.net) s o.net) (arc_to (place_on time (of_bits binary64 0) 1) q.idx_prev e ∷ net.noted);
             run = subst (λ (z : After). RunIn c.nodes 0 joins m z.run) s o.run;
           }
-      go (Ended c) o = absurd (subst Lost (sym o.is) tt)
-      go (Refused k) o = absurd (subst NotGiven (sym o) tt)
+      go (Err k) o = cc
 
   event_from : (places : ℕ) (join : Float) (link : ℕ) → LeadsFrom net.table net.nodes last link → e.link_event.link_idx ≡ link
-      → OutcomeAs (goes_on (insert_event places join net (run_at time last) e)) w start 0 fs us cells joins r → OutcomeAs (goes_on (insert_event places join net (run_at time 1) e)) w start 0 fs us cells joins r
+      → InsertedAs (insert_event places join net (run_at time last) e) w start 0 fs us cells joins r → InsertedAs (insert_event places join net (run_at time 1) e) w start 0 fs us cells joins r
   unfolding insert_event
   event_from places join link l d o =
       answer_from (inserted_table net.table net.nodes join (place_on time (of_bits binary64 0) 1) e) (inserted net.table net.nodes places (member_of net.ends) join (place_on time (of_bits binary64 0) 1) e)
-      (subst (λ (x : Inserted). OutcomeAs (goes_on (inserted_run net (run_at time last) e (inserted_table net.table net.nodes join (place_on time (of_bits binary64 0) 1) e) x)) w start 0 fs us cells joins r)
+      (subst (λ (x : Inserted). InsertedAs (inserted_run net (run_at time last) e (inserted_table net.table net.nodes join (place_on time (of_bits binary64 0) 1) e) x) w start 0 fs us cells joins r)
       (l.answer places (member_of net.ends) join time (of_bits binary64 0) e d)
-      (subst (λ (t : Table). OutcomeAs (goes_on (inserted_run net (run_at time last) e t (inserted net.table net.nodes places (member_of net.ends) join (place_on time (of_bits binary64 0) last) e))) w start 0 fs us cells joins r)
+      (subst (λ (t : Table). InsertedAs (inserted_run net (run_at time last) e t (inserted net.table net.nodes places (member_of net.ends) join (place_on time (of_bits binary64 0) last) e)) w start 0 fs us cells joins r)
       (l.table join time (of_bits binary64 0) e d)
       o))
 
@@ -155,42 +137,37 @@ module _ (b : List ℕ) (places link : ℕ) (net : Net) where
   abbrev pub arrived : Answer After
   arrived = insert_event places (join_gap b) net (origin_run b) (origin_arrive b link)
 
-  answered : origin_answer b places link net ≡ goes_on (and_then arrived clears)
+  answered : origin_answer b places link net ≡ and_then arrived clears
   unfolding origin_answer
   answered = refl
 
-module _ (b : List ℕ) (p : Plan) (reals : ℕ) (plan : PlanIn b p reals) (link : ℕ) (fs : List Float) (us cells : List ℕ) (c : Counts) (m : Mover) (e : TimedEvent) (fs' : List Float) (us' cells' : List ℕ) (r : RunAnswer)
+module _ (b : List ℕ) (p : Plan) (reals : ℕ) (plan : PlanIn b p reals) (link : ℕ) (fs : List Float) (us cells : List ℕ) (c : Counts) (m : Mover) (e : TimedEvent) (fs' : List Float) (us' cells' : List ℕ) (r : Result (Counts × Mover) Refusal)
     (t : InsertsEvent p.w p.join c m e (table_of fs us) cells (table_of fs' us') cells' r) (last : ℕ) (leads : LeadsFrom (table_of fs us) c.nodes last link) (dm : m ≡ mover_at p.departure last)
     (de : e ≡ event_at_rest p.departure link Arrive (of_bits binary64 0)) (start joins : List ℕ) (net : Net) (v : NetIn p.w start fs us cells c net) where
-  arrives : OutcomeAs (goes_on (insert_event p.w.places (join_gap b) net (origin_run b) (origin_arrive b link))) p.w start 0 fs' us' cells' joins r
+  arrives : InsertedAs (insert_event p.w.places (join_gap b) net (origin_run b) (origin_arrive b link)) p.w start 0 fs' us' cells' joins r
   unfolding origin_run origin_event
   arrives =
       event_from net (departure b) last (origin_arrive b link) p.w start fs' us' cells' joins r p.w.places (join_gap b) link (leads_net last link v leads) refl
-      (subst (λ (j : Float). OutcomeAs (goes_on (insert_event p.w.places j net (run_at (departure b) last) (origin_arrive b link))) p.w start 0 fs' us' cells' joins r) plan.join
-      (subst (λ (x : TimedEvent). OutcomeAs (goes_on (insert_event p.w.places p.join net (run_at (departure b) last) x)) p.w start 0 fs' us' cells' joins r) (de ∙ ap (λ (x : Float). event_at_rest x link Arrive (of_bits binary64 0)) plan.departs)
+      (subst (λ (j : Float). InsertedAs (insert_event p.w.places j net (run_at (departure b) last) (origin_arrive b link)) p.w start 0 fs' us' cells' joins r) plan.join
+      (subst (λ (x : TimedEvent). InsertedAs (insert_event p.w.places p.join net (run_at (departure b) last) x) p.w start 0 fs' us' cells' joins r) (de ∙ ap (λ (x : Float). event_at_rest x link Arrive (of_bits binary64 0)) plan.departs)
       (t start joins 0 net (run_at (departure b) last) v (run_there c.nodes joins (departure b) last m (dm ∙ ap (λ (x : Float). mover_at x last) plan.departs) leads.within))))
 
-  -- the run does not go on at the Arrive
-  pub origin_stops : ((d : Counts) (n : Mover) → r ≡ On d n → ⊥) → OutcomeAs (origin_answer b p.w.places link net) p.w start 0 fs' us' cells' joins r
-  origin_stops n = go r refl arrives
-    where
-      go : (x : RunAnswer) → r ≡ x → OutcomeAs (goes_on (arrived b p.w.places link net)) p.w start 0 fs' us' cells' joins x → OutcomeAs (origin_answer b p.w.places link net) p.w start 0 fs' us' cells' joins x
-      go (On d k) q o = absurd (n d k q)
-      go (Ended d) q o = absurd (never_left (arrived b p.w.places link net) o.after o.is)
-      go (Refused k) q o = answered b p.w.places link net ∙ ap (λ (a : Answer After). goes_on (and_then a (clears b p.w.places link net))) (goes_refused (arrived b p.w.places link net) k o)
+  -- the Arrive is refused
+  pub origin_stops : (k : Refusal) → r ≡ Err k → origin_answer b p.w.places link net ≡ refused (refusal_number k)
+  origin_stops k q = answered b p.w.places link net ∙ ap (λ (a : Answer After). and_then a (clears b p.w.places link net)) (subst (InsertedAs (arrived b p.w.places link net) p.w start 0 fs' us' cells' joins) q arrives)
 
   -- it goes on, and clears
-  pub origin_clears : (d : Counts) (n : Mover) → r ≡ On d n → (f : TimedEvent) → f ≡ event_at_rest p.departure link Clear (add binary64 (of_bits binary64 0) p.length) → (fs'' : List Float) (us'' cells'' : List ℕ) (x : RunAnswer)
-      → InsertsEvent p.w p.join d n f (table_of fs' us') cells' (table_of fs'' us'') cells'' x → OutcomeAs (origin_answer b p.w.places link net) p.w start 0 fs'' us'' cells'' joins x
+  pub origin_clears : (d : Counts) (n : Mover) → r ≡ Ok (d, n) → (f : TimedEvent) → f ≡ event_at_rest p.departure link Clear (add binary64 (of_bits binary64 0) p.length) → (fs'' : List Float) (us'' cells'' : List ℕ) (x : Result (Counts × Mover) Refusal)
+      → InsertsEvent p.w p.join d n f (table_of fs' us') cells' (table_of fs'' us'') cells'' x → InsertedAs (origin_answer b p.w.places link net) p.w start 0 fs'' us'' cells'' joins x
   unfolding origin_event
   origin_clears d n q f df fs'' us'' cells'' x u =
-      let o = subst (OutcomeAs (goes_on (arrived b p.w.places link net)) p.w start 0 fs' us' cells' joins) q arrives in
+      let o = subst (InsertedAs (arrived b p.w.places link net) p.w start 0 fs' us' cells' joins) q arrives in
       let a : After = o.after in
       let g : arrived b p.w.places link net ≡ given a = goes_given (arrived b p.w.places link net) a o.is in
       let ev : f ≡ origin_clear b link = df ∙ ap (λ (y : Float). event_at_rest y link Clear (add binary64 (of_bits binary64 0) p.length)) plan.departs ∙ ap (λ (y : Float). event_at_rest (departure b) link Clear (add binary64 (of_bits binary64 0) y)) plan.train in
-      subst (λ (y : Answer Outcome). OutcomeAs y p.w start 0 fs'' us'' cells'' joins x) (sym (answered b p.w.places link net ∙ ap (λ (y : Answer After). goes_on (and_then y (clears b p.w.places link net))) g))
-      (subst (λ (j : Float). OutcomeAs (goes_on (insert_event p.w.places j a.net a.run (origin_clear b link))) p.w start 0 fs'' us'' cells'' joins x) plan.join
-      (subst (λ (y : TimedEvent). OutcomeAs (goes_on (insert_event p.w.places p.join a.net a.run y)) p.w start 0 fs'' us'' cells'' joins x) ev
+      subst (λ (y : Answer After). InsertedAs y p.w start 0 fs'' us'' cells'' joins x) (sym (answered b p.w.places link net ∙ ap (λ (y : Answer After). and_then y (clears b p.w.places link net)) g))
+      (subst (λ (j : Float). InsertedAs (insert_event p.w.places j a.net a.run (origin_clear b link)) p.w start 0 fs'' us'' cells'' joins x) plan.join
+      (subst (λ (y : TimedEvent). InsertedAs (insert_event p.w.places p.join a.net a.run y) p.w start 0 fs'' us'' cells'' joins x) ev
       (u start joins 0 a.net a.run o.net o.run)))
 
 -- ---- the run's leg is sought
@@ -232,23 +209,19 @@ insert_joins places join net run e a h = inserted_joins net run e (inserted_tabl
 
 module _ (b : List ℕ) (places link : ℕ) (net : Net) where
   -- it has no join entries
-  pub origin_joins : (a : After) → origin_answer b places link net ≡ given (Goes a) → a.run.joins ≡ []
+  pub origin_joins : (a : After) → goes_on (origin_answer b places link net) ≡ given (Goes a) → a.run.joins ≡ []
   unfolding origin_run
   origin_joins a h =
-      let k = then_both (arrived b places link net) (clears b places link net) a (goes_given (and_then (arrived b places link net) (clears b places link net)) a (sym (answered b places link net) ∙ h)) in
+      let k = then_both (arrived b places link net) (clears b places link net) a (sym (answered b places link net) ∙ goes_given (origin_answer b places link net) a h) in
       insert_joins places (join_gap b) k.mid.net k.mid.run (origin_clear b link) a k.second
       ∙ insert_joins places (join_gap b) net (origin_run b) (origin_arrive b link) k.mid k.first
 
-  -- insertion never ends a run
-  pub origin_not_left : (after : Net) → origin_answer b places link net ≡ given (Left after) → ⊥
-  origin_not_left after h = never_left (and_then (arrived b places link net) (clears b places link net)) after (sym (answered b places link net) ∙ h)
-
-  pub origin_given : (runs : List Run) (a : After) → origin_answer b places link net ≡ given (Goes a) → grow_origin b places link (record { net = net; saved = runs }) ≡ saved_origin b link a.net a.run runs
+  pub origin_given : (runs : List Run) (a : After) → goes_on (origin_answer b places link net) ≡ given (Goes a) → grow_origin b places link (record { net = net; saved = runs }) ≡ saved_origin b link a.net a.run runs
   unfolding grow_origin saved_origin
   origin_given runs a h =
-      then_more (arrived b places link net) (clears b places link net) (λ (c : After). and_then (seek_leg b c.run 0 link) (λ (run : Run). given (record { net = c.net; saved = run ∷ runs }))) a (goes_given (and_then (arrived b places link net) (clears b places link net)) a (sym (answered b places link net) ∙ h))
+      then_more (arrived b places link net) (clears b places link net) (λ (c : After). and_then (seek_leg b c.run 0 link) (λ (run : Run). given (record { net = c.net; saved = run ∷ runs }))) a (sym (answered b places link net) ∙ goes_given (origin_answer b places link net) a h)
 
   pub origin_refused : (runs : List Run) (k : ℕ) → origin_answer b places link net ≡ refused k → grow_origin b places link (record { net = net; saved = runs }) ≡ refused k
   unfolding grow_origin
   origin_refused runs k h =
-      then_less (arrived b places link net) (clears b places link net) (λ (c : After). and_then (seek_leg b c.run 0 link) (λ (run : Run). given (record { net = c.net; saved = run ∷ runs }))) k (goes_refused (and_then (arrived b places link net) (clears b places link net)) k (sym (answered b places link net) ∙ h))
+      then_less (arrived b places link net) (clears b places link net) (λ (c : After). and_then (seek_leg b c.run 0 link) (λ (run : Run). given (record { net = c.net; saved = run ∷ runs }))) k (sym (answered b places link net) ∙ h)

@@ -20,18 +20,18 @@ use Rattle.grow_rules.specs.Run.{Net, Run}
 use Rattle.grow_rules.specs.Growth.{Growth, grow_origin, grow_origins}
 use Rattle.grow_events.specs.declared.Counts.{Counts}
 use Rattle.grow_events.specs.declared.Mover.{Mover}
-use Rattle.grow_events.specs.declared.RunAnswer.{RunAnswer}
-use Rattle.grow_events.specs.declared.RunAnswer.TheVariants.{On as Goes, Ended, Refused as NotIn}
-use Rattle.grow_events.specs.Held.{NetIn, GoesAs, OutcomeAs, NotFewer}
+use Rattle.std.specs.Prelude.{Result, Ok, Err, IfOk, IsErrAnd}
+use Rattle.refusals.specs.declared.Refusal.{Refusal}
+use Rattle.refusals.specs.Refusals.{refusal_number}
+use Rattle.grow_rules.specs.Run.{goes_on}
+use Rattle.grow_events.specs.Held.{NetIn, GoesAs, InsertedAs}
 use Rattle.grow_state.specs.declared.Plan.{Plan}
-use Rattle.grow_state.specs.declared.State.{State}
-use Rattle.grow_state.specs.declared.GrowthAnswer.{GrowthAnswer}
-use Rattle.grow_state.specs.declared.GrowthAnswer.TheVariants.{On, Refused}
-use Rattle.grow_state.specs.Held.{PlanIn, lists}
+use Rattle.grow_state.specs.declared.Rest.{Rest}
+use Rattle.grow_state.specs.Held.{PlanIn, Lists, lists}
 use Rattle.net_node.specs.Table.{Indexed, node_at, Table, at}
 use Rattle.net_insertion.specs.Insertion.{table_of}
 use Rattle.grow_origins.specs.Origins.{origin_answer, LeadsFrom, OnlyStart, OtherLinks, AllFirst, NotOver, OriginsIn, SomeOrigin, SomeOrigins, OriginsGiven, OriginsAs, saved_origin, OriginInserted, SomeOriginInserted, GrowsOrigin, GrowsOrigins}
-use Rattle.grow_origins.proofs.OriginEvents.{fewer_as, origin_joins, origin_not_left, origin_given, origin_refused}
+use Rattle.grow_origins.proofs.OriginEvents.{fewer_as, origin_joins, origin_given, origin_refused}
 use Rattle.grow_origins.proofs.Starting.{AtLast, at_start, comes_first, leads_from}
 use Rattle.grow_origins.proofs.Following.{last_origin}
 use Rattle.grow_origins.proofs.Saving.{drive_grown}
@@ -55,20 +55,19 @@ not_over b idx idxs link (r ∷ rs) e f = (λ (q : leg_link b (r.leg - 1) ≡ li
 pub leads_as : (t : Table) (n last link link' : ℕ) → link ≡ link' → LeadsFrom t n last link' → LeadsFrom t n last link
 leads_as t n last link link' e l = subst (LeadsFrom t n last) (sym e) l
 
-module _ (b : List ℕ) (p : Plan) (fs : List Float) (us : List ℕ) (reals : List Float) (cells joins : List ℕ) (g : State) (idx link : ℕ) (named : link ≡ origin_link b idx) (plan : PlanIn b p (length reals))
-    (fs' : List Float) (us' cells' : List ℕ) (long : length cells' ≡ length cells) (r : RunAnswer) (more : NotFewer g.counts r)
-    (t : (b : List ℕ) (reals : ℕ) (start joins : List ℕ) (net : Net) → PlanIn b p reals → NetIn p.w start fs us cells g.counts net → OutcomeAs (origin_answer b p.w.places link net) p.w start 0 fs' us' cells' joins r) where
+module _ (b : List ℕ) (p : Plan) (fs : List Float) (us : List ℕ) (reals : List Float) (cells joins : List ℕ) (g : Rest) (idx link : ℕ) (named : link ≡ origin_link b idx) (plan : PlanIn b p (length reals))
+    (fs' : List Float) (us' cells' : List ℕ) (long : length cells' ≡ length cells) (r : Result (Counts × Mover) Refusal) (more : IfOk r (λ x. g.counts.nodes ≤ x.0.nodes))
+    (t : (b : List ℕ) (reals : ℕ) (start joins : List ℕ) (net : Net) → PlanIn b p reals → NetIn p.w start fs us cells g.counts net → InsertedAs (origin_answer b p.w.places link net) p.w start 0 fs' us' cells' joins r) where
   module _ (idxs : List ℕ) (net : Net) (runs : List Run) (o : OriginsIn b p (lists fs us reals cells joins) (idx ∷ idxs) g net runs) where
-    told : OutcomeAs (origin_answer b p.w.places link net) p.w cells 0 fs' us' cells' joins r
+    told : InsertedAs (origin_answer b p.w.places link net) p.w cells 0 fs' us' cells' joins r
     told = t b (length reals) cells joins net plan o.holds.grown
 
     -- its run is at a place
-    inserted_origin : OtherLinks b (origin_link b idx) idxs → (c : Counts) (m : Mover) → r ≡ Goes c m → (x : GoesAs (origin_answer b p.w.places link net) p.w cells 0 fs' us' cells' joins c m)
-        → OriginInserted b p (lists fs' us' reals cells' joins) idxs g c m.place link x.after.net x.after.run runs
+    inserted_origin : OtherLinks b (origin_link b idx) idxs → (c : Counts) (m : Mover) → r ≡ Ok (c, m) → (x : GoesAs (goes_on (origin_answer b p.w.places link net)) p.w cells 0 fs' us' cells' joins c m)
+        → OriginInserted b p (lists fs' us' reals cells' joins) idxs (record { counts = c; top = g.top; used = g.used }) m.place link x.after.net x.after.run runs
     inserted_origin d c m e x = record {
       origins = record {
-        holds = drive_grown plan o.holds o.idle x.net (fewer_as g.counts c m r e more) long;
-        idle = o.idle;
+        holds = drive_grown plan o.holds x.net (fewer_as g.counts c m r e more) long;
         firsts = idxs_behind b idx idxs runs o.firsts;
       };
       stands = x.run.place;
@@ -79,42 +78,44 @@ module _ (b : List ℕ) (p : Plan) (fs : List Float) (us : List ℕ) (reals : Li
     }
 
     -- what saving it gives
-    pub origin_on : OtherLinks b (origin_link b idx) idxs → (c : Counts) (m : Mover) → r ≡ Goes c m → (reals' : List Float) (cells'' : List ℕ) (k : GrowthAnswer)
-        → ((fs : List Float) (us idxs : List ℕ) (net : Net) (run : Run) (runs : List Run) → OriginInserted b p (lists fs us reals cells' joins) idxs g c m.place link net run runs → OriginsAs (saved_origin b link net run runs) b p (lists fs us reals' cells'' joins) idxs k)
+    pub origin_on : OtherLinks b (origin_link b idx) idxs → (c : Counts) (m : Mover) → r ≡ Ok (c, m) → (reals' : List Float) (cells'' : List ℕ) (k : Result Rest Refusal)
+        → ((fs : List Float) (us idxs : List ℕ) (net : Net) (run : Run) (runs : List Run) → OriginInserted b p (lists fs us reals cells' joins) idxs (record { counts = c; top = g.top; used = g.used }) m.place link net run runs → OriginsAs (saved_origin b link net run runs) b p (lists fs us reals' cells'' joins) idxs k)
         → OriginsAs (grow_origin b p.w.places (origin_link b idx) (record { net = net; saved = runs })) b p (lists fs' us' reals' cells'' joins) idxs k
     origin_on d c m e reals' cells'' k f =
-        let x : GoesAs (origin_answer b p.w.places link net) p.w cells 0 fs' us' cells' joins c m = subst (OutcomeAs (origin_answer b p.w.places link net) p.w cells 0 fs' us' cells' joins) e told in
+        let x : GoesAs (goes_on (origin_answer b p.w.places link net)) p.w cells 0 fs' us' cells' joins c m = subst (InsertedAs (origin_answer b p.w.places link net) p.w cells 0 fs' us' cells' joins) e told in
         subst (λ (l : ℕ). OriginsAs (grow_origin b p.w.places l (record { net = net; saved = runs })) b p (lists fs' us' reals' cells'' joins) idxs k) named
         (subst (λ (a : Answer Growth). OriginsAs a b p (lists fs' us' reals' cells'' joins) idxs k) (sym (origin_given b p.w.places link net runs x.after x.is))
         (f fs' us' idxs x.after.net x.after.run runs (inserted_origin d c m e x)))
 
-    pub origin_not : (k : ℕ) → r ≡ NotIn k → grow_origin b p.w.places (origin_link b idx) (record { net = net; saved = runs }) ≡ refused k
+    pub origin_not : (k : Refusal) → r ≡ Err k → grow_origin b p.w.places (origin_link b idx) (record { net = net; saved = runs }) ≡ refused (refusal_number k)
     origin_not k e =
-        subst (λ (l : ℕ). grow_origin b p.w.places l (record { net = net; saved = runs }) ≡ refused k) named
-        (origin_refused b p.w.places link net runs k (subst (OutcomeAs (origin_answer b p.w.places link net) p.w cells 0 fs' us' cells' joins) e told))
-
-    -- insertion never ends a run
-    pub origin_never : (c : Counts) → r ≡ Ended c → ⊥
-    origin_never c e = let x = subst (OutcomeAs (origin_answer b p.w.places link net) p.w cells 0 fs' us' cells' joins) e told in origin_not_left b p.w.places link net x.after x.is
+        subst (λ (l : ℕ). grow_origin b p.w.places l (record { net = net; saved = runs }) ≡ refused (refusal_number k)) named
+        (origin_refused b p.w.places link net runs (refusal_number k) (subst (InsertedAs (origin_answer b p.w.places link net) p.w cells 0 fs' us' cells' joins) e told))
 
   -- what saving asks
-  pub some_inserted : SomeOrigin b p (lists fs us reals cells joins) idx g → (c : Counts) (m : Mover) → r ≡ Goes c m → SomeOriginInserted b p reals cells' joins g c m.place link
+  pub some_inserted : SomeOrigin b p (lists fs us reals cells joins) idx g → (c : Counts) (m : Mover) → r ≡ Ok (c, m) → SomeOriginInserted b p reals cells' joins (record { counts = c; top = g.top; used = g.used }) m.place link
   some_inserted s c m e =
-      let o : OriginsIn b p (lists fs us reals cells joins) (idx ∷ []) g s.net s.runs = record { holds = s.origins.holds; idle = s.origins.idle; firsts = idx_alone b idx s.idxs s.runs s.origins.firsts } in
-      let x : GoesAs (origin_answer b p.w.places link s.net) p.w cells 0 fs' us' cells' joins c m = subst (OutcomeAs (origin_answer b p.w.places link s.net) p.w cells 0 fs' us' cells' joins) e (told [] s.net s.runs o) in
+      let o : OriginsIn b p (lists fs us reals cells joins) (idx ∷ []) g s.net s.runs = record { holds = s.origins.holds; firsts = idx_alone b idx s.idxs s.runs s.origins.firsts } in
+      let x : GoesAs (goes_on (origin_answer b p.w.places link s.net)) p.w cells 0 fs' us' cells' joins c m = subst (InsertedAs (origin_answer b p.w.places link s.net) p.w cells 0 fs' us' cells' joins) e (told [] s.net s.runs o) in
       record { fs = fs'; us = us'; idxs = []; net = x.after.net; run = x.after.run; runs = s.runs; inserted_origin = inserted_origin [] s.net s.runs o tt c m e x }
+
+-- ---- a refusal that is handed on
+
+pub origins_refused : (answer : Answer Growth) (b : List ℕ) (p : Plan) (s : Lists) (idxs : List ℕ) (r : Result Rest Refusal) (k : Refusal) → IsErrAnd r (λ (x : Refusal). x ≡ k) → answer ≡ refused (refusal_number k) → OriginsAs answer b p s idxs r
+origins_refused answer b p s idxs (Ok g) k h q = absurd h
+origins_refused answer b p s idxs (Err x) k h q = q ∙ ap (λ (y : Refusal). refused (refusal_number y)) (sym h)
 
 -- ---- the loop over the kept origins
 
 -- what the origins so far have made, those from k on being still to come
-pub record SoFar (b : List ℕ) (p : Plan) (fs : List Float) (us : List ℕ) (reals : List Float) (cells joins : List ℕ) (g : State) (last k : ℕ) (answer : Answer Growth) : Type 0 where
+pub record SoFar (b : List ℕ) (p : Plan) (fs : List Float) (us : List ℕ) (reals : List Float) (cells joins : List ℕ) (g : Rest) (last k : ℕ) (answer : Answer Growth) : Type 0 where
   pub net : Net
   pub runs : List Run
   pub origins : OriginsIn b p (lists fs us reals cells joins) (drop k (kept_origins b)) g net runs
   pub same : answer ≡ grow_origins b p.w.places (drop k (kept_origins b)) (record { net = net; saved = runs })
   pub starts : AtLast b (drop k (kept_origins b)) net.table net.nodes last
 
-pub record OriginLoop (b : List ℕ) (p : Plan) (joins : List ℕ) (fs₀ : List Float) (us₀ : List ℕ) (reals₀ : List Float) (cells₀ : List ℕ) (g₀ : State) (fs : List Float) (us : List ℕ) (reals : List Float) (cells : List ℕ) (g : State) (last k : ℕ) : Type 0 where
+pub record OriginLoop (b : List ℕ) (p : Plan) (joins : List ℕ) (fs₀ : List Float) (us₀ : List ℕ) (reals₀ : List Float) (cells₀ : List ℕ) (g₀ : Rest) (fs : List Float) (us : List ℕ) (reals : List Float) (cells : List ℕ) (g : Rest) (last k : ℕ) : Type 0 where
   pub within : k ≤ length (kept_origins b)
   pub floats : length fs ≡ length fs₀
   pub numbers : length us ≡ length us₀
@@ -123,7 +124,7 @@ pub record OriginLoop (b : List ℕ) (p : Plan) (joins : List ℕ) (fs₀ : List
   pub so_far : (net : Net) (runs : List Run) → OriginsIn b p (lists fs₀ us₀ reals₀ cells₀ joins) (kept_origins b) g₀ net runs → SoFar b p fs us reals cells joins g last k (grow_origins b p.w.places (kept_origins b) (record { net = net; saved = runs }))
 
 -- the network's table and nodes, as the slices hold them
-module _ {b : List ℕ} {p : Plan} {fs : List Float} {us : List ℕ} {reals : List Float} {cells joins idxs : List ℕ} {g : State} {net : Net} {runs : List Run} (o : OriginsIn b p (lists fs us reals cells joins) idxs g net runs) where
+module _ {b : List ℕ} {p : Plan} {fs : List Float} {us : List ℕ} {reals : List Float} {cells joins idxs : List ℕ} {g : Rest} {net : Net} {runs : List Run} (o : OriginsIn b p (lists fs us reals cells joins) idxs g net runs) where
   net_start : OnlyStart (node_at fs us) g.counts.nodes → OnlyStart (at net.table) net.nodes
   unfolding at
   net_start s = subst (OnlyStart (at net.table)) (sym o.holds.grown.nodes) (subst (λ (t : Table). OnlyStart (at t) g.counts.nodes) (sym o.holds.grown.table) s)
@@ -138,7 +139,7 @@ module _ {b : List ℕ} {p : Plan} {fs : List Float} {us : List ℕ} {reals : Li
   net_leads : (last link : ℕ) → LeadsFrom net.table net.nodes last link → LeadsFrom (table_of fs us) g.counts.nodes last link
   net_leads last link l = subst (λ (t : Table). LeadsFrom t g.counts.nodes last link) o.holds.grown.table (subst (λ (n : ℕ). LeadsFrom net.table n last link) o.holds.grown.nodes l)
 
-pub loop_start : (b : List ℕ) (p : Plan) (joins : List ℕ) (fs : List Float) (us : List ℕ) (reals : List Float) (cells : List ℕ) (g : State) → OnlyStart (node_at fs us) g.counts.nodes → OriginLoop b p joins fs us reals cells g fs us reals cells g 1 0
+pub loop_start : (b : List ℕ) (p : Plan) (joins : List ℕ) (fs : List Float) (us : List ℕ) (reals : List Float) (cells : List ℕ) (g : Rest) → OnlyStart (node_at fs us) g.counts.nodes → OriginLoop b p joins fs us reals cells g fs us reals cells g 1 0
 loop_start b p joins fs us reals cells g s = record {
   within = omega arith;
   floats = refl;
@@ -191,7 +192,7 @@ origin_last : (b : List ℕ) (places : ℕ) (g : Growth) → grow_origins b plac
 unfolding grow_origins
 origin_last b places g = refl
 
-module _ (b : List ℕ) (p : Plan) (joins : List ℕ) (fs₀ : List Float) (us₀ : List ℕ) (reals₀ : List Float) (cells₀ : List ℕ) (g₀ : State) (fs : List Float) (us : List ℕ) (reals : List Float) (cells : List ℕ) (g : State) (last k : ℕ)
+module _ (b : List ℕ) (p : Plan) (joins : List ℕ) (fs₀ : List Float) (us₀ : List ℕ) (reals₀ : List Float) (cells₀ : List ℕ) (g₀ : Rest) (fs : List Float) (us : List ℕ) (reals : List Float) (cells : List ℕ) (g : Rest) (last k : ℕ)
     (v : OriginLoop b p joins fs₀ us₀ reals₀ cells₀ g₀ fs us reals cells g last k) where
   -- the plan fits still
   pub loop_plan : PlanIn b p (length reals₀) → PlanIn b p (length reals)
@@ -226,7 +227,7 @@ module _ (b : List ℕ) (p : Plan) (joins : List ℕ) (fs₀ : List Float) (us�
     apart = other_links b idx (drop (k + 1) (kept_origins b)) (subst (AllOther b) idxs_are (behind_other b k (kept_origins b) (kept_apart b))).0
 
     -- what the code is told of the next origin
-    module _ (fs' : List Float) (us' : List ℕ) (reals' : List Float) (cells' : List ℕ) (t : GrowthAnswer)
+    module _ (fs' : List Float) (us' : List ℕ) (reals' : List Float) (cells' : List ℕ) (t : Result Rest Refusal)
         (told : GrowsOrigin b p g idx (lists fs us reals cells joins) (lists fs' us' reals' cells' joins) t) where
       next : {answer : Answer Growth} → (x : SoFar b p fs us reals cells joins g last k answer) → OriginsAs (grow_origin b p.w.places (origin_link b idx) (record { net = x.net; saved = x.runs })) b p (lists fs' us' reals' cells' joins) (drop (k + 1) (kept_origins b)) t
       next x = told (drop (k + 1) (kept_origins b)) x.net x.runs (subst (λ (idxs : List ℕ). OriginsIn b p (lists fs us reals cells joins) idxs g x.net x.runs) idxs_are x.origins) apart
@@ -235,13 +236,13 @@ module _ (b : List ℕ) (p : Plan) (joins : List ℕ) (fs₀ : List Float) (us�
       unfolds x =
           x.same ∙ ap (λ (idxs : List ℕ). grow_origins b p.w.places idxs (record { net = x.net; saved = x.runs })) idxs_are ∙ origin_first b p.w.places idx (drop (k + 1) (kept_origins b)) (record { net = x.net; saved = x.runs })
 
-      pub loop_stop : (n : ℕ) → t ≡ Refused n → GrowsOrigins b p g₀ (lists fs₀ us₀ reals₀ cells₀ joins) (lists fs' us' reals' cells' joins) t
-      loop_stop n e net runs o =
+      pub loop_stop : (n : Refusal) → t ≡ Err n → (r : Result Rest Refusal) → r ≡ Err n → GrowsOrigins b p g₀ (lists fs₀ us₀ reals₀ cells₀ joins) (lists fs' us' reals' cells' joins) r
+      loop_stop n e r d net runs o =
           let x = v.so_far net runs o in
           let q = subst (OriginsAs (grow_origin b p.w.places (origin_link b idx) (record { net = x.net; saved = x.runs })) b p (lists fs' us' reals' cells' joins) (drop (k + 1) (kept_origins b))) e (next x) in
-          subst (OriginsAs (grow_origins b p.w.places (kept_origins b) (record { net = net; saved = runs })) b p (lists fs' us' reals' cells' joins) []) (sym e) (unfolds x ∙ ap (λ (a : Answer Growth). and_then a (grow_origins b p.w.places (drop (k + 1) (kept_origins b)))) q)
+          subst (OriginsAs (grow_origins b p.w.places (kept_origins b) (record { net = net; saved = runs })) b p (lists fs' us' reals' cells' joins) []) (sym d) (unfolds x ∙ ap (λ (a : Answer Growth). and_then a (grow_origins b p.w.places (drop (k + 1) (kept_origins b)))) q)
 
-      pub loop_on : (g' : State) → t ≡ On g' → (last' : ℕ) → (g.counts.nodes ≡ 2 → last' ≡ 1) → (g.counts.nodes ≢ 2 → last' ≡ g.counts.nodes) → length fs' ≡ length fs → length us' ≡ length us → length reals' ≡ length reals → length cells' ≡ length cells → OriginLoop b p joins fs₀ us₀ reals₀ cells₀ g₀ fs' us' reals' cells' g' last' (k + 1)
+      pub loop_on : (g' : Rest) → t ≡ Ok g' → (last' : ℕ) → (g.counts.nodes ≡ 2 → last' ≡ 1) → (g.counts.nodes ≢ 2 → last' ≡ g.counts.nodes) → length fs' ≡ length fs → length us' ≡ length us → length reals' ≡ length reals → length cells' ≡ length cells → OriginLoop b p joins fs₀ us₀ reals₀ cells₀ g₀ fs' us' reals' cells' g' last' (k + 1)
       loop_on g' e last' one more lf lu lr lc = record {
         within = omega arith;
         floats = lf ∙ v.floats;
@@ -264,7 +265,7 @@ module _ (b : List ℕ) (p : Plan) (joins : List ℕ) (fs₀ : List Float) (us�
       }
 
   -- none is left
-  pub loop_end : length (kept_origins b) ≤ k → GrowsOrigins b p g₀ (lists fs₀ us₀ reals₀ cells₀ joins) (lists fs us reals cells joins) (On g)
+  pub loop_end : length (kept_origins b) ≤ k → GrowsOrigins b p g₀ (lists fs₀ us₀ reals₀ cells₀ joins) (lists fs us reals cells joins) (Ok g)
   loop_end h net runs o =
       let x = v.so_far net runs o in
       let n : k ≡ length (kept_origins b) = omega (arith, v.within) in

@@ -18,11 +18,8 @@ use Rattle.book_format.specs.Chains.{Readable}
 use Rattle.book_format.proofs.Floats.{book_no_nan}
 use Rattle.book_format.proofs.Given.{limits, length_float}
 use Rattle.book_format.proofs.Places.{sized_legs, sized_links}
-use Rattle.grow_events.specs.declared.Mover.{Mover}
 use Rattle.grow_state.specs.declared.Plan.{Plan}
-use Rattle.grow_state.specs.declared.State.{State}
 use Rattle.grow_state.specs.Held.{PlanIn}
-use Rattle.grow_origins.specs.Origins.{start_state}
 
 -- ---- the floats at the head
 
@@ -87,9 +84,3 @@ module _ (b : List ℕ) (s : Sections) (v : Readable b s) (head : HeadPatterns) 
 
   pub legs_small : s.legs ≤ 65535
   legs_small = let l : s.legs ≡ legs b = sized_legs v.sized in omega (arith, l, (limits b v.counted.counts).legs_most)
-
--- ---- the first state
-
-pub first_is : (m : Mover) → m ≡ record { place = record { time_to_next = of_bits binary64 0; dist_to_next = of_bits binary64 0; idx_prev = 1 }; has_split = false; count = 0 } → record { counts = record { nodes = 2; added = 0; splits = 0; joined = 0; last_end = 0 }; top = 0; used = 0; front = record { moves = false; mover = m; leg = 0; depth = 0 } } ≡ start_state
-unfolding start_state
-first_is m e = ap {B = State} (λ (x : Mover). record { counts = record { nodes = 2; added = 0; splits = 0; joined = 0; last_end = 0 }; top = 0; used = 0; front = record { moves = false; mover = x; leg = 0; depth = 0 } }) e

@@ -34,10 +34,10 @@ use Rattle.grow_events.specs.declared.Counts.{Counts}
 use Rattle.grow_events.specs.Held.{NetIn, ends_at}
 use Rattle.grow_events.proofs.Kept.{before_kept, unit_kept, net_restart, path_kept, net_same}
 use Rattle.grow_state.specs.declared.Plan.{Plan}
-use Rattle.grow_state.specs.declared.State.{State}
-use Rattle.grow_state.specs.declared.GrowthAnswer.TheVariants.{On}
-use Rattle.grow_state.specs.Held.{PlanIn, path_before, Prefixes, Separate, SeparateFrom, RunSound, AllSound, SameRuns, WaitIn, RunsIn, DriveIn, lists}
-use Rattle.grow_state.proofs.Keeping.{plan_legs, plan_room, chained_same, wait_same, idle_waits, sound_more}
+use Rattle.std.specs.Prelude.{Ok}
+use Rattle.grow_state.specs.declared.Rest.{Rest}
+use Rattle.grow_state.specs.Held.{PlanIn, path_before, Prefixes, Separate, SeparateFrom, RunSound, AllSound, SameRuns, WaitIn, DriveIn, idle, lists}
+use Rattle.grow_state.proofs.Keeping.{plan_legs, plan_room, chained_same, wait_same, sound_more}
 use Rattle.grow_origins.specs.Origins.{OtherLinks, AllFirst, NotOver, OriginsAs, saved_origin, OriginInserted}
 
 -- ---- the leg
@@ -132,7 +132,7 @@ module _ {w : Layout} {r : Rooms} {fs : List Float} {us cells : List ℕ} {c : C
 
 -- ---- all that is held, while events are inserted and no run is at the front
 
-module _ {b : List ℕ} {p : Plan} {fs : List Float} {us : List ℕ} {reals : List Float} {cells joins path : List ℕ} {g : State} {net : Net} {runs : List Run} {many : ℕ} (plan : PlanIn b p many) (d : DriveIn b p (lists fs us reals cells joins) path g net runs) (idle : g.front.moves ≡ false) where
+module _ {b : List ℕ} {p : Plan} {fs : List Float} {us : List ℕ} {reals : List Float} {cells joins path : List ℕ} {g : Rest} {net : Net} {runs : List Run} {many : ℕ} (plan : PlanIn b p many) (d : DriveIn b p (lists fs us reals cells joins) path (idle g) net runs) where
   module _ {fs' : List Float} {us' cells' : List ℕ} {c' : Counts} {net' : Net} (v : NetIn p.w cells fs' us' cells' c' net') (more : g.counts.nodes ≤ c'.nodes) (long : length cells' ≡ length cells) where
     chained_grown : Chained b cells'
     chained_grown = chained_same long (λ q h f. before_kept v q (omega (arith, plan.nodes_at))) d.chained
@@ -141,15 +141,15 @@ module _ {b : List ℕ} {p : Plan} {fs : List Float} {us : List ℕ} {reals : Li
     unit_same i k h f e = subst (λ (q : ℕ). get_or cells' (q + i * 8 + k) 0 ≡ get_or cells (q + i * 8 + k) 0) (sym plan.same_nodes) (unit_kept v i k (omega (arith, plan.same_places)) f (omega arith))
 
     waits_grown : WaitIn b p.r reals cells' g.top g.used runs
-    waits_grown = wait_same (record { fields = λ j k h f e. before_kept v (j * 8 + k) (omega (arith, plan.nodes_at, plan.all_legs)); entries = unit_same; reals = λ q h. refl }) (idle_waits d idle)
+    waits_grown = wait_same (record { fields = λ j k h f e. before_kept v (j * 8 + k) (omega (arith, plan.nodes_at, plan.all_legs)); entries = unit_same; reals = λ q h. refl }) d.waiting
 
-    pub drive_grown : DriveIn b p (lists fs' us' reals cells' joins) path (record { counts = c'; top = g.top; used = g.used; front = g.front }) net' runs
+    pub drive_grown : DriveIn b p (lists fs' us' reals cells' joins) path (idle (record { counts = c'; top = g.top; used = g.used })) net' runs
     drive_grown = record {
       grown = net_restart v;
       chained = chained_grown;
       kept = path_kept d.grown v (omega (arith, d.short, plan.nodes_at)) d.kept;
       short = d.short;
-      waiting = subst (λ (t : Bool). RunsIn t b p.r reals cells' joins (record { counts = c'; top = g.top; used = g.used; front = g.front }) runs) (sym idle) waits_grown;
+      waiting = waits_grown;
       sound = sound_more b g.counts.nodes c'.nodes runs more d.sound;
       prefixes = d.prefixes;
       separate = d.separate;
@@ -157,8 +157,8 @@ module _ {b : List ℕ} {p : Plan} {fs : List Float} {us : List ℕ} {reals : Li
 
 -- ---- the run is saved
 
-module _ (b : List ℕ) (p : Plan) (fs : List Float) (us : List ℕ) (reals : List Float) (cells joins idxs : List ℕ) (g : State) (c : Counts) (place : Place) (link : ℕ) (net : Net) (run : Run) (runs : List Run)
-    (plan : PlanIn b p (length reals)) (v : OriginInserted b p (lists fs us reals cells joins) idxs g c place link net run runs) (t : Taken) (told : t ≡ taken_leg b 0 link) where
+module _ (b : List ℕ) (p : Plan) (fs : List Float) (us : List ℕ) (reals : List Float) (cells joins idxs : List ℕ) (g : Rest) (place : Place) (link : ℕ) (net : Net) (run : Run) (runs : List Run)
+    (plan : PlanIn b p (length reals)) (v : OriginInserted b p (lists fs us reals cells joins) idxs g place link net run runs) (t : Taken) (told : t ≡ taken_leg b 0 link) where
   -- row 10
   pub origin_no_leg : (k : ℕ) → t ≡ NoLeg k → saved_origin b link net run runs ≡ refused 10
   unfolding saved_origin seek_leg taken_leg leg_search
@@ -171,11 +171,11 @@ module _ (b : List ℕ) (p : Plan) (fs : List Float) (us : List ℕ) (reals : Li
     of : LegOf b (legs b) 0 link leg_is.idx
     of = leg_found b (legs b) 0 link leg_is.idx leg_is.below
 
-    held : DriveIn b p (lists fs us reals cells joins) [] (record { counts = c; top = g.top; used = g.used; front = g.front }) net runs
+    held : DriveIn b p (lists fs us reals cells joins) [] (idle g) net runs
     held = v.origins.holds
 
     wait : WaitIn b p.r reals cells g.top g.used runs
-    wait = idle_waits held v.origins.idle
+    wait = held.waiting
 
     -- what saving asks
     pub save_asks : (p.r.nodes_at + p.r.places * 8 ≤ length cells) × (((p.r.legs + 1) * 8 ≤ p.r.nodes_at) × ((p.r.pairs_at + p.r.legs * 2 + 2 ≤ length reals) × ((leg.number ≤ p.r.legs) × ((0 < leg.number) × ((p.r.legs ≤ 65535) × ((0 ≤ 65535) × ((g.used + 0 ≤ p.r.places) × ((p.r.places ≤ 65535) × (0 * 2 ≤ length joins)))))))))
@@ -208,8 +208,8 @@ module _ (b : List ℕ) (p : Plan) (fs : List Float) (us : List ℕ) (reals : Li
 
     module _ (reals' : List Float) (cells' : List ℕ) (long : length cells' ≡ length cells) (s : SavedElsewhere cells cells' reals reals' p.r)
         (saved : (ws : List Waiting) → SavedIn cells reals p.r g.top g.used ws → Untaken leg.number ws → SavedIn cells' reals' p.r leg.number (g.used + 0) (waiting_of place leg.number 0 (entries_in joins 0) ∷ ws)) where
-      abbrev state : State
-      state = record { counts = c; top = leg.number; used = g.used; front = g.front }
+      abbrev state : Rest
+      state = record { counts = g.counts; top = leg.number; used = g.used }
 
       path_none : path_before b (suc leg_is.idx) ≡ []
       path_none = before_first b (suc leg_is.idx) (ap (leg_parent b) (less_one leg_is.idx) ∙ of.parent)
@@ -222,17 +222,17 @@ module _ (b : List ℕ) (p : Plan) (fs : List Float) (us : List ℕ) (reals : Li
         same = (record { place = sym v.stands; leg = leg_is.number; depth = sym (ap length path_none); joins = sym v.no_joins; has_split = refl }, wait.same);
       }
 
-      run_sound : RunSound b c.nodes then
+      run_sound : RunSound b g.counts.nodes then
       unfolding then
       run_sound = record {
         some = omega arith;
         within = of.within;
-        stands = subst (λ (x : Place). x.idx_prev < c.nodes) (sym v.stands) v.within;
+        stands = subst (λ (x : Place). x.idx_prev < g.counts.nodes) (sym v.stands) v.within;
         few = subst (λ (es : List EstJoinPath). length es ≤ 1024) (sym v.no_joins) (omega arith);
-        valid = subst (λ (es : List EstJoinPath). Valid es c.nodes) (sym v.no_joins) (record { node = λ k h. absurd (omega arith) });
+        valid = subst (λ (es : List EstJoinPath). Valid es g.counts.nodes) (sym v.no_joins) (record { node = λ k h. absurd (omega arith) });
       }
 
-      pub origin_saved : OriginsAs (saved_origin b link net run runs) b p (lists fs us reals' cells' joins) idxs (On state)
+      pub origin_saved : OriginsAs (saved_origin b link net run runs) b p (lists fs us reals' cells' joins) idxs (Ok state)
       unfolding then
       origin_saved = record {
         growth = record { net = net; saved = then ∷ runs };
@@ -243,12 +243,11 @@ module _ (b : List ℕ) (p : Plan) (fs : List Float) (us : List ℕ) (reals : Li
             chained = save_chained s (plan_room plan) (omega (arith, plan.all_legs)) long held.chained;
             kept = save_path s (plan_room plan) (omega arith) (omega (arith, plan.pairs_at)) held.kept;
             short = omega arith;
-            waiting = subst (λ (x : Bool). RunsIn x b p.r reals' cells' joins state (then ∷ runs)) (sym v.origins.idle) wait_more;
+            waiting = wait_more;
             sound = (run_sound, held.sound);
             prefixes = (record { rest = []; is = sym (ap (λ (xs : List ℕ). xs ++ []) path_none) }, prefixes_none b runs (path_before b (suc leg_is.idx)) path_none held.prefixes);
-            separate = (all_others b link leg_is.idx of.link c.nodes idxs runs of.parent held.sound v.origins.firsts v.others, held.separate);
+            separate = (all_others b link leg_is.idx of.link g.counts.nodes idxs runs of.parent held.sound v.origins.firsts v.others, held.separate);
           };
-          idle = v.origins.idle;
           firsts = (ap (leg_parent b) (less_one leg_is.idx) ∙ of.parent, (subst (λ (l : ℕ). OtherLinks b l idxs) (sym (ap (leg_link b) (less_one leg_is.idx) ∙ of.link)) v.apart, v.origins.firsts));
         };
       }

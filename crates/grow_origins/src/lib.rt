@@ -2,14 +2,14 @@
 // Contracts: grow_rules' specs/Growth.antt, specs/Origins.antt.
 #![tactic(auto)]
 
-ghost use Rattle.std.specs.Prelude.{◌≡◌, false, ◌≢◌, ℕ, ◌+◌, ◌*◌, ◌≤◌, ◌<◌, length};
+ghost use Rattle.std.specs.Prelude.{◌≡◌, false, ◌≢◌, ℕ, ◌+◌, ◌*◌, ◌≤◌, ◌<◌, length, IfOk};
 ghost use Rattle.net_node.specs.Table.{node_at};
 ghost use Rattle.book_format.specs.Format.{links, origins, legs, origin_link};
 ghost use Rattle.book_format.specs.Rows.{row7};
 ghost use Rattle.book_format.specs.Chains.{Readable};
 ghost use Rattle.book_legs.specs.Legs.{Started};
 ghost use Rattle.book_options.specs.Options.{OptionsIn, kept_origins, search_room};
-ghost use Rattle.grow_events.specs.Held.{Growing, NotFewer};
+ghost use Rattle.grow_events.specs.Held.{Growing};
 ghost use Rattle.grow_state.specs.Held.{PlanIn, lists};
 ghost use Rattle.net_node.specs.Lent.{table_at_entry, table_at_exit};
 ghost use Rattle.grow_waiting.specs.Steps.{stacks_at_entry, stacks_at_exit};
@@ -20,12 +20,13 @@ ghost use Rattle.grow_origins.specs.Origins.{SavesOrigin, GrowsOrigin, GrowsOrig
 
 use book_format::Sections;
 use book_legs::Taken;
-use grow_events::{Counts, Mover, RunAnswer};
-use grow_state::{Front, GrowthAnswer, Plan, State};
+use grow_events::{Counts, Mover};
+use grow_state::{Plan, Rest};
 use grow_waiting::Rooms;
 use net_event_map::Layout;
 use net_insertion::Place;
 use net_node::{EstType, LinkEvent, TimedEvent};
+use refusals::Refusal;
 
 // What growth goes by. The legs' units of cells stand first, then the nodes', then the links'; the path's points stand
 // first in the reals, then the pairs of the runs that wait.
@@ -91,8 +92,9 @@ fn origin_run(departure: f64, idx_prev: u32) -> Mover
     }
 }
 
-// A state with nodes 0 and 1 and no run.
-pub fn first_state() -> State
+// Nodes 0 and 1 and no run.
+#[tactic(auto, unfolding(crate::specs::Origins::start_state))]
+pub fn first_state() -> Rest
     ensures { result ≡ start_state }
 {
     let counts = Counts {
@@ -102,18 +104,10 @@ pub fn first_state() -> State
         joined: 0,
         last_end: 0,
     };
-    let mover = origin_run(0.0, 1);
-    let front = Front {
-        moves: false,
-        mover,
-        leg: 0,
-        depth: 0,
-    };
-    State {
+    Rest {
         counts,
         top: 0,
         used: 0,
-        front,
     }
 }
 
@@ -127,21 +121,19 @@ fn origin_events(
     c: Counts,
     link_idx: u32,
     last: u32,
-) -> RunAnswer
+) -> Result<(Counts, Mover), Refusal>
     requires growing { Growing p.w floats.old numbers.old cells.old c }
     requires link_idx_lt_links { link_idx < p.w.links }
     requires leads_from { LeadsFrom (table_of floats.old numbers.old) c.nodes last link_idx }
     ensures answer { InsertsOrigin p c link_idx (table_at_entry floats numbers) cells.old
         (table_at_exit floats numbers) cells.new result }
-    ensures more { NotFewer c result }
+    ensures more { IfOk result (λ r. c.nodes ≤ r.0.nodes) }
 {
     let w = p.w;
     let run = origin_run(p.departure, last);
     let arrive = origin_event(p.departure, link_idx, EstType::Arrive, 0.0);
-    let first = grow_events::insert_event(floats, numbers, cells, w, p.join, c, run, arrive);
-    let RunAnswer::On(counts, mover) = first else {
-        return first;
-    };
+    let (counts, mover) =
+        grow_events::insert_event(floats, numbers, cells, w, p.join, c, run, arrive)?;
     let clear = origin_event(p.departure, link_idx, EstType::Clear, 0.0 + p.length);
     grow_events::insert_event(floats, numbers, cells, w, p.join, counts, mover, clear)
 }
@@ -154,34 +146,28 @@ fn save_origin(
     marks: &[u32],
     joins: &[u32],
     p: Plan,
-    g: State,
-    counts: Counts,
+    g: Rest,
     place: Place,
     link_idx: u32,
-) -> GrowthAnswer
+) -> Result<Rest, Refusal>
     requires plan_in { PlanIn book.now p (length reals.old) }
-    requires some_origin_inserted { SomeOriginInserted book.now p reals.old cells.old joins.now g counts place link_idx }
+    requires some_origin_inserted { SomeOriginInserted book.now p reals.old cells.old joins.now g place link_idx }
     requires started { Started book.now marks.now }
     requires book_in_bounds { 2 * links book.now ≤ length marks.now }
     requires link_idx_bound { link_idx < links book.now }
-    ensures { SavesOrigin book.now p g counts place link_idx (stacks_at_entry cells reals)
+    ensures { SavesOrigin book.now p g place link_idx (stacks_at_entry cells reals)
         (stacks_at_exit cells reals) joins.now result }
 {
-    let s = p.s;
-    let r = p.r;
-    let front = g.front;
-    let taken = book_legs::take_start(book, s, cells, marks, link_idx);
+    let taken = book_legs::take_start(book, p.s, cells, marks, link_idx);
     let Taken::Leg(leg) = taken else {
-        return GrowthAnswer::Refused(10);
+        return Err(Refusal::MissingLeg);
     };
     grow_waiting::save(
-        cells, reals, r, g.top, g.used, place, leg.number, 0, joins, 0,
+        cells, reals, p.r, g.top, g.used, place, leg.number, 0, joins, 0,
     );
-    GrowthAnswer::On(State {
-        counts,
+    Ok(Rest {
         top: leg.number,
-        used: g.used,
-        front,
+        ..g
     })
 }
 
@@ -195,10 +181,10 @@ fn origin(
     marks: &[u32],
     joins: &[u32],
     p: Plan,
-    g: State,
+    g: Rest,
     idx: usize,
     last: u32,
-) -> GrowthAnswer
+) -> Result<Rest, Refusal>
     requires plan_in { PlanIn book.now p (length reals.old) }
     requires idx_bound { idx < origins book.now }
     requires some_origin { SomeOrigin book.now p (lists floats.old numbers.old reals.old cells.old joins.now) idx
@@ -209,29 +195,20 @@ fn origin(
     ensures { GrowsOrigin book.now p g idx (lists floats.old numbers.old reals.old cells.old joins.now)
         (lists_left floats numbers reals cells joins) result }
 {
-    let s = p.s;
-    let at = book_format::origin_at(book, s, idx);
-    let counts = g.counts;
-    let became = origin_events(floats, numbers, cells, p, counts, at.link_idx, last);
-    match became {
-        RunAnswer::On(more, mover) => {
-            let place = mover.place;
-            save_origin(
-                book,
-                reals,
-                cells,
-                marks,
-                joins,
-                p,
-                g,
-                more,
-                place,
-                at.link_idx,
-            )
-        }
-        RunAnswer::Ended(_) => GrowthAnswer::Refused(0),
-        RunAnswer::Refused(k) => GrowthAnswer::Refused(k),
-    }
+    let at = book_format::origin_at(book, p.s, idx);
+    let (counts, mover) = origin_events(floats, numbers, cells, p, g.counts, at.link_idx, last)?;
+    let inserted = Rest { counts, ..g };
+    save_origin(
+        book,
+        reals,
+        cells,
+        marks,
+        joins,
+        p,
+        inserted,
+        mover.place,
+        at.link_idx,
+    )
 }
 
 // The start's last alternative after an origin, by how many nodes there were before it: the first one's Arrive is
@@ -258,8 +235,8 @@ pub fn origins(
     joins: &[u32],
     kept: usize,
     p: Plan,
-    g: State,
-) -> GrowthAnswer
+    g: Rest,
+) -> Result<Rest, Refusal>
     requires plan_in { PlanIn book.now p (length reals.old) }
     requires options_in { OptionsIn book.now marks.now }
     requires book_in_bounds { search_room book.now ≤ length marks.now }
@@ -273,21 +250,15 @@ pub fn origins(
 {
     let s = p.s;
     let rows_at = 2 * s.links + s.destinations;
-    let mut state = g;
+    let mut rest = g;
     let mut last = 1;
-    let mut k = 0;
-    while k < kept {
+    for k in 0..kept {
         let idx = marks[rows_at + k] as usize;
-        let counts = state.counts;
-        let turned = origin(
-            book, floats, numbers, reals, cells, marks, joins, p, state, idx, last,
-        );
-        let GrowthAnswer::On(next) = turned else {
-            return turned;
-        };
-        state = next;
-        last = last_after(counts.nodes);
-        k += 1;
+        let before = rest.counts.nodes;
+        rest = origin(
+            book, floats, numbers, reals, cells, marks, joins, p, rest, idx, last,
+        )?;
+        last = last_after(before);
     }
-    GrowthAnswer::On(state)
+    Ok(rest)
 }

@@ -1,7 +1,12 @@
 -- What a change elsewhere in the work space leaves: the legs' chains, the runs that wait; and what more nodes leave.
-use mathlib.Core.Path.{◌≡◌, ◌∙◌, subst}
+use mathlib.Core.Path.{◌≡◌, sym, ap, ◌∙◌}
+use Rattle.std.specs.Prelude.{Result, Ok, Err, IsErrAnd}
+use Rattle.laws.specs.Answer.{Answer, refused}
+use Rattle.refusals.specs.declared.Refusal.{Refusal}
+use Rattle.refusals.specs.Refusals.{refusal_number}
+use Rattle.grow_rules.specs.Growth.{Growth}
+use Rattle.grow_state.specs.declared.State.{State}
 use mathlib.Core.Logic.{◌≢◌}
-use mathlib.Core.Bool.{Bool, false}
 use mathlib.Core.List.{List, [], ◌∷◌}
 use Prim.Native.Nat.{ℕ, ◌+◌, ◌*◌, ◌≤◌, ◌<◌}
 use native.Mathlib.Omega.{arith}
@@ -12,11 +17,10 @@ use Rattle.book_format.specs.Chains.{Chained}
 use Rattle.book_format.proofs.Given.{limits}
 use Rattle.grow_waiting.specs.declared.Rooms.{Rooms}
 use Rattle.grow_waiting.proofs.Kept.{Undisturbed, saved_same}
-use Rattle.grow_rules.specs.Run.{Net, Run}
+use Rattle.grow_rules.specs.Run.{Run}
 use Rattle.grow_events.proofs.Kept.{valid_more}
 use Rattle.grow_state.specs.declared.Plan.{Plan}
-use Rattle.grow_state.specs.declared.State.{State}
-use Rattle.grow_state.specs.Held.{PlanIn, WaitIn, RunsIn, AllSound, DriveIn, lists}
+use Rattle.grow_state.specs.Held.{PlanIn, WaitIn, AllSound, Lists, TurnedAs}
 
 -- ---- the plan
 
@@ -43,11 +47,6 @@ chained_same {b} {c} {c'} l h v = record {
 pub wait_same : {b : List ℕ} {r : Rooms} {reals reals' : List Float} {cells cells' : List ℕ} {top used : ℕ} {runs : List Run} → Undisturbed cells cells' reals reals' r → WaitIn b r reals cells top used runs → WaitIn b r reals' cells' top used runs
 wait_same {b} {r} {reals} {reals'} {cells} {cells'} {top} {used} u w = record { runs = w.runs; kept = saved_same cells reals r top used w.runs u w.kept; same = w.same }
 
--- of a state with no run at the front all runs wait
-pub idle_waits : {b : List ℕ} {p : Plan} {fs : List Float} {us : List ℕ} {reals : List Float} {cells joins path : List ℕ} {g : State} {net : Net} {runs : List Run} → DriveIn b p (lists fs us reals cells joins) path g net runs → g.front.moves ≡ false
-    → WaitIn b p.r reals cells g.top g.used runs
-idle_waits {b} {p} {fs} {us} {reals} {cells} {joins} {path} {g} {net} {runs} d idle = subst (λ (t : Bool). RunsIn t b p.r reals cells joins g runs) idle d.waiting
-
 -- ---- more nodes
 
 pub sound_more : (b : List ℕ) (n n' : ℕ) (runs : List Run) → n ≤ n' → AllSound b n runs → AllSound b n' runs
@@ -56,3 +55,9 @@ sound_more b n n' (r ∷ rs) h s = (
   record { some = s.0.some; within = s.0.within; stands = omega (arith, s.0.stands); few = s.0.few; valid = valid_more h s.0.valid },
   sound_more b n n' rs h s.1,
 )
+
+-- ---- a refusal that is handed on
+
+pub turned_refused : (answer : Answer Growth) (b : List ℕ) (p : Plan) (s : Lists) (r : Result State Refusal) (k : Refusal) → IsErrAnd r (λ (x : Refusal). x ≡ k) → answer ≡ refused (refusal_number k) → TurnedAs answer b p s r
+turned_refused answer b p s (Ok g) k h q = absurd h
+turned_refused answer b p s (Err x) k h q = q ∙ ap (λ (y : Refusal). refused (refusal_number y)) (sym h)

@@ -1,6 +1,7 @@
 -- Taking up the run that was saved last.
 use mathlib.Core.Path.{◌≡◌, sym, ap, ◌∙◌, subst}
-use mathlib.Core.Bool.{true, false}
+use mathlib.Core.Bool.{false}
+use Rattle.std.specs.Prelude.{Some}
 use mathlib.Core.List.{List, [], ◌∷◌}
 use Prim.Native.Nat.{ℕ, ◌-◌, ◌≤◌, ◌<◌}
 use native.Mathlib.Omega.{arith}
@@ -15,17 +16,15 @@ use Rattle.grow_waiting.specs.Held.{Waiting, SavedIn, SomeWaits, PoppedAs}
 use Rattle.grow_waiting.proofs.Kept.{saved_rest}
 use Rattle.grow_rules.specs.Run.{Net, Run}
 use Rattle.grow_state.specs.declared.Plan.{Plan}
+use Rattle.grow_state.specs.declared.Rest.{Rest}
 use Rattle.grow_state.specs.declared.State.{State}
-use Rattle.grow_state.specs.Held.{AllSound, SameRuns, WaitIn, RunsIn, DriveIn, SomeDrive, lists}
-use Rattle.grow_state.proofs.Keeping.{idle_waits}
+use Rattle.grow_state.specs.Held.{AllSound, SameRuns, WaitIn, RunsIn, DriveIn, SomeDrive, idle, lists}
 
 -- the state with a popped run at the front
-abbrev pub taken_up : State → Popped → State
+abbrev pub taken_up : Rest → Popped → State
 taken_up g p = record {
-  counts = g.counts;
-  top = p.below;
-  used = g.used - p.count;
-  front = record { moves = true; mover = record { place = p.place; has_split = false; count = p.count }; leg = p.leg; depth = p.depth };
+  rest = record { counts = g.counts; top = p.below; used = g.used - p.count };
+  front = Some (record { mover = record { place = p.place; has_split = false; count = p.count }; leg = p.leg; depth = p.depth });
 }
 
 module _ {r : Rooms} {reals : List Float} {cells : List ℕ} (top used : ℕ) (some : 0 < top) where
@@ -39,15 +38,15 @@ module _ {r : Rooms} {reals : List Float} {cells : List ℕ} (top used : ℕ) (s
   few_waits : SomeWaits cells reals r top used → (joins : List ℕ) (p : Popped) → ((w : Waiting) (ws : List Waiting) → SavedIn cells reals r top used (w ∷ ws) → PoppedAs w ws joins p) → p.count ≤ used
   few_waits s joins p f = let a = f s.run s.runs s.saved in omega (arith, a.count, s.saved.1.0)
 
-module _ {b : List ℕ} {p : Plan} {fs : List Float} {us : List ℕ} {reals : List Float} {cells joins path : List ℕ} {g : State} {net : Net} {runs : List Run} (d : DriveIn b p (lists fs us reals cells joins) path g net runs) (idle : g.front.moves ≡ false) (some : 0 < g.top) where
+module _ {b : List ℕ} {p : Plan} {fs : List Float} {us : List ℕ} {reals : List Float} {cells joins path : List ℕ} {g : Rest} {net : Net} {runs : List Run} (d : DriveIn b p (lists fs us reals cells joins) path (idle g) net runs) (some : 0 < g.top) where
   waits : WaitIn b p.r reals cells g.top g.used runs
-  waits = idle_waits d idle
+  waits = d.waiting
 
   pub pops : SomeWaits cells reals p.r g.top g.used
   pops = some_waits g.top g.used some b g.counts.nodes waits.runs runs waits.kept waits.same d.sound
 
   module _ (list : List ℕ) (q : Popped) (f : (w : Waiting) (ws : List Waiting) → SavedIn cells reals p.r g.top g.used (w ∷ ws) → PoppedAs w ws list q) where
-    up : (ws : List Waiting) (rs : List Run) → SavedIn cells reals p.r g.top g.used ws → SameRuns b ws rs → AllSound b g.counts.nodes rs → RunsIn true b p.r reals cells list (taken_up g q) rs
+    up : (ws : List Waiting) (rs : List Run) → SavedIn cells reals p.r g.top g.used ws → SameRuns b ws rs → AllSound b g.counts.nodes rs → RunsIn (taken_up g q).front b p.r reals cells list (taken_up g q).rest rs
     up [] rs h s v = absurd (omega (arith, h.0))
     up (w ∷ ws) [] h s v = absurd s
     up (w ∷ ws) (run ∷ rs) h s v =
@@ -81,9 +80,9 @@ module _ {b : List ℕ} {p : Plan} {fs : List Float} {us : List ℕ} {reals : Li
     }
 
 -- the same from what the function asks
-module _ {p : Plan} {reals : List Float} {cells joins : List ℕ} {g : State} (s : SomeDrive p reals cells joins g) (idle : g.front.moves ≡ false) (some : 0 < g.top) where
+module _ {p : Plan} {reals : List Float} {cells joins : List ℕ} {g : Rest} (s : SomeDrive p reals cells joins (idle g)) (some : 0 < g.top) where
   pub drive_pops : SomeWaits cells reals p.r g.top g.used
-  drive_pops = pops s.driving.holds idle some
+  drive_pops = pops s.driving.holds some
 
   pub drive_few : (list : List ℕ) (q : Popped) → ((w : Waiting) (ws : List Waiting) → SavedIn cells reals p.r g.top g.used (w ∷ ws) → PoppedAs w ws list q) → q.count ≤ g.used
   drive_few = few_waits g.top g.used some drive_pops

@@ -1,7 +1,7 @@
 -- What growth keeps between two legs, in the lent slices: the network, the runs that wait, the path of the last leg
 -- taken, and the run at the front, which takes its leg next. The definitions of growth are grow_rules' specs/; these
 -- are the words of the contracts.
-use Rattle.std.specs.Prelude.{◌≡◌, Bool, true, false, List, [], ◌∷◌, ◌++◌, ℕ, ◌+◌, ◌-◌, ◌*◌, ◌≤◌, ◌<◌, length, Float}
+use Rattle.std.specs.Prelude.{◌≡◌, false, List, [], ◌∷◌, ◌++◌, ℕ, ◌+◌, ◌-◌, ◌*◌, ◌≤◌, ◌<◌, length, Float, Option, Some, None, Result, Ok, Err}
 use Rattle.laws.specs.Answer.{Answer, refused, given}
 use Rattle.book_format.specs.Format.{links, legs, leg_parent, length_bits, float_of}
 use Rattle.book_format.specs.Rows.{row7}
@@ -17,9 +17,10 @@ use Rattle.grow_events.specs.Held.{NetIn, RunIn}
 use Rattle.space.specs.Lent.{Lent}
 use Rattle.grow_state.specs.declared.Plan.{Plan}
 use Rattle.grow_state.specs.declared.Front.{Front}
+use Rattle.grow_state.specs.declared.Rest.{Rest}
 use Rattle.grow_state.specs.declared.State.{State}
-use Rattle.grow_state.specs.declared.GrowthAnswer.{GrowthAnswer}
-use Rattle.grow_state.specs.declared.GrowthAnswer.TheVariants.{On, Refused}
+use Rattle.refusals.specs.declared.Refusal.{Refusal}
+use Rattle.refusals.specs.Refusals.{refusal_number}
 
 -- ---- the lent slices
 
@@ -145,24 +146,32 @@ pub record FrontIn (b joins : List ℕ) (n : ℕ) (f : Front) (run : Run) : Type
   pub moves : RunIn n f.leg joins f.mover run
   pub depth : f.depth ≡ length (path_before b run.leg)
 
--- all runs, by whether there is one at the front
-abbrev pub RunsIn : Bool → List ℕ → Rooms → List Float → List ℕ → List ℕ → State → List Run → Type 0
-RunsIn false b r reals cells joins g runs = WaitIn b r reals cells g.top g.used runs
-RunsIn true b r reals cells joins g [] = ⊥
-RunsIn true b r reals cells joins g (run ∷ saved) =
-    FrontIn b joins g.counts.nodes g.front run × WaitIn b r reals cells g.top g.used saved
+-- all runs, by the one at the front, if there is one
+abbrev pub RunsIn : Option Front → List ℕ → Rooms → List Float → List ℕ → List ℕ → Rest → List Run → Type 0
+RunsIn None b r reals cells joins g runs = WaitIn b r reals cells g.top g.used runs
+RunsIn (Some f) b r reals cells joins g [] = ⊥
+RunsIn (Some f) b r reals cells joins g (run ∷ saved) =
+    FrontIn b joins g.counts.nodes f run × WaitIn b r reals cells g.top g.used saved
+
+-- a state with no run at the front
+abbrev pub idle : Rest → State
+idle g = record { rest = g; front = None }
+
+-- a state with this run at the front
+abbrev pub with_front : Rest → Front → State
+with_front g f = record { rest = g; front = Some f }
 
 -- ---- the whole
 
 -- Between two legs: the network, the legs' chains, the path that is kept, and the runs, the one at the front first.
 pub record DriveIn (b : List ℕ) (p : Plan) (s : Lists) (path : List ℕ) (g : State) (net : Net)
     (runs : List Run) : Type 0 where
-  pub grown : NetIn p.w s.cells s.floats s.numbers s.cells g.counts net
+  pub grown : NetIn p.w s.cells s.floats s.numbers s.cells g.rest.counts net
   pub chained : Chained b s.cells
   pub kept : PathIn b s.reals s.cells path
   pub short : length path ≤ legs b
-  pub waiting : RunsIn g.front.moves b p.r s.reals s.cells s.joins g runs
-  pub sound : AllSound b g.counts.nodes runs
+  pub waiting : RunsIn g.front b p.r s.reals s.cells s.joins g.rest runs
+  pub sound : AllSound b g.rest.counts.nodes runs
   pub prefixes : Prefixes b path runs
   pub separate : AllSeparate b runs
 
@@ -189,9 +198,9 @@ pub record GivesAs (answer : Answer Growth) (b : List ℕ) (p : Plan) (s : Lists
   pub holds : DriveIn b p s path g growth.net growth.saved
 
 -- the state then, or a refusal
-abbrev pub TurnedAs : Answer Growth → List ℕ → Plan → Lists → GrowthAnswer → Type 0
-TurnedAs answer b p s (On g) = GivesAs answer b p s g
-TurnedAs answer b p s (Refused k) = answer ≡ refused k
+abbrev pub TurnedAs : Answer Growth → List ℕ → Plan → Lists → Result State Refusal → Type 0
+TurnedAs answer b p s (Ok g) = GivesAs answer b p s g
+TurnedAs answer b p s (Err r) = answer ≡ refused (refusal_number r)
 
 -- the network and the runs that a state had are those of another, whose front's entries lie in other joins
 abbrev pub SameDrive : Plan → List Float → List ℕ → List ℕ → List ℕ → State → State → Type 0

@@ -1,8 +1,8 @@
 // What growth keeps between two legs. Contracts: specs/Held.antt.
 #![tactic(auto)]
 
-ghost use Rattle.std.specs.Prelude.{◌≡◌, true, false, ◌≤◌, ◌<◌, length};
-ghost use Rattle.grow_state.specs.Held.{SomeDrive, SameDrive};
+ghost use Rattle.std.specs.Prelude.{◌≤◌, ◌<◌, length};
+ghost use Rattle.grow_state.specs.Held.{SomeDrive, SameDrive, idle, with_front};
 
 use book_format::Sections;
 use grow_events::{Counts, Mover};
@@ -21,61 +21,52 @@ pub struct Plan {
     pub length: f64,
 }
 
-// The run at the front, if one moves: the leg that it takes next, and how many legs it has taken.
+// The run at the front: the leg that it takes next, and how many legs it has taken.
 #[derive(Clone, Copy)]
 pub struct Front {
-    pub moves: bool,
     pub mover: Mover,
     pub leg: u32,
     pub depth: usize,
 }
 
-// How far growth has come: the network's counts, the leg of the run that was saved last (0: none) and how many join
-// entries wait, and the run at the front.
+// All but the run at the front: the network's counts, the leg of the run that was saved last, and how many join entries
+// wait. The leg is 0 if no run waits: so the cells hold it too, and an Option would only be made of it and back.
 #[derive(Clone, Copy)]
-pub struct State {
+pub struct Rest {
     pub counts: Counts,
     pub top: u32,
     pub used: usize,
-    pub front: Front,
 }
 
-// The state then, or a refusal's number.
+// How far growth has come: the run at the front, if one moves, and the rest.
 #[derive(Clone, Copy)]
-pub enum GrowthAnswer {
-    On(State),
-    Refused(u32),
+pub struct State {
+    pub rest: Rest,
+    pub front: Option<Front>,
 }
 
-// Takes up the run that was saved last, where none is at the front.
-pub fn take_up(reals: &[f64], cells: &[u32], joins: &mut [u32], p: Plan, g: State) -> State
-    requires some_drive { SomeDrive p reals.now cells.now joins.old g }
-    requires moves_value { g.front.moves ≡ false }
+// Takes up the run that was saved last, where none is at the front: the rest then, and the run.
+pub fn take_up(reals: &[f64], cells: &[u32], joins: &mut [u32], p: Plan, g: Rest) -> (Rest, Front)
+    requires some_drive { SomeDrive p reals.now cells.now joins.old (idle g) }
     requires top_nonzero { 0 < g.top }
     requires in_bounds { 2048 ≤ length joins.old }
-    ensures moves { result.front.moves ≡ true }
-    ensures held { SameDrive p reals.now cells.now joins.old joins.new
-        g result }
+    ensures { SameDrive p reals.now cells.now joins.old joins.new
+        (idle g) (with_front result.0 result.1) }
 {
-    let rooms = p.r;
-    let popped = grow_waiting::pop(cells, reals, rooms, g.top, g.used, joins);
-    let counts = g.counts;
-    let place = popped.place;
-    let mover = Mover {
-        place,
-        has_split: false,
-        count: popped.count,
-    };
+    let popped = grow_waiting::pop(cells, reals, p.r, g.top, g.used, joins);
     let front = Front {
-        moves: true,
-        mover,
+        mover: Mover {
+            place: popped.place,
+            has_split: false,
+            count: popped.count,
+        },
         leg: popped.leg,
         depth: popped.depth,
     };
-    State {
-        counts,
+    let rest = Rest {
         top: popped.below,
         used: g.used - popped.count,
-        front,
-    }
+        ..g
+    };
+    (rest, front)
 }

@@ -39,13 +39,11 @@ fn push_entries(cells: &mut [u32], w: Rooms, used: usize, joins: &[u32], count: 
     ensures { EntriesPushed cells.old cells.new w used
         (entries_in joins.now count) }
 {
-    let mut k = 0;
-    while k < count {
+    for k in 0..count {
         let x = net_join_paths::entry_at(joins, k);
         let at = w.nodes_at + (used + k) * 8;
         cells[at + 3] = x.link_idx_match;
         cells[at + 4] = x.est_idx_next;
-        k += 1;
     }
 }
 
@@ -56,12 +54,10 @@ fn copy_entries(cells: &[u32], w: Rooms, from: usize, count: usize, joins: &mut 
     requires count_in_bounds { count * 2 ≤ length joins.old }
     ensures { EntriesCopied cells.now w from count joins.new }
 {
-    let mut k = 0;
-    while k < count {
+    for k in 0..count {
         let at = w.nodes_at + (from + k) * 8;
         joins[k * 2] = cells[at + 3];
         joins[k * 2 + 1] = cells[at + 4];
-        k += 1;
     }
 }
 

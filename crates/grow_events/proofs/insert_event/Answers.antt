@@ -3,7 +3,7 @@ use mathlib.Core.Path.{ap}
 use native.Mathlib.Omega.{arith}
 use Rattle.net_event_map.proofs.Kept.{last_placed}
 use Rattle.grow_events.specs.declared.Counts.{Counts}
-use Rattle.grow_events.proofs.Inserting.{ends_inside, counts_small, Fresh, added_fresh, insert_refused, insert_moved, insert_added}
+use Rattle.grow_events.proofs.Inserting.{ends_inside, counts_small, Fresh, added_fresh, inserted_rows, insert_refused, insert_moved, insert_added}
 use Rattle.grow_events.proofs.insert_event.Goals as goal
 use Rattle.grow_events.proofs.insert_event.Goals.{In-Added}
 
@@ -23,6 +23,9 @@ insert_est_time-inserted-requires c = let r = c.requires in let g = r.growing.ho
       idx_prev_bound = r.idx_prev_bound;
       n_in_bounds = ends_inside g;
     }
+
+pub refusal_of-requires : goal.refusal_of-requires
+refusal_of-requires c = inserted_rows _ _ _ _ _ _ _ _ c.insert_est_time-inserted.ensures.answer _ c.in-Refused.is
 
 pub insert-requires : goal.insert-requires
 insert-requires c =
@@ -49,7 +52,7 @@ pub returns-in-Refused : goal.returns-in-Refused
 returns-in-Refused c =
     let i = c.insert_est_time-inserted in
     record {
-      outcome = λ start joins leg net run v u. insert_refused v u _ _ _ _ i.result i.ensures.answer i.ensures.table _ c.in-Refused.is;
+      outcome = λ start joins leg net run v u. insert_refused v u _ _ _ _ i.result i.ensures.answer i.ensures.table _ c.in-Refused.is _ c.refusal_of.ensures;
       more = tt;
     }
 

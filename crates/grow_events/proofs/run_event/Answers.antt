@@ -1,8 +1,9 @@
 -- `grow_events::run_event` meets its contract: each way to end is a law of proofs/Joining.antt.
-use mathlib.Core.Path.{ap}
+use mathlib.Core.Path.{sym, ap, ◌∙◌}
+use Rattle.refusals.proofs.Answers.{handed_on}
 use native.Mathlib.Omega.{arith}
 use Rattle.grow_events.specs.declared.Counts.{Counts}
-use Rattle.grow_events.proofs.Joining.{moving_grows, alone_as, step_refused, joined_small, step_joined, waits_net, waits_run, step_waits}
+use Rattle.grow_events.proofs.Joining.{moving_grows, as_outcome, alone_as, step_refused, joined_small, step_joined, waits_net, waits_run, step_waits}
 use Rattle.grow_events.proofs.run_event.Goals as goal
 
 pub insert_event-requires : goal.insert_event-requires
@@ -13,13 +14,13 @@ insert_event-requires c = let r = c.requires in
       real = r.real;
     }
 
-pub returns-then-not-m : goal.returns-then-not-m
-returns-then-not-m c =
-    let i = c.insert_event in
-    record {
-      outcome = λ start leg net run v u. alone_as v u _ _ c.if-not-m.true _ _ _ _ i.result (i.ensures.outcome start _ leg net run v u);
-      more = i.ensures.more;
-    }
+pub returns-then-not-m-clause-outcome : goal.returns-then-not-m-clause-outcome
+returns-then-not-m-clause-outcome c = λ start leg net run v u.
+    alone_as v u _ _ c.if-not-m.true _ _ _ _ c.insert_event.result (c.insert_event.ensures.outcome start _ leg net run v u) _ (sym (ap as_outcome c.in_ok-counts.was))
+
+pub returns-in_err-counts-clause-outcome : goal.returns-in_err-counts-clause-outcome
+returns-in_err-counts-clause-outcome c = λ start leg net run v u.
+    alone_as v u _ _ c.if-not-m.true _ _ _ _ c.insert_event.result (c.insert_event.ensures.outcome start _ leg net run v u) c.from_residual.result (handed_on _ _ c.from_residual.ensures.1 ∙ sym (ap as_outcome c.in_err-counts.was))
 
 pub join_step-step-requires : goal.join_step-step-requires
 join_step-step-requires c =
@@ -78,14 +79,22 @@ returns-in-Joined c =
       more = omega (arith, ap (λ (x : Counts). x.nodes) c.with_joined.ensures);
     }
 
-pub returns-in-Waits : goal.returns-in-Waits
-returns-in-Waits c =
+pub returns-in_ok-counts-in-Waits-clause-outcome : goal.returns-in_ok-counts-in-Waits-clause-outcome
+returns-in_ok-counts-in-Waits-clause-outcome c =
     let s = c.join_step-step in
     let i = c.insert_event-in-Waits in
-    record {
-      outcome = λ start leg net run v u.
-          step_waits v u _ _ c.if-not-m.false _ _ _ _ s.result s.ensures.answer s.ensures.table s.ensures.cells _ c.in-Waits.is
-          _ _ _ _ i.result (i.ensures.outcome start _ leg net _ (waits_net v u _ _ c.if-not-m.false _ _ _ _ s.result s.ensures.answer s.ensures.table s.ensures.cells _ c.in-Waits.is)
-          (waits_run v u _ _ c.if-not-m.false _ _ _ _ s.result s.ensures.answer s.ensures.table s.ensures.cells _ c.in-Waits.is));
-      more = i.ensures.more;
-    }
+    λ start leg net run v u.
+        step_waits v u _ _ c.if-not-m.false _ _ _ _ s.result s.ensures.answer s.ensures.table s.ensures.cells _ c.in-Waits.is
+        _ _ _ _ i.result (i.ensures.outcome start _ leg net _ (waits_net v u _ _ c.if-not-m.false _ _ _ _ s.result s.ensures.answer s.ensures.table s.ensures.cells _ c.in-Waits.is)
+        (waits_run v u _ _ c.if-not-m.false _ _ _ _ s.result s.ensures.answer s.ensures.table s.ensures.cells _ c.in-Waits.is))
+        _ (sym (ap as_outcome c.in_ok-counts-in-Waits.was))
+
+pub returns-in_err-counts-in-Waits-clause-outcome : goal.returns-in_err-counts-in-Waits-clause-outcome
+returns-in_err-counts-in-Waits-clause-outcome c =
+    let s = c.join_step-step in
+    let i = c.insert_event-in-Waits in
+    λ start leg net run v u.
+        step_waits v u _ _ c.if-not-m.false _ _ _ _ s.result s.ensures.answer s.ensures.table s.ensures.cells _ c.in-Waits.is
+        _ _ _ _ i.result (i.ensures.outcome start _ leg net _ (waits_net v u _ _ c.if-not-m.false _ _ _ _ s.result s.ensures.answer s.ensures.table s.ensures.cells _ c.in-Waits.is)
+        (waits_run v u _ _ c.if-not-m.false _ _ _ _ s.result s.ensures.answer s.ensures.table s.ensures.cells _ c.in-Waits.is))
+        c.from_residual-in_err-counts-in-Waits.result (handed_on _ _ c.from_residual-in_err-counts-in-Waits.ensures.1 ∙ sym (ap as_outcome c.in_err-counts-in-Waits.was))

@@ -1,17 +1,14 @@
 -- `grow_events::run_events` meets its contract: `Going` is the loop's invariant.
-use mathlib.Core.Path.{refl, sym, ◌∙◌, subst}
+use mathlib.Core.Path.{refl, sym, ap, ◌∙◌, subst}
 use mathlib.Core.List.{[], ◌∷◌}
 use Prim.{tt}
 use native.Mathlib.Omega.{arith}
-use borrow.Enum.Refused.{Among, opened}
-use denote.Enum.Declared.{tag_of}
 use Rattle.event_walk.specs.Course.{course_of}
 use Rattle.event_walk.specs.declared.Next.TheVariants.{Passed}
 use Rattle.event_walk.specs.Walk.{NextOf}
 use Rattle.grow_path.proofs.Testing.{test_less}
-use Rattle.grow_events.specs.declared.RunAnswer.{RunAnswer}
-use Rattle.grow_events.specs.contracts.RunAnswer.{the_type}
-use Rattle.grow_events.proofs.Leg.{going_start, going_end, next-moving, next_inside, next-real, going-bad, going-stop, stop-more, going_on, not_on}
+use Rattle.grow_events.specs.Held.{stopped_as}
+use Rattle.grow_events.proofs.Leg.{going_start, going_end, next-moving, next_inside, next-real, going-bad, going-stop, stop-more, going_on, went_on, not_ended, not_refused}
 use Rattle.grow_events.proofs.run_events.Goals as goal
 use Rattle.grow_events.proofs.run_events.Goals.{In-Passed}
 
@@ -40,24 +37,6 @@ next_event-next-requires c = let r = c.requires in
       within = c.loop-p.invariant.1.within;
     }
 
-pub shape_of-floats-in_default : goal.shape_of-floats-in_default
-shape_of-floats-in_default c = c.loop-p.invariant.0.floats
-
-pub shape_of-numbers-in_default : goal.shape_of-numbers-in_default
-shape_of-numbers-in_default c = c.loop-p.invariant.0.numbers
-
-pub shape_of-cells-in_default : goal.shape_of-cells-in_default
-shape_of-cells-in_default c = c.loop-p.invariant.0.cells_long
-
-pub shape_of-joins-in_default : goal.shape_of-joins-in_default
-shape_of-joins-in_default c = c.loop-p.invariant.0.joins_long
-
-pub shape_of-scratch-in_default : goal.shape_of-scratch-in_default
-shape_of-scratch-in_default c = c.loop-p.invariant.0.scratch_long
-
-pub shape_of-stack-in_default : goal.shape_of-stack-in_default
-shape_of-stack-in_default c = c.loop-p.invariant.0.stack_long
-
 pub returns-in_default : goal.returns-in_default
 returns-in_default c =
     let s = c.loop-p.invariant.1 in
@@ -65,24 +44,6 @@ returns-in_default c =
       outcome = going_end _ _ _ _ _ _ _ _ _ _ _ s (subst (NextOf _ _) c.in_default.is c.next_event-next.ensures);
       more = s.more;
     }
-
-pub shape_of-floats-then-is_bad_point : goal.shape_of-floats-then-is_bad_point
-shape_of-floats-then-is_bad_point c = c.loop-p.invariant.0.floats
-
-pub shape_of-numbers-then-is_bad_point : goal.shape_of-numbers-then-is_bad_point
-shape_of-numbers-then-is_bad_point c = c.loop-p.invariant.0.numbers
-
-pub shape_of-cells-then-is_bad_point : goal.shape_of-cells-then-is_bad_point
-shape_of-cells-then-is_bad_point c = c.loop-p.invariant.0.cells_long
-
-pub shape_of-joins-then-is_bad_point : goal.shape_of-joins-then-is_bad_point
-shape_of-joins-then-is_bad_point c = c.loop-p.invariant.0.joins_long
-
-pub shape_of-scratch-then-is_bad_point : goal.shape_of-scratch-then-is_bad_point
-shape_of-scratch-then-is_bad_point c = c.loop-p.invariant.0.scratch_long
-
-pub shape_of-stack-then-is_bad_point : goal.shape_of-stack-then-is_bad_point
-shape_of-stack-then-is_bad_point c = c.loop-p.invariant.0.stack_long
 
 -- it is bad
 pub returns-then-is_bad_point : goal.returns-then-is_bad_point
@@ -115,23 +76,17 @@ stopped-requires c = record {
   within = (next (goal.at.stopped-requires c).In-Passed).1;
 }
 
-pub shape_of-floats-in_default-became : goal.shape_of-floats-in_default-became
-shape_of-floats-in_default-became c = omega (arith, c.run_event-became.auto, c.loop-p.invariant.0.floats)
-
-pub shape_of-numbers-in_default-became : goal.shape_of-numbers-in_default-became
-shape_of-numbers-in_default-became c = omega (arith, c.run_event-became.auto, c.loop-p.invariant.0.numbers)
-
-pub shape_of-cells-in_default-became : goal.shape_of-cells-in_default-became
-shape_of-cells-in_default-became c = omega (arith, c.run_event-became.auto, c.loop-p.invariant.0.cells_long)
-
-pub shape_of-joins-in_default-became : goal.shape_of-joins-in_default-became
-shape_of-joins-in_default-became c = omega (arith, c.run_event-became.auto, c.loop-p.invariant.0.joins_long)
-
-pub shape_of-scratch-in_default-became : goal.shape_of-scratch-in_default-became
-shape_of-scratch-in_default-became c = omega (arith, c.run_event-became.auto, c.loop-p.invariant.0.scratch_long)
-
-pub shape_of-stack-in_default-became : goal.shape_of-stack-in_default-became
-shape_of-stack-in_default-became c = omega (arith, c.run_event-became.auto, c.loop-p.invariant.0.stack_long)
+pub returns-in_default-outcome : goal.returns-in_default-outcome
+returns-in_default-outcome c =
+    let s = c.loop-p.invariant.1 in
+    let n = (next (goal.at.returns-in_default-outcome c).In-Passed).0 in
+    let x = c.event_at-e in
+    let r = c.run_event-became in
+    let ok = sym c.is_bad_point.ensures ∙ c.if-is_bad_point.false in
+    record {
+      outcome = going-stop _ _ _ _ _ _ _ _ _ _ _ s _ _ n x.result x.ensures _ _ _ _ r.result r.ensures.outcome r.ensures.more ok (not_ended _ _ _ c.in-Ok.is c.in_default-outcome.is) c.stopped-in_default-outcome.result (c.stopped-in_default-outcome.ensures ∙ ap (stopped_as _) (sym c.in-Ok.is));
+      more = stop-more _ _ _ _ _ _ _ _ _ _ _ s _ _ n x.result x.ensures _ _ _ _ r.result r.ensures.outcome r.ensures.more ok c.stopped-in_default-outcome.result (c.stopped-in_default-outcome.ensures ∙ ap (stopped_as _) (sym c.in-Ok.is));
+    }
 
 pub returns-in_default-became : goal.returns-in_default-became
 returns-in_default-became c =
@@ -141,7 +96,7 @@ returns-in_default-became c =
     let r = c.run_event-became in
     let ok = sym c.is_bad_point.ensures ∙ c.if-is_bad_point.false in
     record {
-      outcome = going-stop _ _ _ _ _ _ _ _ _ _ _ s _ _ n x.result x.ensures _ _ _ _ r.result r.ensures.outcome r.ensures.more ok (λ d m e. not_on (opened (subst (λ (o : RunAnswer). Among (1 ∷ 2 ∷ []) (tag_of the_type o)) e c.in_default-became.in_default-became-own.keys2))) c.stopped.result c.stopped.ensures;
+      outcome = going-stop _ _ _ _ _ _ _ _ _ _ _ s _ _ n x.result x.ensures _ _ _ _ r.result r.ensures.outcome r.ensures.more ok (not_refused _ _ c.in_default-became.is) c.stopped.result c.stopped.ensures;
       more = stop-more _ _ _ _ _ _ _ _ _ _ _ s _ _ n x.result x.ensures _ _ _ _ r.result r.ensures.outcome r.ensures.more ok c.stopped.result c.stopped.ensures;
     }
 
@@ -157,5 +112,5 @@ loop-p-preserved c =
     let r = c.run_event-became in
     let k = r.auto in (
       record { floats = omega (arith, k, l.floats); numbers = omega (arith, k, l.numbers); cells_long = omega (arith, k, l.cells_long); joins_long = omega (arith, k, l.joins_long); scratch_long = omega (arith, k, l.scratch_long); stack_long = omega (arith, k, l.stack_long) },
-      going_on _ _ _ _ _ _ _ _ _ _ _ s _ _ n.0 x.result x.ensures _ _ _ _ r.result r.ensures.outcome r.ensures.more (sym c.is_bad_point.ensures ∙ c.if-is_bad_point.false) n.1 _ _ c.in-On.is,
+      going_on _ _ _ _ _ _ _ _ _ _ _ s _ _ n.0 x.result x.ensures _ _ _ _ r.result r.ensures.outcome r.ensures.more (sym c.is_bad_point.ensures ∙ c.if-is_bad_point.false) n.1 _ _ (went_on _ _ _ _ c.in-Ok.is c.in-On.is),
     )

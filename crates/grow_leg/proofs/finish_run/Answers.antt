@@ -1,4 +1,5 @@
 -- `grow_leg::finish_run` meets its contract.
+use Rattle.grow_state.proofs.Keeping.{turned_refused}
 use Rattle.grow_leg.proofs.Finishing.{some_nodes, marks_inside, last_inside, room_here, finish_refused, finish_gives}
 use Rattle.grow_leg.proofs.finish_run.Goals as goal
 
@@ -11,8 +12,9 @@ finish-requires c = let v = c.requires.ends.ends.grown in
       last_end_lt_n = last_inside v;
     }
 
-pub returns-then-not-finish : goal.returns-then-not-finish
-returns-then-not-finish c = λ b reals joins net run rest plan a. finish_refused plan a c.finish.result c.finish.ensures.answer (c.if-not-finish.true)
+pub returns-in_err-finish : goal.returns-in_err-finish
+returns-in_err-finish c = λ b reals joins net run rest plan a.
+    turned_refused _ _ _ _ c.from_residual.result _ c.from_residual.ensures.1 (finish_refused plan a c.finish.result c.finish.ensures.answer _ c.in_err-finish.was)
 
 pub returns : goal.returns
-returns c = λ b reals joins net run rest plan a. finish_gives plan a c.finish.result _ c.finish.ensures.answer c.finish.ensures.cells (c.if-not-finish.false) _ c.standing.ensures
+returns c = λ b reals joins net run rest plan a. finish_gives plan a c.finish.result _ c.finish.ensures.answer c.finish.ensures.cells c.in_ok-finish.was

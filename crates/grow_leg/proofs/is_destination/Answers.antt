@@ -5,19 +5,13 @@ use Rattle.grow_leg.proofs.Choosing.{none_yet, none_next, one_there, none_there}
 use Rattle.grow_leg.proofs.is_destination.Goals as goal
 
 pub loop-i-init : goal.loop-i-init
-loop-i-init c = (omega arith, none_yet _ _)
-
-pub destination_link-requires : goal.destination_link-requires
-destination_link-requires c = record {
-  sized = c.requires;
-  i_lt_destinations = c.loop-i-test.true;
-}
+loop-i-init c = none_yet _ _
 
 pub returns-then-destination_link-link_idx : goal.returns-then-destination_link-link_idx
-returns-then-destination_link-link_idx c = one_there _ _ c.loop-i.i (omega (arith, c.loop-i-test.true, sized_destinations c.requires)) _ c.destination_link.ensures c.if-destination_link-link_idx.true
+returns-then-destination_link-link_idx c = one_there _ _ c.loop-i.i (omega (arith, sized_destinations c.requires)) _ c.destination_link.ensures c.if-destination_link-link_idx.true
 
 pub loop-i-preserved : goal.loop-i-preserved
-loop-i-preserved c = (omega arith, none_next _ _ c.loop-i.i c.loop-i.invariant.1 _ c.destination_link.ensures c.if-destination_link-link_idx.false)
+loop-i-preserved c = none_next _ _ c.loop-i.i c.loop-i.invariant _ c.destination_link.ensures c.if-destination_link-link_idx.false
 
 pub returns : goal.returns
-returns c = none_there _ _ c.loop-i.i (omega (arith, c.loop-i.invariant.0, c.loop-i-test.false, sized_destinations c.requires)) c.loop-i.invariant.1
+returns c = none_there _ _ _ (omega (arith, sized_destinations c.requires)) c.loop-i.invariant

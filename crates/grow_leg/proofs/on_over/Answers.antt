@@ -11,11 +11,11 @@ take_leg-taken-requires c = let s = c.requires in let a = s.ends.ends.ends in
       parent_bound = front_leg s.plan a;
     }
 
-pub overflow_add-result : goal.overflow_add-result
-overflow_add-result c = let s = c.requires in omega (arith, front_depth s.plan s.ends.ends.ends)
+pub overflow_add-on : goal.overflow_add-on
+overflow_add-on c = let s = c.requires in omega (arith, front_depth s.plan s.ends.ends.ends)
 
-pub returns-in-Refused : goal.returns-in-Refused
-returns-in-Refused c = λ fs us reals joins net run rest plan a f. on_refused plan a _ c.take_leg-taken.result c.take_leg-taken.ensures _ c.in-Refused.is
+pub returns-in_default : goal.returns-in_default
+returns-in_default c = λ fs us reals joins net run rest plan a f. on_refused plan a _ c.take_leg-taken.result c.take_leg-taken.ensures _ c.in_default.is
 
-pub returns-in-Leg : goal.returns-in-Leg
-returns-in-Leg c = λ fs us reals joins net run rest plan a f. on_gives plan a _ c.take_leg-taken.result c.take_leg-taken.ensures _ c.in-Leg.is f
+pub returns : goal.returns
+returns c = λ fs us reals joins net run rest plan a f. on_gives plan a _ c.take_leg-taken.result c.take_leg-taken.ensures _ c.in-Leg.is f

@@ -2,7 +2,7 @@
 use native.Mathlib.Omega.{arith}
 use Rattle.book_format.proofs.Given.{origin_float, origin_link_lem, origin_named}
 use Rattle.book_format.proofs.Places.{sized_origins}
-use Rattle.grow_origins.proofs.OriginLoop.{leads_as, some_inserted, origin_on, origin_not, origin_never}
+use Rattle.grow_origins.proofs.OriginLoop.{leads_as, some_inserted, origin_on, origin_not, origins_refused}
 use Rattle.grow_origins.proofs.origin.Goals as goal
 
 pub origin_at-at-requires : goal.origin_at-at-requires
@@ -13,8 +13,8 @@ origin_at-at-requires c = let r = c.requires.plan_in.readable in
       i_value = origin_float _ r.floats _ c.requires.idx_bound;
     }
 
-pub origin_events-became-requires : goal.origin_events-became-requires
-origin_events-became-requires c =
+pub origin_events-requires : goal.origin_events-requires
+origin_events-requires c =
     let o = c.requires.some_origin.origins in
     let l = origin_link_lem _ _ c.origin_at-at.ensures in
     record {
@@ -25,26 +25,23 @@ origin_events-became-requires c =
 
 pub save_origin-requires : goal.save_origin-requires
 save_origin-requires c =
-    let e = c.origin_events-became in
+    let e = c.origin_events in
     record {
       plan_in = c.requires.plan_in;
-      some_origin_inserted = some_inserted _ _ _ _ _ _ _ _ _ _ (origin_link_lem _ _ c.origin_at-at.ensures) c.requires.plan_in _ _ _ (omega (arith, e.auto)) e.result e.ensures.more e.ensures.answer c.requires.some_origin _ _ c.in-On.is;
+      some_origin_inserted = some_inserted _ _ _ _ _ _ _ _ _ _ (origin_link_lem _ _ c.origin_at-at.ensures) c.requires.plan_in _ _ _ (omega (arith, e.auto)) e.result e.ensures.more e.ensures.answer c.requires.some_origin _ _ c.in_ok-counts.was;
       started = c.requires.started;
       book_in_bounds = c.requires.book_in_bounds;
       link_idx_bound = omega (arith, origin_link_lem _ _ c.origin_at-at.ensures, origin_named _ c.requires.plan_in.readable.indices _ c.requires.idx_bound);
     }
 
-pub returns-in-On : goal.returns-in-On
-returns-in-On c =
-    let e = c.origin_events-became in
-    λ idxs net runs o d. origin_on _ _ _ _ _ _ _ _ _ _ (origin_link_lem _ _ c.origin_at-at.ensures) c.requires.plan_in _ _ _ (omega (arith, e.auto)) e.result e.ensures.more e.ensures.answer idxs net runs o d _ _ c.in-On.is _ _ c.save_origin.result c.save_origin.ensures
+pub returns : goal.returns
+returns c =
+    let e = c.origin_events in
+    λ idxs net runs o d. origin_on _ _ _ _ _ _ _ _ _ _ (origin_link_lem _ _ c.origin_at-at.ensures) c.requires.plan_in _ _ _ (omega (arith, e.auto)) e.result e.ensures.more e.ensures.answer idxs net runs o d _ _ c.in_ok-counts.was _ _ c.save_origin.result c.save_origin.ensures
 
-pub returns-in-Ended : goal.returns-in-Ended
-returns-in-Ended c =
-    let e = c.origin_events-became in
-    λ idxs net runs o d. absurd (origin_never _ _ _ _ _ _ _ _ _ _ (origin_link_lem _ _ c.origin_at-at.ensures) c.requires.plan_in _ _ _ (omega (arith, e.auto)) e.result e.ensures.more e.ensures.answer idxs net runs o _ c.in-Ended.is)
-
-pub returns-in-Refused : goal.returns-in-Refused
-returns-in-Refused c =
-    let e = c.origin_events-became in
-    λ idxs net runs o d. origin_not _ _ _ _ _ _ _ _ _ _ (origin_link_lem _ _ c.origin_at-at.ensures) c.requires.plan_in _ _ _ (omega (arith, e.auto)) e.result e.ensures.more e.ensures.answer idxs net runs o _ c.in-Refused.is
+pub returns-in_err-counts : goal.returns-in_err-counts
+returns-in_err-counts c =
+    let e = c.origin_events in
+    λ idxs net runs o d.
+    origins_refused _ _ _ _ _ c.from_residual.result _ c.from_residual.ensures.1
+    (origin_not _ _ _ _ _ _ _ _ _ _ (origin_link_lem _ _ c.origin_at-at.ensures) c.requires.plan_in _ _ _ (omega (arith, e.auto)) e.result e.ensures.more e.ensures.answer idxs net runs o _ c.in_err-counts.was)

@@ -1,5 +1,6 @@
 -- `grow_origins::origins` meets its contract: `OriginLoop` is the loop's invariant.
 use native.Mathlib.Omega.{arith}
+use Rattle.refusals.proofs.Answers.{handed_on}
 use Rattle.grow_origins.proofs.OriginLoop.{idx_left, loop_start, links_fit, destinations_fit, idxs_fit, idxs_inside, idx_at, idx_small, loop_plan, loop_small, idx_named, loop_some, loop_leads, loop_stop, loop_on, loop_end}
 use Rattle.grow_origins.proofs.origins.Goals as goal
 
@@ -24,8 +25,8 @@ bounds-marks-rows_at c = idxs_inside _ _ _ c.requires.plan_in _ _ c.requires.opt
 pub overflow_cast-idx : goal.overflow_cast-idx
 overflow_cast-idx c = omega (arith, idx_small _ _ _ c.requires.plan_in _ _ c.requires.options_in (idx_left _ _ _ c.requires.kept_value c.loop-k-test.true))
 
-pub origin-turned-requires : goal.origin-turned-requires
-origin-turned-requires c =
+pub origin-requires : goal.origin-requires
+origin-requires c =
     let h = idx_left _ _ _ c.requires.kept_value c.loop-k-test.true in
     let v = c.loop-k.invariant in
     let e = idx_at _ _ _ c.requires.plan_in _ _ c.requires.options_in h in
@@ -38,50 +39,20 @@ origin-turned-requires c =
       book_in_bounds = omega (arith, c.requires.book_in_bounds);
     }
 
-pub shape_of-floats-in_default : goal.shape_of-floats-in_default
-shape_of-floats-in_default c = omega (arith, c.origin-turned.auto, c.loop-k.invariant.floats)
-
-pub shape_of-numbers-in_default : goal.shape_of-numbers-in_default
-shape_of-numbers-in_default c = omega (arith, c.origin-turned.auto, c.loop-k.invariant.numbers)
-
-pub shape_of-reals-in_default : goal.shape_of-reals-in_default
-shape_of-reals-in_default c = omega (arith, c.origin-turned.auto, c.loop-k.invariant.reals_long)
-
-pub shape_of-cells-in_default : goal.shape_of-cells-in_default
-shape_of-cells-in_default c = omega (arith, c.origin-turned.auto, c.loop-k.invariant.cells_long)
-
-pub returns-in_default : goal.returns-in_default
-returns-in_default c =
+pub returns-in_err-rest : goal.returns-in_err-rest
+returns-in_err-rest c =
     let h = idx_left _ _ _ c.requires.kept_value c.loop-k-test.true in
-    let o = c.origin-turned in
-    λ net runs d. loop_stop _ _ _ _ _ _ _ _ _ _ _ _ _ _ _ c.loop-k.invariant _ (idx_at _ _ _ c.requires.plan_in _ _ c.requires.options_in h) h _ _ _ _ o.result o.ensures _ c.in_default.is net runs d
+    let o = c.origin in
+    λ net runs d. loop_stop _ _ _ _ _ _ _ _ _ _ _ _ _ _ _ c.loop-k.invariant _ (idx_at _ _ _ c.requires.plan_in _ _ c.requires.options_in h) h _ _ _ _ o.result o.ensures _ c.in_err-rest.was c.from_residual.result (handed_on _ _ c.from_residual.ensures.1) net runs d
 
 pub last_after-last-requires : goal.last_after-last-requires
 last_after-last-requires c = loop_small _ _ _ _ _ _ _ _ _ _ _ _ _ _ _ c.loop-k.invariant c.requires.some_origins
 
-pub overflow_add-k : goal.overflow_add-k
-overflow_add-k c = omega (arith, idxs_fit _ _ _ c.requires.plan_in, c.requires.kept_value, c.loop-k-test.true)
-
-pub loop-k-smaller : goal.loop-k-smaller
-loop-k-smaller c = omega (arith, c.loop-k-test.true)
-
 pub loop-k-preserved : goal.loop-k-preserved
 loop-k-preserved c =
     let h = idx_left _ _ _ c.requires.kept_value c.loop-k-test.true in
-    let o = c.origin-turned in
-    loop_on _ _ _ _ _ _ _ _ _ _ _ _ _ _ _ c.loop-k.invariant _ (idx_at _ _ _ c.requires.plan_in _ _ c.requires.options_in h) h _ _ _ _ o.result o.ensures _ c.in-On.is _ c.last_after-last.ensures.first c.last_after-last.ensures.later (omega (arith, o.auto)) (omega (arith, o.auto)) (omega (arith, o.auto)) (omega (arith, o.auto))
-
-pub shape_of-floats : goal.shape_of-floats
-shape_of-floats c = c.loop-k.invariant.floats
-
-pub shape_of-numbers : goal.shape_of-numbers
-shape_of-numbers c = c.loop-k.invariant.numbers
-
-pub shape_of-reals : goal.shape_of-reals
-shape_of-reals c = c.loop-k.invariant.reals_long
-
-pub shape_of-cells : goal.shape_of-cells
-shape_of-cells c = c.loop-k.invariant.cells_long
+    let o = c.origin in
+    loop_on _ _ _ _ _ _ _ _ _ _ _ _ _ _ _ c.loop-k.invariant _ (idx_at _ _ _ c.requires.plan_in _ _ c.requires.options_in h) h _ _ _ _ o.result o.ensures _ c.in_ok-rest.was _ c.last_after-last.ensures.first c.last_after-last.ensures.later (omega (arith, o.auto)) (omega (arith, o.auto)) (omega (arith, o.auto)) (omega (arith, o.auto))
 
 pub returns : goal.returns
-returns c = λ net runs d. loop_end _ _ _ _ _ _ _ _ _ _ _ _ _ _ _ c.loop-k.invariant (omega (arith, c.requires.kept_value, c.loop-k-test.false)) net runs d
+returns c = λ net runs d. loop_end _ _ _ _ _ _ _ _ _ _ _ _ _ _ _ c.loop-k.invariant (omega (arith, c.requires.kept_value)) net runs d

@@ -1,12 +1,7 @@
 -- `grow_origins::origins` meets its contract: `OriginLoop` is the loop's invariant.
-use Prim.Native.Nat.{◌-◌}
 use Rattle.grow_origins.proofs.OriginLoop.{OriginLoop}
 use Rattle.grow_origins.proofs.origins.Given as goal
 
 abbrev pub invariant-loop-k : goal.invariant-loop-k
 invariant-loop-k l =
-    OriginLoop l.book l.p l.joins l.initial.floats l.initial.numbers l.initial.reals l.initial.cells l.initial.state l.floats l.numbers l.reals l.cells l.state l.last l.k
-
-abbrev pub decreases-loop-k : goal.decreases-loop-k
-decreases-loop-k l =
-    l.kept - l.k
+    OriginLoop l.book l.p l.joins l.initial.floats l.initial.numbers l.initial.reals l.initial.cells l.initial.rest l.floats l.numbers l.reals l.cells l.rest l.last l.k

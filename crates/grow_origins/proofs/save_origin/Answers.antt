@@ -13,11 +13,11 @@ take_start-taken-requires c = record {
 }
 
 pub returns-in_default : goal.returns-in_default
-returns-in_default c = λ fs us idxs net run runs v. origin_no_leg _ _ _ _ _ _ _ _ _ _ _ _ _ _ _ c.requires.plan_in v _ c.take_start-taken.ensures _ c.in_default.is
+returns-in_default c = λ fs us idxs net run runs v. origin_no_leg _ _ _ _ _ _ _ _ _ _ _ _ _ _ c.requires.plan_in v _ c.take_start-taken.ensures _ c.in_default.is
 
 pub save-requires : goal.save-requires
 save-requires c =
-    let all = save_asks _ _ _ _ _ _ _ _ _ _ _ _ _ _ _ c.requires.plan_in c.requires.some_origin_inserted.inserted_origin _ c.take_start-taken.ensures _ c.in-Leg.is in
+    let all = save_asks _ _ _ _ _ _ _ _ _ _ _ _ _ _ c.requires.plan_in c.requires.some_origin_inserted.inserted_origin _ c.take_start-taken.ensures _ c.in-Leg.is in
     record {
       places_in_bounds = all.0;
       legs_bound = all.1.0;
@@ -34,4 +34,4 @@ save-requires c =
 pub returns : goal.returns
 returns c =
     let s = c.save in
-    λ fs us idxs net run runs v. origin_saved _ _ _ _ _ _ _ _ _ _ _ _ _ _ _ c.requires.plan_in v _ c.take_start-taken.ensures _ c.in-Leg.is _ _ (omega (arith, s.auto)) s.ensures.elsewhere s.ensures.saved
+    λ fs us idxs net run runs v. origin_saved _ _ _ _ _ _ _ _ _ _ _ _ _ _ c.requires.plan_in v _ c.take_start-taken.ensures _ c.in-Leg.is _ _ (omega (arith, s.auto)) s.ensures.elsewhere s.ensures.saved

@@ -1,5 +1,4 @@
 -- `grow_state::take_up` meets its contract.
-use mathlib.Core.Path.{refl}
 use native.Mathlib.Omega.{arith}
 use Rattle.grow_state.proofs.TakingUp.{taken_up_lem, drive_pops, drive_few}
 use Rattle.grow_state.proofs.take_up.Goals as goal
@@ -12,15 +11,12 @@ pop-popped-requires c =
       legs_bound = omega (arith, s.plan.all_legs, s.plan.same_nodes, s.plan.nodes_at);
       legs_in_bounds = s.plan.pairs;
       in_bounds = c.requires.in_bounds;
-      some_waits = drive_pops s c.requires.moves_value c.requires.top_nonzero;
+      some_waits = drive_pops s c.requires.top_nonzero;
     }
 
-pub overflow_sub-result : goal.overflow_sub-result
-overflow_sub-result c =
-    drive_few c.requires.some_drive c.requires.moves_value c.requires.top_nonzero _ _ c.pop-popped.ensures.popped
+pub overflow_sub-rest : goal.overflow_sub-rest
+overflow_sub-rest c =
+    drive_few c.requires.some_drive c.requires.top_nonzero _ _ c.pop-popped.ensures.popped
 
 pub returns : goal.returns
-returns c = record {
-  moves = refl;
-  held = λ b fs us path net runs d. taken_up_lem d c.requires.moves_value c.requires.top_nonzero _ _ c.pop-popped.ensures.popped;
-}
+returns c = λ b fs us path net runs d. taken_up_lem d c.requires.top_nonzero _ _ c.pop-popped.ensures.popped
