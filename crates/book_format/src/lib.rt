@@ -6,7 +6,7 @@ ghost use Rattle.std.specs.Prelude.{◌≡◌, true, false, ◌+◌, ◌*◌, �
 ghost use Rattle.fields.specs.Fields.{u32_at};
 ghost use Rattle.floats.specs.Floats.{book_float};
 ghost use Rattle.refusals.specs.Refusals.{told};
-ghost use Rattle.book_format.specs.Format.{links, origins, destinations, legs, samples, rows, samples_at_of};
+ghost use Rattle.book_format.specs.Format.{links, origins, destinations, legs, samples, rows, samples_at_of, end_of};
 ghost use Rattle.book_format.specs.Format.{link_length, origin_offset, destination_link, link_at, origin_at, leg_at};
 ghost use Rattle.book_format.specs.Format.{sample_from, sample_at, sample_patterns, head_patterns, float_of};
 ghost use Rattle.book_format.specs.Rows.{row4, row5, some_bad_leg};
@@ -223,7 +223,8 @@ impl<'a> Book<'a> {
 
     // The bytes.
     pub fn bytes(&self) -> &'a [u8]
-        ensures { result.now ≡ self.now }
+        ensures is { result.now ≡ self.now }
+        ensures whole { length result.now ≡ end_of result.now }
     {
         self.bytes
     }

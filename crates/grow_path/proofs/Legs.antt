@@ -17,7 +17,6 @@ use Rattle.floats.specs.Floats.{table_float, book_float, Size}
 use Rattle.floats.proofs.Laws.{table_finite}
 use Rattle.floats.proofs.Order.{size_of_bits, add_grows, le_trans}
 use Rattle.book_format.specs.declared.Sample.{Sample}
-use Rattle.book_format.specs.declared.Sections.{Sections}
 use Rattle.book_format.specs.Format.{legs, samples, samples_at_of, end_of, link_length, leg_samples, first_sample, sample_from, sample_at, length_bits, float_of}
 use Rattle.book_format.specs.Rows.{bad_sample_from, bad_sample, sample_falls, row7}
 use Rattle.book_format.specs.Chains.{Readable}
@@ -65,7 +64,7 @@ less_one n = omega arith
 
 -- ---- a leg: in row i, and so of number i + 1
 
-module _ (b : List ℕ) (s : Sections) (z : Readable b s) (i : ℕ) (h : i < legs b) where
+module _ (b : List ℕ) (whole : length b ≡ end_of b) (z : Readable b) (i : ℕ) (h : i < legs b) where
   leg_end : first_sample b i + leg_samples b i ≤ samples b
   unfolding first_sample
   leg_end = omega (arith, sum_more i (leg_samples b), sum_part (legs b) (i + 1) (leg_samples b) (omega arith), z.counted.sums)
@@ -87,7 +86,7 @@ module _ (b : List ℕ) (s : Sections) (z : Readable b s) (i : ℕ) (h : i < leg
 
     pub leg_held : Held b reals (moves path)
     unfolding end_of
-    leg_held = record { bytes = omega (arith, leg_end, z.sized.whole); points = room; floats = good_sample }
+    leg_held = record { bytes = omega (arith, leg_end, whole); points = room; floats = good_sample }
 
     offset_size : (k : ℕ) → k < leg_samples b i → Size (sample_from b (samples_at_of b + first_sample b i * 24 + k * 24)).offset
     unfolding sample_from

@@ -7,8 +7,7 @@ use Rattle.std.specs.Float.Ieee.{add}
 use Rattle.std.specs.Float.Ieee.Scale.{finite}
 use Rattle.floats.specs.Floats.{Size}
 use Rattle.event_walk.specs.Course.{Course, Rises}
-use Rattle.book_format.specs.declared.Sections.{Sections}
-use Rattle.book_format.specs.Format.{link_length, float_of, sample_width}
+use Rattle.book_format.specs.Format.{link_length, float_of, samples_at_of, sample_width}
 use Rattle.book_legs.specs.declared.TakenLeg.{TakenLeg}
 use Rattle.event_walk.specs.declared.Movement.{Movement}
 use Rattle.event_walk.specs.declared.PassedPoint.{PassedPoint}
@@ -41,9 +40,9 @@ abbrev pub link_added : List ℕ → ℕ → ℕ → List ℕ
 link_added cells depth link = set cells (depth * 8 + 3) link
 
 -- what the walk of a leg looks at, whose path has `depth` links
-abbrev pub movement_on : Sections → TakenLeg → ℕ → Float → Movement
-movement_on s leg depth train = record {
-  at = s.samples_at + leg.first * sample_width;
+abbrev pub movement_on : List ℕ → TakenLeg → ℕ → Float → Movement
+movement_on b leg depth train = record {
+  at = samples_at_of b + leg.first * sample_width;
   samples = leg.end - leg.first;
   points = depth + 1;
   length = train;

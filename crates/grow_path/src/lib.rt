@@ -4,12 +4,11 @@
 ghost use Rattle.std.specs.Prelude.{◌≡◌, ◌+◌, ◌*◌, ◌-◌, ◌≤◌, ◌<◌, length, get_or};
 ghost use Rattle.std.specs.Float.{binary64, nan};
 ghost use Rattle.std.specs.Float.Ieee.{of_bits};
-ghost use Rattle.book_format.specs.Format.{links};
-ghost use Rattle.book_format.specs.Chains.{Readable};
+ghost use Rattle.book_format.specs.Format.{links, samples_at_of};
 ghost use Rattle.event_walk.specs.Walk.{some_bad};
 ghost use Rattle.grow_path.specs.Kept.{point_added, link_added, movement_on, event_in};
 
-use book_format::Sections;
+use book_format::{Book, ReadableBook};
 use book_legs::TakenLeg;
 use event_walk::{Movement, PassedPoint, PassedPoints};
 use net_node::{LinkEvent, TimedEvent};
@@ -23,37 +22,35 @@ pub fn start_path(reals: &mut [f64])
 }
 
 // Puts a link behind the `depth` links of a path: its name, and the point behind it.
+#[tactic(auto, using(book_format::proofs::Given::link_length_lem))]
 pub fn extend_path(
-    book: &[u8],
-    s: Sections,
+    book: &ReadableBook,
     reals: &mut [f64],
     cells: &mut [u32],
     depth: usize,
     link_idx: u32,
 )
-    requires readable { Readable book.now s }
     requires depth_in_bounds { depth + 1 < length reals.old }
     requires depth_in_bounds_2 { depth * 8 + 3 < length cells.old }
     requires link_idx_bound { link_idx < links book.now }
     ensures reals { reals.new ≡ point_added book.now reals.old depth link_idx }
     ensures cells { cells.new ≡ link_added cells.old depth link_idx }
 {
-    let link = book_format::link_at(book, s, link_idx as usize);
-    let before = reals[depth];
-    reals[depth + 1] = before + link.length;
+    let link = book.valid().link_at(link_idx as usize);
+    reals[depth + 1] = reals[depth] + link.length;
     cells[depth * 8 + 3] = link_idx;
 }
 
 // What the walk of a leg looks at, whose path has `depth` links, its own among them.
-pub fn movement_of(s: Sections, leg: TakenLeg, depth: usize, length: f64) -> Movement
+pub fn movement_of(book: &Book, leg: TakenLeg, depth: usize, length: f64) -> Movement
     requires first_le_end { leg.first ≤ leg.end }
     requires end_bound { leg.end ≤ 1000000 }
-    requires samples_at_bound { s.samples_at ≤ 4000000 }
+    requires samples_at_bound { samples_at_of book.now ≤ 4000000 }
     requires depth_bound { depth ≤ 65535 }
-    ensures { result ≡ movement_on s leg depth «length» }
+    ensures { result ≡ movement_on book.now leg depth «length» }
 {
     Movement {
-        at: s.samples_at + leg.first * book_format::SAMPLE_WIDTH,
+        at: book.samples_at() + leg.first * book_format::SAMPLE_WIDTH,
         samples: leg.end - leg.first,
         points: depth + 1,
         length,
@@ -72,16 +69,13 @@ pub fn event_at(cells: &[u32], p: PassedPoint) -> TimedEvent
     requires { p.point * 8 + 3 < length cells.now }
     ensures { result ≡ event_in cells.now p }
 {
-    let at = p.point;
-    let est_type = p.est_type;
-    let link_event = LinkEvent {
-        link_idx: cells[at * 8 + 3],
-        est_type,
-    };
     TimedEvent {
         time: p.time,
         offset: p.offset,
         speed: p.speed,
-        link_event,
+        link_event: LinkEvent {
+            link_idx: cells[p.point * 8 + 3],
+            est_type: p.est_type,
+        },
     }
 }
