@@ -5,7 +5,9 @@ use Rattle.std.specs.Prelude.{◌≡◌, ◌≢◌, Bool, true, false, List, ℕ
 use Rattle.laws.specs.Answer.{Answer, refused, given}
 use Rattle.net_node.specs.Table.{node_at, Room, Indexed, Table}
 use Rattle.net_insertion.specs.Insertion.{flagged}
-use Rattle.net_join_paths.specs.Entries.{entries_in, Valid}
+use Rattle.net_join_paths.specs.Entries.{Valid}
+use Rattle.net_join_paths.specs.declared.EstJoinPath.{EstJoinPath}
+use Rattle.arrayvec.specs.ArrayVec.{ArrayVec}
 use Rattle.net_event_map.specs.declared.Layout.{Layout}
 use Rattle.net_event_map.specs.EventMap.{CellsApart, Mapped}
 use Rattle.grow_path.specs.Path.{point_link, events_at}
@@ -73,13 +75,13 @@ pub record NetIn (w : Layout) (start : List ℕ) (fs : List Float) (us cells : L
       → get_or cells q 0 ≡ get_or start q 0
 
 -- the run that moves, on its way through a leg of a network of n nodes
-pub record RunIn (n j : ℕ) (list : List ℕ) (m : Mover) (run : Run) : Type 0 where
+pub record RunIn (n j : ℕ) (list : List EstJoinPath) (m : Mover) (run : Run) : Type 0 where
   pub place : run.place ≡ m.place
   pub leg : run.leg ≡ j
   pub has_split : run.has_split ≡ m.has_split
-  pub joins : run.joins ≡ entries_in list m.count
-  pub few : m.count ≤ 1024
-  pub valid : Valid (entries_in list m.count) n
+  pub joins : run.joins ≡ list
+  pub few : length list ≤ 1024
+  pub valid : Valid list n
   pub stands : m.place.idx_prev < n
 
 -- some network is there
@@ -89,7 +91,8 @@ pub record Growing (w : Layout) (fs : List Float) (us cells : List ℕ) (c : Cou
   pub holds : NetIn w start fs us cells c net
 
 -- some network and run are
-pub record Moving (w : Layout) (fs : List Float) (us cells joins : List ℕ) (c : Counts) (m : Mover) : Type 0 where
+pub record Moving (w : Layout) (fs : List Float) (us cells : List ℕ) (joins : List EstJoinPath) (c : Counts)
+    (m : Mover) : Type 0 where
   pub start : List ℕ
   pub leg : ℕ
   pub net : Net
@@ -113,7 +116,7 @@ pub record SomePath (b : List ℕ) (reals : List Float) (cells : List ℕ) (w : 
 
 -- what the code answers to an event, or to all of a leg
 pub record GoesAs (answer : Answer Outcome) (w : Layout) (start : List ℕ) (leg : ℕ) (fs : List Float)
-    (us cells joins : List ℕ) (c : Counts) (m : Mover) : Type 0 where
+    (us cells : List ℕ) (joins : List EstJoinPath) (c : Counts) (m : Mover) : Type 0 where
   pub after : After
   pub is : answer ≡ given (Goes after)
   pub net : NetIn w start fs us cells c after.net
@@ -127,14 +130,14 @@ pub record LeftAs (answer : Answer Outcome) (w : Layout) (start : List ℕ) (fs 
   pub net : NetIn w start fs us cells c after
 
 -- the run goes on, has ended, or a refusal
-abbrev pub OutcomeAs : Answer Outcome → Layout → List ℕ → ℕ → List Float → List ℕ → List ℕ → List ℕ
+abbrev pub OutcomeAs : Answer Outcome → Layout → List ℕ → ℕ → List Float → List ℕ → List ℕ → List EstJoinPath
     → Result RunOutcome Refusal → Type 0
 OutcomeAs answer w start leg fs us cells joins (Ok (On c m)) = GoesAs answer w start leg fs us cells joins c m
 OutcomeAs answer w start leg fs us cells joins (Ok (Ended c)) = LeftAs answer w start fs us cells c
 OutcomeAs answer w start leg fs us cells joins (Err r) = answer ≡ refused (refusal_number r)
 
 -- an insertion never ends a run
-abbrev pub InsertedAs : Answer After → Layout → List ℕ → ℕ → List Float → List ℕ → List ℕ → List ℕ
+abbrev pub InsertedAs : Answer After → Layout → List ℕ → ℕ → List Float → List ℕ → List ℕ → List EstJoinPath
     → Result (Counts × Mover) Refusal → Type 0
 InsertedAs answer w start leg fs us cells joins (Ok r) =
     GoesAs (goes_on answer) w start leg fs us cells joins r.0 r.1
@@ -159,31 +162,31 @@ pub record NetLists : Type 0 where
   pub floats : List Float
   pub numbers : List ℕ
   pub cells : List ℕ
-  pub joins : List ℕ
+  pub joins : List EstJoinPath
 
 -- what they hold at a function's entry
-abbrev pub net_at_entry : Lent (List Float) → Lent (List ℕ) → Lent (List ℕ) → Lent (List ℕ) → NetLists
+abbrev pub net_at_entry : Lent (List Float) → Lent (List ℕ) → Lent (List ℕ) → Lent (ArrayVec EstJoinPath) → NetLists
 net_at_entry floats numbers cells joins = record {
   floats = floats.entry.now;
   numbers = numbers.entry.now;
   cells = cells.entry.now;
-  joins = joins.entry.now;
+  joins = joins.entry.now.items;
 }
 
 -- and at its exit
-abbrev pub net_at_exit : Lent (List Float) → Lent (List ℕ) → Lent (List ℕ) → Lent (List ℕ) → NetLists
+abbrev pub net_at_exit : Lent (List Float) → Lent (List ℕ) → Lent (List ℕ) → Lent (ArrayVec EstJoinPath) → NetLists
 net_at_exit floats numbers cells joins = record {
   floats = floats.exit.now;
   numbers = numbers.exit.now;
   cells = cells.exit.now;
-  joins = joins.exit.now;
+  joins = joins.exit.now.items;
 }
 
 -- an event is inserted at the run's place
 abbrev pub InsertsEvent : Layout → Float → Counts → Mover → TimedEvent → Table → List ℕ → Table → List ℕ
     → Result (Counts × Mover) Refusal → Type 0
 InsertsEvent w join c m e t cells t' cells' r =
-    (start joins : List ℕ) (leg : ℕ) (net : Net) (run : Run)
+    (start : List ℕ) (joins : List EstJoinPath) (leg : ℕ) (net : Net) (run : Run)
     → NetIn w start t.floats t.numbers cells c net → RunIn c.nodes leg joins m run
     → InsertedAs (insert_event w.places join net run e) w start leg t'.floats t'.numbers cells' joins r
 

@@ -3,12 +3,14 @@
 -- are the words of the contracts.
 use Rattle.std.specs.Prelude.{◌≡◌, false, List, [], ◌∷◌, ◌++◌, ℕ, ◌+◌, ◌-◌, ◌*◌, ◌≤◌, ◌<◌, length, Float, Option, Some, None, Result, Ok, Err}
 use Rattle.laws.specs.Answer.{Answer, refused, given}
-use Rattle.book_format.specs.Format.{links, legs, leg_parent, length_bits, float_of}
+use Rattle.book_format.specs.Format.{links, legs, leg_parent, length_bits, float_of, end_of}
 use Rattle.book_format.specs.Rows.{row7}
 use Rattle.book_format.specs.Chains.{Readable, Chained}
 use Rattle.grow_path.specs.Path.{path_of}
 use Rattle.grow_path.specs.Kept.{PathIn}
 use Rattle.net_join_paths.specs.Entries.{Valid}
+use Rattle.net_join_paths.specs.declared.EstJoinPath.{EstJoinPath}
+use Rattle.arrayvec.specs.ArrayVec.{ArrayVec}
 use Rattle.grow_waiting.specs.Held.{Waiting, SavedIn}
 use Rattle.grow_waiting.specs.declared.Rooms.{Rooms}
 use Rattle.grow_rules.specs.Run.{Net, Run, member_of}
@@ -30,30 +32,32 @@ pub record Lists : Type 0 where
   pub numbers : List ℕ
   pub reals : List Float
   pub cells : List ℕ
-  pub joins : List ℕ
+  pub joins : List EstJoinPath
 
 -- five lists as one record
-abbrev pub lists : List Float → List ℕ → List Float → List ℕ → List ℕ → Lists
+abbrev pub lists : List Float → List ℕ → List Float → List ℕ → List EstJoinPath → Lists
 lists fs us rs cs js = record { floats = fs; numbers = us; reals = rs; cells = cs; joins = js }
 
 -- what the slices hold at a function's entry
-abbrev pub lists_at_entry : Lent (List Float) → Lent (List ℕ) → Lent (List Float) → Lent (List ℕ) → Lent (List ℕ) → Lists
+abbrev pub lists_at_entry : Lent (List Float) → Lent (List ℕ) → Lent (List Float) → Lent (List ℕ) → Lent (ArrayVec EstJoinPath)
+    → Lists
 lists_at_entry floats numbers reals cells joins = record {
   floats = floats.entry.now;
   numbers = numbers.entry.now;
   reals = reals.entry.now;
   cells = cells.entry.now;
-  joins = joins.entry.now;
+  joins = joins.entry.now.items;
 }
 
 -- and at its exit
-abbrev pub lists_at_exit : Lent (List Float) → Lent (List ℕ) → Lent (List Float) → Lent (List ℕ) → Lent (List ℕ) → Lists
+abbrev pub lists_at_exit : Lent (List Float) → Lent (List ℕ) → Lent (List Float) → Lent (List ℕ) → Lent (ArrayVec EstJoinPath)
+    → Lists
 lists_at_exit floats numbers reals cells joins = record {
   floats = floats.exit.now;
   numbers = numbers.exit.now;
   reals = reals.exit.now;
   cells = cells.exit.now;
-  joins = joins.exit.now;
+  joins = joins.exit.now.items;
 }
 
 -- ---- the plan
@@ -61,7 +65,8 @@ lists_at_exit floats numbers reals cells joins = record {
 -- What a plan says of a book, and of the room in reals: the path's points stand before the pairs of the runs that wait.
 -- The legs' units of cells stand before the nodes', and those before the links'.
 pub record PlanIn (b : List ℕ) (p : Plan) (reals : ℕ) : Type 0 where
-  pub readable : Readable b p.s
+  pub whole : length b ≡ end_of b
+  pub readable : Readable b
   pub row7 : row7 b ≡ false
   pub join : p.join ≡ join_gap b
   pub departs : p.departure ≡ departure b
@@ -142,12 +147,12 @@ pub record WaitIn (b : List ℕ) (r : Rooms) (reals : List Float) (cells : List 
   pub same : SameRuns b runs saved
 
 -- the run at the front
-pub record FrontIn (b joins : List ℕ) (n : ℕ) (f : Front) (run : Run) : Type 0 where
+pub record FrontIn (b : List ℕ) (joins : List EstJoinPath) (n : ℕ) (f : Front) (run : Run) : Type 0 where
   pub moves : RunIn n f.leg joins f.mover run
   pub depth : f.depth ≡ length (path_before b run.leg)
 
 -- all runs, by the one at the front, if there is one
-abbrev pub RunsIn : Option Front → List ℕ → Rooms → List Float → List ℕ → List ℕ → Rest → List Run → Type 0
+abbrev pub RunsIn : Option Front → List ℕ → Rooms → List Float → List ℕ → List EstJoinPath → Rest → List Run → Type 0
 RunsIn None b r reals cells joins g runs = WaitIn b r reals cells g.top g.used runs
 RunsIn (Some f) b r reals cells joins g [] = ⊥
 RunsIn (Some f) b r reals cells joins g (run ∷ saved) =
@@ -183,7 +188,7 @@ pub record Driving (b : List ℕ) (p : Plan) (s : Lists) (g : State) : Type 0 wh
   pub holds : DriveIn b p s path g net runs
 
 -- the same of some book and table: what the runs that wait need
-pub record SomeDrive (p : Plan) (reals : List Float) (cells joins : List ℕ) (g : State) : Type 0 where
+pub record SomeDrive (p : Plan) (reals : List Float) (cells : List ℕ) (joins : List EstJoinPath) (g : State) : Type 0 where
   pub b : List ℕ
   pub fs : List Float
   pub us : List ℕ
@@ -203,7 +208,7 @@ TurnedAs answer b p s (Ok g) = GivesAs answer b p s g
 TurnedAs answer b p s (Err r) = answer ≡ refused (refusal_number r)
 
 -- the network and the runs that a state had are those of another, whose front's entries lie in other joins
-abbrev pub SameDrive : Plan → List Float → List ℕ → List ℕ → List ℕ → State → State → Type 0
+abbrev pub SameDrive : Plan → List Float → List ℕ → List EstJoinPath → List EstJoinPath → State → State → Type 0
 SameDrive p reals cells joins joins' g h =
     (b : List ℕ) (fs : List Float) (us path : List ℕ) (net : Net) (runs : List Run)
     → DriveIn b p (lists fs us reals cells joins) path g net runs

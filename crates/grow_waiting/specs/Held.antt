@@ -7,7 +7,6 @@ use Rattle.std.specs.Prelude.{◌≡◌, ◌≢◌, List, [], ◌∷◌, ℕ, su
 use Rattle.std.specs.Float.{nan}
 use Rattle.net_insertion.specs.declared.Place.{Place}
 use Rattle.net_join_paths.specs.declared.EstJoinPath.{EstJoinPath}
-use Rattle.net_join_paths.specs.Entries.{entries_in}
 use Rattle.grow_waiting.specs.declared.Rooms.{Rooms}
 use Rattle.grow_waiting.specs.declared.Popped.{Popped}
 
@@ -57,7 +56,7 @@ SavedIn cells reals w top used (run ∷ runs) =
     × SavedIn cells reals w (top_of runs) (used - length run.joins) runs)))
 
 -- a run as it is saved
-unfoldable pub waiting_of : Place → ℕ → ℕ → List EstJoinPath → Waiting
+abbrev pub waiting_of : Place → ℕ → ℕ → List EstJoinPath → Waiting
 waiting_of place leg depth joins = record { place = place; leg = leg; depth = depth; joins = joins }
 
 -- What saving leaves as it was: each cell outside cells 4 to 7 of the legs' units and cells 3 and 4 of the nodes'
@@ -74,11 +73,10 @@ pub record SomeWaits (cells : List ℕ) (reals : List Float) (w : Rooms) (top us
   pub saved : SavedIn cells reals w top used (run ∷ runs)
   pub few : length run.joins ≤ 1024
 
--- what is taken up again of a run, with its entries in a slice
-pub record PoppedAs (run : Waiting) (runs : List Waiting) (joins : List ℕ) (r : Popped) : Type 0 where
+-- what is taken up again of a run, with its entries in a list
+pub record PoppedAs (run : Waiting) (runs : List Waiting) (joins : List EstJoinPath) (r : Popped) : Type 0 where
   pub place : r.place ≡ run.place
   pub leg : r.leg ≡ run.leg
   pub depth : r.depth ≡ run.depth
-  pub entries : entries_in joins r.count ≡ run.joins
-  pub count : r.count ≡ length run.joins
+  pub entries : joins ≡ run.joins
   pub below : r.below ≡ top_of runs

@@ -1,14 +1,14 @@
 // The runs that wait, in the work space. Contracts: specs/Held.antt.
 #![tactic(auto)]
 
-ghost use Rattle.std.specs.Prelude.{◌≡◌, List, ◌∷◌, ◌+◌, ◌*◌, ◌≤◌, ◌<◌, length};
-ghost use Rattle.net_join_paths.specs.Entries.{entries_in};
+ghost use Rattle.std.specs.Prelude.{◌+◌, ◌*◌, ◌≤◌, ◌<◌, length};
+ghost use Rattle.arrayvec.specs.ArrayVec.{array_vec_len};
 ghost use Rattle.grow_waiting.specs.Held.{waiting_of, SavedElsewhere, SomeWaits};
 ghost use Rattle.grow_waiting.specs.Steps.{EntriesPushed, EntriesCopied, stacks_at_entry, stacks_at_exit, SavesOnTop, stacks_seen};
 ghost use Rattle.grow_waiting.specs.Steps.{TakesUp};
 
 use net_insertion::Place;
-use net_join_paths::EstJoinPath;
+use net_join_paths::{EstJoinPath, JoinPaths};
 
 // Where the nodes' units stand in the cells and the pairs of reals in the reals, and how many legs and places there
 // are.
@@ -20,44 +20,42 @@ pub struct Rooms {
     pub places: usize,
 }
 
-// A run that is taken up again: its place, its leg, how many legs it has taken, how many join entries it has, and the
-// leg of the run saved before it.
+// A run that is taken up again: its place, its leg, how many legs it has taken, and the leg of the run saved before it.
 #[derive(Clone, Copy)]
 pub struct Popped {
     pub place: Place,
     pub leg: u32,
     pub depth: usize,
-    pub count: usize,
     pub below: u32,
 }
 
-// Puts the first `count` entries of `joins` on the stack in the nodes' units, from `used` on.
-fn push_entries(cells: &mut [u32], w: Rooms, used: usize, joins: &[u32], count: usize)
+// Puts the entries of a list on the stack in the nodes' units, from `used` on.
+fn push_entries(cells: &mut [u32], w: Rooms, used: usize, joins: &JoinPaths)
     requires places_in_bounds { w.nodes_at + w.places * 8 ≤ length cells.old }
-    requires count_bound { used + count ≤ w.places }
-    requires count_in_bounds { count * 2 ≤ length joins.now }
-    ensures { EntriesPushed cells.old cells.new w used
-        (entries_in joins.now count) }
+    requires count_bound { used + array_vec_len joins.now ≤ w.places }
+    ensures { EntriesPushed cells.old cells.new w used joins.now.items }
 {
-    for k in 0..count {
-        let x = net_join_paths::entry_at(joins, k);
+    for (k, x) in joins.iter().enumerate() {
         let at = w.nodes_at + (used + k) * 8;
         cells[at + 3] = x.link_idx_match;
         cells[at + 4] = x.est_idx_next;
     }
 }
 
-// Copies the `count` entries from `from` on of that stack into `joins`.
-fn copy_entries(cells: &[u32], w: Rooms, from: usize, count: usize, joins: &mut [u32])
+// Copies the `count` entries from `from` on of that stack into a list, and nothing else.
+fn copy_entries(cells: &[u32], w: Rooms, from: usize, count: usize, joins: &mut JoinPaths)
     requires places_in_bounds { w.nodes_at + w.places * 8 ≤ length cells.now }
-    requires count_bound { from + count ≤ w.places }
-    requires count_in_bounds { count * 2 ≤ length joins.old }
-    ensures { EntriesCopied cells.now w from count joins.new }
+    requires count_in_bounds { from + count ≤ w.places }
+    requires count_bound { count ≤ 1024 }
+    ensures { EntriesCopied cells.now w from count joins.new.items }
 {
-    for k in 0..count {
-        let at = w.nodes_at + (from + k) * 8;
-        joins[k * 2] = cells[at + 3];
-        joins[k * 2 + 1] = cells[at + 4];
+    joins.clear();
+    for k in from..from + count {
+        let at = w.nodes_at + k * 8;
+        joins.push(EstJoinPath {
+            link_idx_match: cells[at + 3],
+            est_idx_next: cells[at + 4],
+        });
     }
 }
 
@@ -71,34 +69,31 @@ pub fn save(
     place: Place,
     leg: u32,
     depth: usize,
-    joins: &[u32],
-    count: usize,
+    joins: &JoinPaths,
 )
     requires places_in_bounds { w.nodes_at + w.places * 8 ≤ length cells.old }
     requires legs_bound { (w.legs + 1) * 8 ≤ w.nodes_at }
     requires legs_in_bounds { w.pairs_at + w.legs * 2 + 2 ≤ length reals.old }
     requires leg_le_legs { leg ≤ w.legs }
     requires leg_nonzero { 0 < leg }
-    requires legs_bound_2 { w.legs ≤ 65535 }
+    requires all_legs_bound { w.legs ≤ 65535 }
     requires depth_bound { depth ≤ 65535 }
-    requires count_bound { used + count ≤ w.places }
+    requires count_bound { used + array_vec_len joins.now ≤ w.places }
     requires places_bound { w.places ≤ 65535 }
-    requires count_in_bounds { count * 2 ≤ length joins.now }
     ensures elsewhere { SavedElsewhere cells.old cells.new reals.old
         reals.new w }
-    ensures saved { SavesOnTop w top used leg count
-        (waiting_of place leg depth (entries_in joins.now count)) (stacks_at_entry cells reals)
-        (stacks_at_exit cells reals) }
+    ensures saved { SavesOnTop w top used (waiting_of place leg depth joins.now.items)
+        (stacks_at_entry cells reals) (stacks_at_exit cells reals) }
 {
     let at = leg as usize * 8;
     cells[at + 4] = place.idx_prev;
     cells[at + 5] = depth as u32;
-    cells[at + 6] = count as u32;
+    cells[at + 6] = joins.len() as u32;
     cells[at + 7] = top;
     let pair = w.pairs_at + leg as usize * 2;
     reals[pair] = place.time_to_next;
     reals[pair + 1] = place.dist_to_next;
-    push_entries(cells, w, used, joins, count);
+    push_entries(cells, w, used, joins);
 }
 
 // Takes the run on top up again; its entries are copied into `joins`.
@@ -108,14 +103,13 @@ pub fn pop(
     w: Rooms,
     top: u32,
     used: usize,
-    joins: &mut [u32],
+    joins: &mut JoinPaths,
 ) -> Popped
     requires places_in_bounds { w.nodes_at + w.places * 8 ≤ length cells.now }
     requires legs_bound { (w.legs + 1) * 8 ≤ w.nodes_at }
     requires legs_in_bounds { w.pairs_at + w.legs * 2 + 2 ≤ length reals.now }
-    requires in_bounds { 2048 ≤ length joins.old }
     requires some_waits { SomeWaits cells.now reals.now w top used }
-    ensures popped { TakesUp w top used (stacks_seen cells reals) joins.new result }
+    ensures popped { TakesUp w top used (stacks_seen cells reals) joins.new.items result }
 {
     let at = top as usize * 8;
     let pair = w.pairs_at + top as usize * 2;
@@ -129,7 +123,6 @@ pub fn pop(
         },
         leg: top,
         depth: cells[at + 5] as usize,
-        count,
         below: cells[at + 7],
     }
 }
