@@ -2,7 +2,7 @@
 -- before its insertions. The leg is found or the book is refused with 10; it is sought where the source extends the
 -- path: an origin's after its Clear is added, an alternative's before the run goes on. A run finishes in the leg whose
 -- link is a destination, never in its first leg. End Fakes are pushed for the ends in reverse."
-use Rattle.std.specs.Prelude.{Bool, true, false, not, ◌&&◌, ◌||◌, List, [], ◌∷◌, ℕ, zero, suc, ◌+◌, ◌-◌, eqb, ltb, length, Float}
+use Rattle.std.specs.Prelude.{Bool, true, false, not, ◌&&◌, ◌||◌, List, [], ◌∷◌, ℕ, zero, suc, ◌+◌, ◌-◌, eqb, ltb, length, Float, Option, Some, None}
 use Rattle.std.specs.Float.{binary64}
 use Rattle.std.specs.Float.Ieee.{add, of_bits}
 use Rattle.laws.specs.Answer.{Answer, refused, given, and_then}
