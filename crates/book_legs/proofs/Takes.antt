@@ -2,7 +2,7 @@
 use mathlib.Core.Path.{◌≡◌, sym, ap, ◌∙◌, subst}
 use mathlib.Core.Bool.{Bool, true, false, ◌&&◌, cond}
 use mathlib.Core.List.{List}
-use Prim.Native.Nat.{ℕ, zero, suc, ◌+◌, ◌-◌, ◌*◌, ◌≤◌, ◌<◌}
+use Prim.Native.Nat.{ℕ, zero, suc, ◌+◌, ◌-◌, ◌*◌, ◌≤◌}
 use native.Mathlib.Nat.{le_refl}
 use native.Mathlib.Omega.{arith}
 use lib.Dec.{eqb}
@@ -10,9 +10,8 @@ use lib.ListN.{get_or}
 use Rattle.book_format.specs.Format.{legs, leg_link, leg_parent, first_sample}
 use Rattle.book_format.specs.Chains.{leg_below, Chained}
 use Rattle.book_legs.specs.declared.TakenLeg.{TakenLeg}
-use Rattle.std.proofs.Common.{Option, Some, None, Result, Ok, Err}
+use Rattle.std.proofs.Common.{Option, Result}
 use Rattle.refusals.specs.declared.Refusal.{Refusal}
-use Rattle.refusals.specs.declared.Refusal.TheVariants.{MissingLeg}
 use Rattle.book_legs.specs.Legs.{search_of, leg_search, taken_by, taken_leg, InCells}
 
 below_most : (b : List ℕ) (n p l : ℕ) → leg_below b n p l ≤ n

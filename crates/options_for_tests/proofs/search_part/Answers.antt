@@ -1,8 +1,7 @@
 -- `options_for_tests::search_part` meets its contract.
-use Rattle.std.proofs.Common.{◌≡◌, sym, ◌∙◌, ap, subst, false, ℕ, List, Result, Ok, length, refl, arith}
-use Rattle.refusals.specs.declared.Refusal.{Refusal}
+use Rattle.std.proofs.Common.{◌≡◌, sym, ◌∙◌, ap, subst, false, ℕ, List, length, refl}
 use Rattle.book_format.proofs.Given.{limits}
-use Rattle.book_options.specs.Options.{row8, link_options, kept_origins, search_room, OptionsIn}
+use Rattle.book_options.specs.Options.{row8, link_options, search_room, OptionsIn}
 use Rattle.options_for_tests.specs.Steps.{SearchedIn}
 use Rattle.options_for_tests.proofs.Laws.{part_right, part_wrong, options_found}
 use Rattle.options_for_tests.proofs.search_part.Goals as goal
