@@ -8,41 +8,22 @@ ghost use Rattle.book_format.specs.Format.{departure_bits};
 ghost use Rattle.net_node.specs.Lent.{table_at_exit, lent_at_entry, lent_at_exit, sizes_of};
 ghost use Rattle.grow_rules.specs.Growth.{departure};
 ghost use Rattle.grow_book.specs.Answers.{GrownAs};
-ghost use Rattle.refusals.specs.Refusals.{refusal_number};
 ghost use Rattle.est_times.specs.Network.{network};
 ghost use Rattle.est_times.specs.Sheet.{job, SheetMade};
 ghost use Rattle.est_times.specs.Stages.{Begun, BuiltAs};
 
-use book_reader::Reading;
 use refusals::Refusal;
 use report::Report;
+use space::Zero;
 
 // Makes zero what growth begins with: the table, the cells and the marks.
 pub fn clear_before(floats: &mut [f64], numbers: &mut [u32], cells: &mut [u32], marks: &mut [u32])
     ensures { Begun floats.new numbers.new cells.new marks.new }
 {
-    space::clear_floats(floats);
-    space::clear_numbers(numbers);
-    space::clear_numbers(cells);
-    space::clear_numbers(marks);
-}
-
-// The row of reading that has a number.
-fn refusal_of(number: u32) -> Refusal
-    requires number_nonzero { 0 < number }
-    requires number_bound { number ≤ 8 }
-    ensures { refusal_number result ≡ number }
-{
-    match number {
-        1 => Refusal::CutOff,
-        2 => Refusal::LeftOver,
-        3 => Refusal::OutOfBounds,
-        4 => Refusal::BadValue,
-        5 => Refusal::BadIndex,
-        6 => Refusal::BadOrigin,
-        7 => Refusal::BadLeg,
-        _ => Refusal::NoPath,
-    }
+    Zero::clear(floats);
+    Zero::clear(numbers);
+    Zero::clear(cells);
+    Zero::clear(marks);
 }
 
 // Reads a book and grows its network, rows 1 to 13.
@@ -59,13 +40,16 @@ pub fn read_and_grow(
         floats.new numbers.new result }
 {
     let places = net_node::places(floats.len(), numbers.len());
-    let reading = book_reader::read_book(book, places, reals.len(), cells, marks);
-    match reading {
-        Reading::Refused(k) => Err(refusal_of(k)),
-        Reading::Accepted(s, kept) => {
-            grow_book::grow_book(book, s, kept, floats, numbers, reals, cells, marks)
-        }
-    }
+    let accepted = book_reader::read_book(book, places, reals.len(), cells, marks)?;
+    grow_book::grow_book(
+        &accepted.book,
+        accepted.kept,
+        floats,
+        numbers,
+        reals,
+        cells,
+        marks,
+    )
 }
 
 // The departure of a book that was read.
@@ -93,7 +77,7 @@ fn build(
     let report = read_and_grow(book, floats, numbers, reals, cells, marks)?;
     let n = report.nodes;
     let flags = &mut cells[..n * 2];
-    space::clear_numbers(flags);
+    Zero::clear(flags);
     let departure = departure_of(book);
     pass_all::run_passes(floats, numbers, n, departure, reals, flags, marks)?;
     Ok(report)

@@ -13,14 +13,14 @@ ghost use Rattle.grow_rules.specs.Growth.{grow};
 ghost use Rattle.grow_state.specs.Held.{PlanIn, SomeDrive, lists_at_entry, lists_at_exit, lists};
 ghost use Rattle.grow_origins.specs.Origins.{OnlyStart};
 ghost use Rattle.net_node.specs.Lent.{table_at_entry, table_at_exit};
-ghost use Rattle.net_stack.specs.Openings.{stack_length};
 ghost use Rattle.grow_book.specs.Answers.{SomeClosing, GrownAs, Drives, Closes, GrowsFirst, NextRun, AtStart, FromOrigins};
 
-use book_format::Sections;
+use book_format::ReadableBook;
 use grow_events::Counts;
 use grow_state::{Front, Plan, Rest, State};
 use net_event_map::Layout;
-use net_insertion::Place;
+use net_join_paths::JoinPaths;
+use net_stack::Stack;
 use refusals::Refusal;
 use report::Report;
 
@@ -29,13 +29,12 @@ use report::Report;
 fn next_run(
     reals: &[f64],
     cells: &[u32],
-    joins: &mut [u32],
+    joins: &mut JoinPaths,
     p: Plan,
     g: State,
 ) -> Option<(Rest, Front)>
-    requires some_drive { SomeDrive p reals.now cells.now joins.old g }
-    requires in_bounds { 2048 ≤ length joins.old }
-    ensures { NextRun p reals.now cells.now joins.old joins.new g result }
+    requires some_drive { SomeDrive p reals.now cells.now joins.old.items g }
+    ensures { NextRun p reals.now cells.now joins.old.items joins.new.items g result }
 {
     if let Some(front) = g.front {
         return Some((g.rest, front));
@@ -49,25 +48,22 @@ fn next_run(
 // All runs, a leg to a turn: "last saved run first". A leg is taken at most once, so as many turns as there are legs
 // are enough: no run is left then. What is counted of the network.
 fn drive(
-    book: &[u8],
+    book: &ReadableBook,
     floats: &mut [f64],
     numbers: &mut [u32],
     reals: &mut [f64],
     cells: &mut [u32],
     marks: &[u32],
-    joins: &mut [u32],
-    scratch: &mut [u32],
-    stack: &mut [u32],
+    joins: &mut JoinPaths,
+    scratch: &mut JoinPaths,
+    stack: &mut Stack,
     p: Plan,
     g: Rest,
 ) -> Result<Counts, Refusal>
     requires plan_in { PlanIn book.now p (length reals.old) }
     requires options_in { OptionsIn book.now marks.now }
     requires book_in_bounds { links book.now ≤ length marks.now }
-    requires from_origins { FromOrigins book.now p (lists floats.old numbers.old reals.old cells.old joins.old) g }
-    requires in_bounds { 2048 ≤ length joins.old }
-    requires in_bounds_2 { 2048 ≤ length scratch.old }
-    requires stack_length_in_bounds { stack_length ≤ length stack.old }
+    requires from_origins { FromOrigins book.now p (lists floats.old numbers.old reals.old cells.old joins.old.items) g }
     ensures { Drives book.now p g (lists_at_entry floats numbers reals cells joins)
         (lists_at_exit floats numbers reals cells joins) result }
 {
@@ -75,7 +71,7 @@ fn drive(
         rest: g,
         front: None,
     };
-    for _ in 0..p.s.legs {
+    for _ in 0..book.book().legs() {
         let next = next_run(reals, cells, joins, p, state);
         let Some((rest, front)) = next else {
             return Ok(state.rest.counts);
@@ -119,15 +115,15 @@ fn close(
 
 // All runs of a book whose first nodes are made, from its origins on, then the ends.
 fn run_all(
-    book: &[u8],
+    book: &ReadableBook,
     floats: &mut [f64],
     numbers: &mut [u32],
     reals: &mut [f64],
     cells: &mut [u32],
     marks: &[u32],
-    joins: &mut [u32],
-    scratch: &mut [u32],
-    stack: &mut [u32],
+    joins: &mut JoinPaths,
+    scratch: &mut JoinPaths,
+    stack: &mut Stack,
     kept: usize,
     p: Plan,
 ) -> Result<Report, Refusal>
@@ -135,12 +131,9 @@ fn run_all(
     requires options_in { OptionsIn book.now marks.now }
     requires book_in_bounds { search_room book.now ≤ length marks.now }
     requires kept_value { kept ≡ length (kept_origins book.now) }
-    requires at_start { AtStart book.now p (lists floats.old numbers.old reals.old cells.old joins.old) }
+    requires at_start { AtStart book.now p (lists floats.old numbers.old reals.old cells.old joins.old.items) }
     requires only_start { OnlyStart (node_at floats.old numbers.old) 2 }
     requires started { Started book.now marks.now }
-    requires in_bounds { 2048 ≤ length joins.old }
-    requires in_bounds_2 { 2048 ≤ length scratch.old }
-    requires stack_length_in_bounds { stack_length ≤ length stack.old }
     ensures { GrowsFirst book.now p (lists_at_entry floats numbers reals cells joins)
         (table_at_exit floats numbers) result }
 {
@@ -156,8 +149,7 @@ fn run_all(
 
 // Grows the network of a book that was read, in a table and work space that are lent: the report's counts.
 pub fn grow_book(
-    book: &[u8],
-    s: Sections,
+    book: &ReadableBook,
     kept: usize,
     floats: &mut [f64],
     numbers: &mut [u32],
@@ -165,7 +157,7 @@ pub fn grow_book(
     cells: &mut [u32],
     marks: &[u32],
 ) -> Result<Report, Refusal>
-    requires ready { Ready book.now s kept cells.old marks.now }
+    requires ready { Ready book.now kept cells.old marks.now }
     requires book_in_bounds { legs book.now * 3 + 4 ≤ length reals.old }
     requires book_in_bounds_2 { (legs book.now + 1 + places_of (length floats.old) (length numbers.old) + links book.now) * 8 ≤
         length cells.old }
@@ -178,12 +170,12 @@ pub fn grow_book(
     if places < 2 {
         return Err(Refusal::NoPlace);
     }
-    let p = grow_origins::plan_of(book, s, places);
+    let p = grow_origins::plan_of(book, places);
     grow_ends::first_nodes(floats, numbers, p.departure);
     grow_path::start_path(reals);
-    let mut joins = [0u32; 2048];
-    let mut scratch = [0u32; 2048];
-    let mut stack = [0u32; 4608];
+    let mut joins = JoinPaths::new();
+    let mut scratch = JoinPaths::new();
+    let mut stack = Stack::new();
     run_all(
         book,
         floats,
