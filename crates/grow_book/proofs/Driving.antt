@@ -5,6 +5,7 @@ use Prim.Native.Nat.{ℕ, zero, suc, ◌+◌, ◌-◌, ◌≤◌, ◌<◌}
 use native.Mathlib.Omega.{arith}
 use lib.ListN.{length}
 use lib.Ieee.{Float}
+use Rattle.net_join_paths.specs.declared.EstJoinPath.{EstJoinPath}
 use Rattle.std.specs.Prelude.{Option, Some, None, Result, Ok, Err}
 use Rattle.refusals.specs.declared.Refusal.{Refusal}
 use Rattle.refusals.specs.Refusals.{refusal_number}
@@ -70,11 +71,11 @@ all_none {b} {p} {s} g {runs' = runs'} d d' = go g.front d.waiting d'.waiting
 
 -- ---- the run that is next
 
-module _ {p : Plan} {reals : List Float} {cells joins : List ℕ} (g : State) where
+module _ {p : Plan} {reals : List Float} {cells : List ℕ} {joins : List EstJoinPath} (g : State) where
   pub front_next : (f : Front) → g.front ≡ Some f → SameDrive p reals cells joins joins g (with_front g.rest f)
   front_next f e b fs us path net runs d = subst (λ (x : Option Front). DriveIn b p (lists fs us reals cells joins) path (record { rest = g.rest; front = x }) net runs) e d
 
-  pub none_next : g.front ≡ None → g.rest.top ≡ 0 → (joins' : List ℕ) → NextRun p reals cells joins joins' g None
+  pub none_next : g.front ≡ None → g.rest.top ≡ 0 → (joins' : List EstJoinPath) → NextRun p reals cells joins joins' g None
   none_next e z joins' b fs us path net runs d = wait_none (idle_drive e b fs us path net runs d).waiting z
     where
       idle_drive : g.front ≡ None → (b : List ℕ) (fs : List Float) (us path : List ℕ) (net : Net) (runs : List Run) → DriveIn b p (lists fs us reals cells joins) path g net runs → DriveIn b p (lists fs us reals cells joins) path (idle g.rest) net runs
@@ -83,12 +84,12 @@ module _ {p : Plan} {reals : List Float} {cells joins : List ℕ} (g : State) wh
   pub idle_same : g.front ≡ None → SomeDrive p reals cells joins g → SomeDrive p reals cells joins (idle g.rest)
   idle_same e s = subst (λ (x : Option Front). SomeDrive p reals cells joins (record { rest = g.rest; front = x })) e s
 
-  pub up_next : g.front ≡ None → (joins' : List ℕ) (h : State) → SameDrive p reals cells joins joins' (idle g.rest) h → SameDrive p reals cells joins joins' g h
+  pub up_next : g.front ≡ None → (joins' : List EstJoinPath) (h : State) → SameDrive p reals cells joins joins' (idle g.rest) h → SameDrive p reals cells joins joins' g h
   up_next e joins' h f b fs us path net runs d = f b fs us path net runs (subst (λ (x : Option Front). DriveIn b p (lists fs us reals cells joins) path (record { rest = g.rest; front = x }) net runs) e d)
 
 -- ---- one turn
 
-module _ (b : List ℕ) (p : Plan) (fs : List Float) (us : List ℕ) (reals : List Float) (cells joins : List ℕ) (g : Rest) (front : Front) (fs' : List Float) (us' : List ℕ) (reals' : List Float) (cells' joins' : List ℕ) (t : Result State Refusal)
+module _ (b : List ℕ) (p : Plan) (fs : List Float) (us : List ℕ) (reals : List Float) (cells : List ℕ) (joins : List EstJoinPath) (g : Rest) (front : Front) (fs' : List Float) (us' : List ℕ) (reals' : List Float) (cells' : List ℕ) (joins' : List EstJoinPath) (t : Result State Refusal)
     (told : TakesLeg b p g front (lists fs us reals cells joins) (lists fs' us' reals' cells' joins') t) where
   -- where one moves, there is one
   turn_as_lem : TakesNext b p (with_front g front) (lists fs us reals cells joins) (lists fs' us' reals' cells' joins') t
@@ -96,12 +97,12 @@ module _ (b : List ℕ) (p : Plan) (fs : List Float) (us : List ℕ) (reals : Li
   turn_as_lem path net (run ∷ saved) d = told path net run saved d
 
 -- the run that was saved last is taken up first
-module _ (b : List ℕ) (p : Plan) (fs : List Float) (us : List ℕ) (reals : List Float) (cells joins joins' : List ℕ) (g : State) (h : Rest) (front : Front)
+module _ (b : List ℕ) (p : Plan) (fs : List Float) (us : List ℕ) (reals : List Float) (cells : List ℕ) (joins joins' : List EstJoinPath) (g : State) (h : Rest) (front : Front)
     (held : SameDrive p reals cells joins joins' g (with_front h front)) where
   pub up_driving : Driving b p (lists fs us reals cells joins) g → Driving b p (lists fs us reals cells joins') (with_front h front)
   up_driving s = record { path = s.path; net = s.net; runs = s.runs; holds = held b fs us s.path s.net s.runs s.holds }
 
-  pub up_turn_as : (fs' : List Float) (us' : List ℕ) (reals' : List Float) (cells' joins'' : List ℕ) (t : Result State Refusal)
+  pub up_turn_as : (fs' : List Float) (us' : List ℕ) (reals' : List Float) (cells' : List ℕ) (joins'' : List EstJoinPath) (t : Result State Refusal)
       → (TakesLeg b p h front (lists fs us reals cells joins') (lists fs' us' reals' cells' joins'') t)
       → TakesNext b p g (lists fs us reals cells joins) (lists fs' us' reals' cells' joins'') t
   up_turn_as fs' us' reals' cells' joins'' t told path net runs d = turn_as_lem b p fs us reals cells joins' h front fs' us' reals' cells' joins'' t told path net runs (held b fs us path net runs d)
@@ -109,7 +110,7 @@ module _ (b : List ℕ) (p : Plan) (fs : List Float) (us : List ℕ) (reals : Li
 -- ---- the loop
 
 -- what is left gives what the whole gives
-pub record Goes (b : List ℕ) (p : Plan) (fs : List Float) (us : List ℕ) (reals : List Float) (cells joins : List ℕ) (g : State) (n : ℕ) (answer : Answer Net) : Type 0 where
+pub record Goes (b : List ℕ) (p : Plan) (fs : List Float) (us : List ℕ) (reals : List Float) (cells : List ℕ) (joins : List EstJoinPath) (g : State) (n : ℕ) (answer : Answer Net) : Type 0 where
   pub path : List ℕ
   pub net : Net
   pub runs : List Run
@@ -132,40 +133,31 @@ origins_light {b} {p} {s} {g} v =
     holds_given (Ready b p.w.places) (grow_origins b p.w.places (kept_origins b) (record { net = first_nodes b v.table; saved = [] })) v.growth (origins_ready v.read p.w.places v.table v.room v.more) v.grown in
     record { path = v.path; net = v.growth.net; runs = v.growth.saved; holds = v.holds; driven = r.driven; legs_in = r.legs_in; light = r.light }
 
-pub record Turning (b : List ℕ) (p : Plan) (fs₀ : List Float) (us₀ : List ℕ) (reals₀ : List Float) (cells₀ joins₀ scratch₀ stack₀ : List ℕ) (g₀ : Rest) (fs : List Float) (us : List ℕ) (reals : List Float) (cells joins scratch stack : List ℕ) (g : State) (k : ℕ) : Type 0 where
+pub record Turning (b : List ℕ) (p : Plan) (fs₀ : List Float) (us₀ : List ℕ) (reals₀ : List Float) (cells₀ : List ℕ) (joins₀ : List EstJoinPath) (g₀ : Rest) (fs : List Float) (us : List ℕ) (reals : List Float) (cells : List ℕ) (joins : List EstJoinPath) (g : State) (k : ℕ) : Type 0 where
   pub within : k ≤ legs b
   pub floats : length fs ≡ length fs₀
   pub numbers : length us ≡ length us₀
   pub reals_long : length reals ≡ length reals₀
   pub cells_long : length cells ≡ length cells₀
-  pub joins_long : length joins ≡ length joins₀
-  pub scratch_long : length scratch ≡ length scratch₀
-  pub stack_long : length stack ≡ length stack₀
   pub goes : (path : List ℕ) (net : Net) (runs : List Run) → DriveIn b p (lists fs₀ us₀ reals₀ cells₀ joins₀) path (idle g₀) net runs → Goes b p fs us reals cells joins g (legs b - k) (drive (legs b) b p.w.places net runs)
   pub light : Light b p (lists fs us reals cells joins) g (legs b - k)
 
-pub turning_start : (b : List ℕ) (p : Plan) (fs : List Float) (us : List ℕ) (reals : List Float) (cells joins scratch stack : List ℕ) (g : Rest) → FromOrigins b p (lists fs us reals cells joins) g → Turning b p fs us reals cells joins scratch stack g fs us reals cells joins scratch stack (idle g) 0
-turning_start b p fs us reals cells joins scratch stack g v = record {
+pub turning_start : (b : List ℕ) (p : Plan) (fs : List Float) (us : List ℕ) (reals : List Float) (cells : List ℕ) (joins : List EstJoinPath) (g : Rest) → FromOrigins b p (lists fs us reals cells joins) g → Turning b p fs us reals cells joins g fs us reals cells joins (idle g) 0
+turning_start b p fs us reals cells joins g v = record {
   within = omega arith;
   floats = refl;
   numbers = refl;
   reals_long = refl;
   cells_long = refl;
-  joins_long = refl;
-  scratch_long = refl;
-  stack_long = refl;
   goes = λ path net runs d. let e : legs b ≡ legs b - 0 = omega arith in record { path = path; net = net; runs = runs; holds = d; same = ap (λ (n : ℕ). drive n b p.w.places net runs) e };
   light = let e : legs b ≡ legs b - 0 = omega arith in subst (Light b p (lists fs us reals cells joins) (idle g)) e (origins_light v);
 }
 
-pub legs_left : {b : List ℕ} {p : Plan} {n : ℕ} → PlanIn b p n → (k : ℕ) → k < p.s.legs → (k < legs b) × (k < 65535)
-legs_left {b} plan k h = let e = sized_legs plan.readable.sized in (omega (arith, e), omega (arith, e, (limits b plan.readable.counted.counts).legs_most))
+pub legs_left : {b : List ℕ} {p : Plan} {n : ℕ} → PlanIn b p n → (k : ℕ) → k < legs b → k < 65535
+legs_left {b} plan k h = omega (arith, (limits b plan.readable.counted.counts).legs_most)
 
-pub legs_over : {b : List ℕ} {p : Plan} {n : ℕ} → PlanIn b p n → (k : ℕ) → p.s.legs ≤ k → legs b ≤ k
-legs_over plan k h = omega (arith, sized_legs plan.readable.sized)
-
-module _ (b : List ℕ) (p : Plan) (fs₀ : List Float) (us₀ : List ℕ) (reals₀ : List Float) (cells₀ joins₀ scratch₀ stack₀ : List ℕ) (g₀ : Rest) (fs : List Float) (us : List ℕ) (reals : List Float) (cells joins scratch stack : List ℕ) (g : State) (k : ℕ)
-    (v : Turning b p fs₀ us₀ reals₀ cells₀ joins₀ scratch₀ stack₀ g₀ fs us reals cells joins scratch stack g k) where
+module _ (b : List ℕ) (p : Plan) (fs₀ : List Float) (us₀ : List ℕ) (reals₀ : List Float) (cells₀ : List ℕ) (joins₀ : List EstJoinPath) (g₀ : Rest) (fs : List Float) (us : List ℕ) (reals : List Float) (cells : List ℕ) (joins : List EstJoinPath) (g : State) (k : ℕ)
+    (v : Turning b p fs₀ us₀ reals₀ cells₀ joins₀ g₀ fs us reals cells joins g k) where
   pub turning_plan : PlanIn b p (length reals₀) → PlanIn b p (length reals)
   turning_plan plan = subst (PlanIn b p) (sym v.reals_long) plan
 
@@ -173,7 +165,7 @@ module _ (b : List ℕ) (p : Plan) (fs₀ : List Float) (us₀ : List ℕ) (real
   turning_some = record { path = v.light.path; net = v.light.net; runs = v.light.runs; holds = v.light.holds }
 
   -- where a run is next, one is left
-  pub next_some : (h : Rest) (front : Front) (joins' : List ℕ) → SameDrive p reals cells joins joins' g (with_front h front) → v.light.runs ≡ [] → ⊥
+  pub next_some : (h : Rest) (front : Front) (joins' : List EstJoinPath) → SameDrive p reals cells joins joins' g (with_front h front) → v.light.runs ≡ [] → ⊥
   next_some h front joins' held e = go v.light.runs e (held b fs us v.light.path v.light.net v.light.runs v.light.holds)
     where
       go : (runs : List Run) → runs ≡ [] → DriveIn b p (lists fs us reals cells joins') v.light.path (with_front h front) v.light.net runs → ⊥
@@ -187,7 +179,7 @@ module _ (b : List ℕ) (p : Plan) (fs₀ : List Float) (us₀ : List ℕ) (real
       let x = v.goes path net runs d in
       record { net = x.net; is = x.same ∙ ap (drive (legs b - k) b p.w.places x.net) (none x.path x.net x.runs x.holds) ∙ drive_none (legs b - k) b p.w.places x.net; holds = x.holds.grown }
 
-  pub turning_done : (joins' : List ℕ) → NextRun p reals cells joins joins' g None → (joins'' : List ℕ) → Drives b p g₀ (lists fs₀ us₀ reals₀ cells₀ joins₀) (lists fs us reals cells joins'') (Ok g.rest.counts)
+  pub turning_done : (joins' : List EstJoinPath) → NextRun p reals cells joins joins' g None → (joins'' : List EstJoinPath) → Drives b p g₀ (lists fs₀ us₀ reals₀ cells₀ joins₀) (lists fs us reals cells joins'') (Ok g.rest.counts)
   turning_done joins' f joins'' path net runs d = ended path net runs (λ path net runs h. f b fs us path net runs h) d
 
   -- each leg had its turn
@@ -196,7 +188,7 @@ module _ (b : List ℕ) (p : Plan) (fs₀ : List Float) (us₀ : List ℕ) (real
       let e : v.light.runs ≡ [] = nobody r v.light.runs v.light.legs_in (omega (arith, v.light.light)) in
       ended path net runs (λ path net runs a. all_none g (subst (DriveIn b p (lists fs us reals cells joins) v.light.path g v.light.net) e v.light.holds) a) d
 
-  module _ (h : k < legs b) (fs' : List Float) (us' : List ℕ) (reals' : List Float) (cells' joins' : List ℕ) (t : Result State Refusal)
+  module _ (h : k < legs b) (fs' : List Float) (us' : List ℕ) (reals' : List Float) (cells' : List ℕ) (joins' : List EstJoinPath) (t : Result State Refusal)
       (told : TakesNext b p g (lists fs us reals cells joins) (lists fs' us' reals' cells' joins') t) where
     unfolds : {answer : Answer Net} → (x : Goes b p fs us reals cells joins g (legs b - k) answer) → answer ≡ and_then (next_turn b p.w.places x.net x.runs) (λ (y : Growth). drive (legs b - (k + 1)) b p.w.places y.net y.saved)
     unfolds x =
@@ -220,17 +212,14 @@ module _ (b : List ℕ) (p : Plan) (fs₀ : List Float) (us₀ : List ℕ) (real
             let l : Turned r p.w.places run saved q.growth = holds_given (Turned r p.w.places run saved) (take_leg b p.w.places v.light.net run saved) q.growth (takes_leg r dr li) q.is in
             record { path = q.path; net = q.growth.net; runs = q.growth.saved; holds = q.holds; driven = l.driven; legs_in = l.legs_in; light = let m = l.less in omega arith }
 
-    pub turning_on : Read b → (v.light.runs ≡ [] → ⊥) → (g' : State) → t ≡ Ok g' → (scratch' stack' : List ℕ) → length fs' ≡ length fs → length us' ≡ length us → length reals' ≡ length reals → length cells' ≡ length cells → length joins' ≡ length joins → length scratch' ≡ length scratch → length stack' ≡ length stack
-        → Turning b p fs₀ us₀ reals₀ cells₀ joins₀ scratch₀ stack₀ g₀ fs' us' reals' cells' joins' scratch' stack' g' (k + 1)
-    turning_on read some g' e scratch' stack' lf lu lr lc lj ls lt = record {
+    pub turning_on : Read b → (v.light.runs ≡ [] → ⊥) → (g' : State) → t ≡ Ok g' → length fs' ≡ length fs → length us' ≡ length us → length reals' ≡ length reals → length cells' ≡ length cells
+        → Turning b p fs₀ us₀ reals₀ cells₀ joins₀ g₀ fs' us' reals' cells' joins' g' (k + 1)
+    turning_on read some g' e lf lu lr lc = record {
       within = omega arith;
       floats = lf ∙ v.floats;
       numbers = lu ∙ v.numbers;
       reals_long = lr ∙ v.reals_long;
       cells_long = lc ∙ v.cells_long;
-      joins_long = lj ∙ v.joins_long;
-      scratch_long = ls ∙ v.scratch_long;
-      stack_long = lt ∙ v.stack_long;
       goes = λ path net runs d.
           let x = v.goes path net runs d in
           let q : GivesAs (next_turn b p.w.places x.net x.runs) b p (lists fs' us' reals' cells' joins') g' = subst (TurnedAs (next_turn b p.w.places x.net x.runs) b p (lists fs' us' reals' cells' joins')) e (told x.path x.net x.runs x.holds) in

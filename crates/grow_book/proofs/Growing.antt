@@ -9,9 +9,9 @@ use borrow.Author.Tests.{lt-ltb, le-ltb}
 use lib.Dec.{ltb}
 use lib.ListN.{length, get_or}
 use lib.Ieee.{Float, binary64, of_bits, nan}
+use Rattle.net_join_paths.specs.declared.EstJoinPath.{EstJoinPath}
 use Rattle.net_node.specs.Left.{places_of}
 use Rattle.laws.specs.Answer.{Answer, refused, and_then}
-use Rattle.book_format.specs.declared.Sections.{Sections}
 use Rattle.book_format.specs.Format.{links, legs}
 use Rattle.book_options.specs.Options.{kept_origins}
 use Rattle.book_reader.specs.Reader.{Ready}
@@ -60,7 +60,7 @@ pub all_start : (fs : List Float) (us : List ℕ) (g : Rest) → g ≡ start_sta
 unfolding start_state
 all_start fs us g first s = subst (λ (x : Rest). OnlyStart (node_at fs us) x.counts.nodes) (sym first) s
 
-module _ (b : List ℕ) (p : Plan) (fs : List Float) (us : List ℕ) (reals : List Float) (cells joins : List ℕ) (g : Rest) (first : g ≡ start_state) where
+module _ (b : List ℕ) (p : Plan) (fs : List Float) (us : List ℕ) (reals : List Float) (cells : List ℕ) (joins : List EstJoinPath) (g : Rest) (first : g ≡ start_state) where
   pub all_some : AtStart b p (lists fs us reals cells joins) → SomeOrigins b p (lists fs us reals cells joins) (kept_origins b) g
   all_some s = subst (SomeOrigins b p (lists fs us reals cells joins) (kept_origins b)) (sym first) (record { net = first_nodes b s.table; runs = []; origins = s.origins })
 
@@ -168,7 +168,7 @@ book_start fs us places e h time fs' us' df du =
     ∙ node_one (table_of fs us) time places (record { floats = f.floats_fit; numbers = f.numbers_fit; most = f.most }) (omega arith) in
     record { two = refl; no_next = ap (λ (x : EstTime). x.idx_next) one; no_alt = ap (λ (x : EstTime). x.idx_next_alt) one }
 
-module _ {b : List ℕ} {s : Sections} {kept : ℕ} {cells marks : List ℕ} (ready : Ready b s kept cells marks) (p : Plan) (reals : List Float) (plan : PlanIn b p (length reals)) (at_zero : get_or reals 0 nan ≡ of_bits binary64 0)
+module _ {b : List ℕ} {kept : ℕ} {cells marks : List ℕ} (ready : Ready b kept cells marks) (p : Plan) (reals : List Float) (plan : PlanIn b p (length reals)) (at_zero : get_or reals 0 nan ≡ of_bits binary64 0)
     (fs : List Float) (us : List ℕ) (room : Room fs us p.w.places) (some : 1 < p.w.places) (behind : p.w.links_at ≡ (legs b + 1) * 8 + p.w.places * 8) (long : (legs b + 1 + p.w.places + links b) * 8 ≤ length cells) where
   t : Table
   t = record { floats = fs; numbers = us }
@@ -195,7 +195,7 @@ module _ {b : List ℕ} {s : Sections} {kept : ℕ} {cells marks : List ℕ} (re
     elsewhere = λ q h f. refl;
   }
 
-  start_origins : (joins : List ℕ) → OriginsIn b p (lists (first_table t p.departure).floats (first_table t p.departure).numbers reals cells joins) (kept_origins b) start_state (first_nodes b t) []
+  start_origins : (joins : List EstJoinPath) → OriginsIn b p (lists (first_table t p.departure).floats (first_table t p.departure).numbers reals cells joins) (kept_origins b) start_state (first_nodes b t) []
   unfolding start_state
   start_origins joins = record {
     holds = record {
@@ -211,7 +211,7 @@ module _ {b : List ℕ} {s : Sections} {kept : ℕ} {cells marks : List ℕ} (re
     firsts = tt;
   }
 
-  first_origins : (fs' : List Float) (us' : List ℕ) → fs' ≡ (first_table (table_of fs us) p.departure).floats → us' ≡ (first_table (table_of fs us) p.departure).numbers → (joins : List ℕ)
+  first_origins : (fs' : List Float) (us' : List ℕ) → fs' ≡ (first_table (table_of fs us) p.departure).floats → us' ≡ (first_table (table_of fs us) p.departure).numbers → (joins : List EstJoinPath)
       → OriginsIn b p (lists fs' us' reals cells joins) (kept_origins b) start_state (first_nodes b (table_of fs us)) []
   unfolding t
   first_origins fs' us' df du joins =
@@ -219,10 +219,10 @@ module _ {b : List ℕ} {s : Sections} {kept : ℕ} {cells marks : List ℕ} (re
       (subst (λ (x : List ℕ). OriginsIn b p (lists (first_table (table_of fs us) p.departure).floats x reals cells joins) (kept_origins b) start_state (first_nodes b (table_of fs us)) []) (sym du) (start_origins joins))
 
 -- the same by what `grow_book` asks and its parts tell
-module _ {b : List ℕ} {s : Sections} {kept : ℕ} {cells marks : List ℕ} (ready : Ready b s kept cells marks) (p : Plan) (reals : List Float) (plan : PlanIn b p (length reals)) (at_zero : get_or reals 0 nan ≡ of_bits binary64 0)
+module _ {b : List ℕ} {kept : ℕ} {cells marks : List ℕ} (ready : Ready b kept cells marks) (p : Plan) (reals : List Float) (plan : PlanIn b p (length reals)) (at_zero : get_or reals 0 nan ≡ of_bits binary64 0)
     (fs : List Float) (us : List ℕ) (places : ℕ) (are : places ≡ places_of (length fs) (length us)) (planned : p.w.places ≡ places) (some : 2 ≤ places) (behind : p.w.links_at ≡ (legs b + 1) * 8 + places * 8)
     (long : (legs b + 1 + places_of (length fs) (length us) + links b) * 8 ≤ length cells) (fs' : List Float) (us' : List ℕ) (df : fs' ≡ (first_table (table_of fs us) p.departure).floats)
-    (du : us' ≡ (first_table (table_of fs us) p.departure).numbers) (joins : List ℕ) where
+    (du : us' ≡ (first_table (table_of fs us) p.departure).numbers) (joins : List EstJoinPath) where
   book_origins : OriginsIn b p (lists fs' us' reals cells joins) (kept_origins b) start_state (first_nodes b (table_of fs us)) []
   book_origins =
       first_origins ready p reals plan at_zero fs us (let f = places_fit (planned ∙ are) in record { floats = f.floats_fit; numbers = f.numbers_fit; most = f.most }) (omega (arith, planned)) (omega (arith, behind, planned)) (omega (arith, long, planned, are)) fs' us' df du joins

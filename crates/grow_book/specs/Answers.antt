@@ -20,6 +20,7 @@ use Rattle.report.specs.declared.Report.{Report}
 use Rattle.net_node.specs.Table.{Room, Table}
 use Rattle.grow_state.specs.Held.{Lists, lists, DriveIn, TurnedAs, SameDrive, idle, with_front}
 use Rattle.arcs_growth.specs.Read.{Read}
+use Rattle.net_join_paths.specs.declared.EstJoinPath.{EstJoinPath}
 use Rattle.grow_origins.specs.Origins.{OriginsIn, start_state}
 
 -- ---- all runs
@@ -30,7 +31,7 @@ next_turn b places net [] = given (record { net = net; saved = [] })
 next_turn b places net (run ∷ saved) = take_leg b places net run saved
 
 -- the run that takes its leg next is at the front of the same network and runs; or no run is left
-abbrev pub NextRun : Plan → List Float → List ℕ → List ℕ → List ℕ → State → Option (Rest × Front) → Type 0
+abbrev pub NextRun : Plan → List Float → List ℕ → List EstJoinPath → List EstJoinPath → State → Option (Rest × Front) → Type 0
 NextRun p reals cells joins joins' g None =
     (b : List ℕ) (fs : List Float) (us path : List ℕ) (net : Net) (runs : List Run)
     → DriveIn b p (lists fs us reals cells joins) path g net runs → runs ≡ []

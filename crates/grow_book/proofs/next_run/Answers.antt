@@ -7,13 +7,12 @@ pub returns-in-Some : goal.returns-in-Some
 returns-in-Some c = front_next _ _ c.in-Some.is
 
 pub returns-then-g-eq0 : goal.returns-then-g-eq0
-returns-then-g-eq0 c = none_next _ c.in_default.is c.if-g-eq0.true c.args.joins.now
+returns-then-g-eq0 c = none_next _ c.in_default.is c.if-g-eq0.true c.args.joins.now.items
 
 pub take_up-requires : goal.take_up-requires
 take_up-requires c = record {
   some_drive = idle_same _ c.in_default.is c.requires.some_drive;
   top_nonzero = omega arith;
-  in_bounds = c.requires.in_bounds;
 }
 
 pub returns : goal.returns

@@ -29,9 +29,6 @@ drive-requires c =
       options_in = r.options_in;
       book_in_bounds = omega (arith, r.book_in_bounds);
       from_origins = all_from _ _ _ _ _ _ _ _ c.first_state-g.ensures _ _ _ _ o.result o.ensures _ c.in_ok-rest.was r.at_start;
-      in_bounds = r.in_bounds;
-      in_bounds_2 = r.in_bounds_2;
-      stack_length_in_bounds = r.stack_length_in_bounds;
     }
 
 pub returns-in_err-counts : goal.returns-in_err-counts
