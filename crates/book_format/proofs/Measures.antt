@@ -8,7 +8,7 @@ use native.Mathlib.Omega.{arith}
 use borrow.Author.Tests.{ltb-false, lt-ltb, le-ltb}
 use lib.ListN.{length}
 use Rattle.fields.specs.Fields.{u32_at}
-use Rattle.laws.specs.Answer.{Answer, refused, given}
+use Rattle.laws.specs.Answer.{refused, given}
 use Rattle.book_format.specs.Format.{Sized, sections_of, link_width, origin_width, destination_width, leg_width, sample_width, links, origins, destinations, legs, samples, links_at_of, origins_at_of, destinations_at_of, legs_at_of, samples_at_of, end_of}
 use Rattle.book_format.specs.Rows.{row1, row2, measured_of}
 use Rattle.book_format.proofs.Places.{follow}
@@ -123,24 +123,6 @@ module _ (b : List ℕ) {l : ℕ} (read₁ : l ≡ u32_at b 24) where
           sized-samples h i = record { is = sections-are; whole = omega (arith, next₅) }
 
 -- ---- what each answer says
-
-pub measured_short : (b : List ℕ) → measured_of b ≡ refused 1 → row1 b ≡ true
-unfolding measured_of
-measured_short b e = go (row1 b) (row2 b) e
-  where
-    go : (p q : Bool) → cond {A = Answer (List ℕ)} p (refused 1) (cond q (refused 2) (given b)) ≡ refused 1 → p ≡ true
-    go true q e = refl
-    go false true e = cc
-    go false false e = cc
-
-pub measured_long : (b : List ℕ) → measured_of b ≡ refused 2 → (row1 b ≡ false) × (row2 b ≡ true)
-unfolding measured_of
-measured_long b e = go (row1 b) (row2 b) e
-  where
-    go : (p q : Bool) → cond {A = Answer (List ℕ)} p (refused 1) (cond q (refused 2) (given b)) ≡ refused 2 → (p ≡ false) × (q ≡ true)
-    go true q e = let o : ◌≡◌ {A = ℕ} 1 2 = cc in absurd (omega arith)
-    go false true e = (refl, refl)
-    go false false e = (refl, cc)
 
 pub measured_whole : (b c : List ℕ) → measured_of b ≡ given c → (row1 b ≡ false) × (row2 b ≡ false) × (c ≡ b)
 unfolding measured_of

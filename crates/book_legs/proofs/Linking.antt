@@ -10,7 +10,6 @@ use Rattle.laws.specs.Below.{some_below, sum_below}
 use Rattle.laws.proofs.Below.{none_more, some_at}
 use Rattle.laws.proofs.Truth.{or_left, or_right, none_left, none_right, neither}
 use Rattle.space.specs.Space.{zeros}
-use Rattle.space.proofs.Zeros.{zeros_length}
 use Rattle.book_format.specs.declared.Leg.{Leg}
 use Rattle.book_format.specs.Format.{legs, leg_parent, first_sample, leg_at}
 use Rattle.book_format.specs.Rows.{leg_falls, leg_begins}
@@ -18,7 +17,7 @@ use Rattle.book_format.specs.Chains.{with_leg, linked, all_linked, Readable}
 use Rattle.book_format.proofs.Given.{leg_parent_lem, leg_samples_lem}
 use Rattle.book_legs.specs.Legs.{samples_fail}
 use Rattle.book_legs.proofs.Counts.{leg_in_lem, first_next}
-use Rattle.book_legs.proofs.Chains.{Room, linked_length, linked_ends}
+use Rattle.book_legs.proofs.Chains.{Room, linked_ends}
 
 pub record Linking (b : List ℕ) (len : ℕ) (cells : List ℕ) (i first : ℕ) : Type 0 where
   pub is : cells ≡ linked b i (zeros len)
@@ -30,9 +29,6 @@ pub record Linking (b : List ℕ) (len : ℕ) (cells : List ℕ) (i first : ℕ)
 pub linking_start : (b : List ℕ) (cells : List ℕ) → cells ≡ zeros (length cells) → Linking b (length cells) cells 0 0
 unfolding linked some_below first_sample sum_below
 linking_start b cells z = record { is = z; begun = refl; falls = refl; begins = refl; within = omega arith }
-
-pub linking_length : {b : List ℕ} {len : ℕ} {cells : List ℕ} {i first : ℕ} → Linking b len cells i first → length cells ≡ len
-linking_length {b} {len} {cells} {i} l = ap length l.is ∙ linked_length b i (zeros len) ∙ zeros_length len
 
 pub room_of : {b : List ℕ} → Readable b → (len : ℕ) → (legs b + 1) * 8 ≤ len → Room b len
 room_of r len h = record { room = h; parents = λ i g. (leg_in_lem r i g).parent }

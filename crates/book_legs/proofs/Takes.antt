@@ -2,7 +2,7 @@
 use mathlib.Core.Path.{◌≡◌, sym, ap, ◌∙◌, subst}
 use mathlib.Core.Bool.{Bool, true, false, ◌&&◌, cond}
 use mathlib.Core.List.{List}
-use Prim.Native.Nat.{ℕ, zero, suc, ◌+◌, ◌-◌, ◌*◌, ◌≤◌, ◌<◌}
+use Prim.Native.Nat.{ℕ, zero, suc, ◌+◌, ◌-◌, ◌*◌, ◌≤◌}
 use native.Mathlib.Nat.{le_refl}
 use native.Mathlib.Omega.{arith}
 use lib.Dec.{eqb}
@@ -10,9 +10,8 @@ use lib.ListN.{get_or}
 use Rattle.book_format.specs.Format.{legs, leg_link, leg_parent, first_sample}
 use Rattle.book_format.specs.Chains.{leg_below, Chained}
 use Rattle.book_legs.specs.declared.TakenLeg.{TakenLeg}
-use Rattle.std.proofs.Common.{Option, Some, None, Result, Ok, Err}
+use Rattle.std.proofs.Common.{Option, Result}
 use Rattle.refusals.specs.declared.Refusal.{Refusal}
-use Rattle.refusals.specs.declared.Refusal.TheVariants.{MissingLeg}
 use Rattle.book_legs.specs.Legs.{search_of, leg_search, taken_by, taken_leg, InCells}
 
 below_most : (b : List ℕ) (n p l : ℕ) → leg_below b n p l ≤ n
@@ -33,13 +32,6 @@ search_in {f} b p l n e h = subst (InCells n) (sym e) (go (leg_below b (legs b) 
     go zero m = tt
     go (suc k) m = (omega arith, omega arith)
 
--- what a search found, once its case is known
-pub found_told : {n j : ℕ} (f : Option ℕ) → InCells n f → f ≡ Some j → (0 < j) × (j * 8 + 8 ≤ n)
-found_told {n} f h e = subst (InCells n) e h
-
-pub taken_missing : (f : Option ℕ) (b : List ℕ) → f ≡ None → Err MissingLeg ≡ taken_by b f
-taken_missing f b e = ap (taken_by b) (sym e)
-
 -- the cells of a leg say where its samples stand
 pub leg_of : {t : TakenLeg} (b cells : List ℕ) (j : ℕ) → Chained b cells → j ≤ legs b → t ≡ record { number = j; first = get_or cells ((j - 1) * 8 + 2) 0; end = get_or cells (j * 8 + 2) 0 }
     → t ≡ record { number = j; first = first_sample b (j - 1); end = first_sample b j }
@@ -47,10 +39,6 @@ leg_of {t} b cells j c h q =
     let x : get_or cells ((j - 1) * 8 + 2) 0 ≡ first_sample b (j - 1) = c.ends (j - 1) (omega arith) in
     let y : get_or cells (j * 8 + 2) 0 ≡ first_sample b j = c.ends j h in
     q ∙ (λ i. record { number = j; first = x i; end = y i })
-
-pub taken_found : {t : TakenLeg} (f : Option ℕ) (b cells : List ℕ) (j : ℕ) → Chained b cells → InCells ((legs b + 1) * 8) f → f ≡ Some j
-    → t ≡ record { number = j; first = get_or cells ((j - 1) * 8 + 2) 0; end = get_or cells (j * 8 + 2) 0 } → Ok t ≡ taken_by b f
-taken_found {t} f b cells j c h d q = ap Ok (leg_of b cells j c (omega (arith, (found_told f h d).1)) q) ∙ ap (taken_by b) (sym d)
 
 -- what is taken of the search for a parent and a link
 pub taken_sought : {t : Result TakenLeg Refusal} (f : Option ℕ) (b : List ℕ) (p l : ℕ) → f ≡ leg_search b p l → (InCells ((legs b + 1) * 8) f → t ≡ taken_by b f) → t ≡ taken_leg b p l

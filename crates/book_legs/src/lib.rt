@@ -148,7 +148,9 @@ fn take_found(cells: &[u32], found: Option<u32>) -> Result<TakenLeg, Refusal>
     requires { InCells (length cells.now) found }
     ensures { TakenFrom cells.now found result }
 {
-    let number = found.ok_or(Refusal::MissingLeg)?;
+    let Some(number) = found else {
+        return Err(Refusal::MissingLeg);
+    };
     Ok(leg_samples(cells, number))
 }
 

@@ -1,29 +1,15 @@
--- Row 3: its parts by the sections, and the legs' pass.
+-- Row 3: the legs' pass.
 -- Assumes nothing.
 use mathlib.Core.Path.{◌≡◌, refl, sym}
-use mathlib.Core.Bool.{true, false, not, ◌||◌}
+use mathlib.Core.Bool.{false}
 use mathlib.Core.List.{List}
 use Prim.Native.Nat.{ℕ, ◌+◌, ◌*◌, ◌≤◌, ◌<◌}
 use native.Mathlib.Omega.{arith}
 use borrow.Author.Tests.{ne_eqb}
-use lib.Dec.{eqb, ltb}
+use lib.Dec.{eqb}
 use Rattle.laws.specs.Below.{some_below, sum_below}
 use Rattle.laws.proofs.Below.{none_more, sum_more}
-use Rattle.book_format.specs.Format.{legs, samples, leg_samples}
-use Rattle.book_format.specs.Rows.{bad_count, work_bytes, row3}
-
--- ---- row 3
-
-pub row_3_counts : (b : List ℕ) (places bytes : ℕ) → bad_count b ≡ true → row3 b places bytes ≡ true
-unfolding row3
-row_3_counts b places bytes e = rw e
-
-pub row_3_rest : (b : List ℕ) (places bytes : ℕ) → bad_count b ≡ false
-    → row3 b places bytes ≡ (some_below (legs b) (λ i. eqb (leg_samples b i) 0) || not (eqb (sum_below (legs b) (leg_samples b)) (samples b)) || ltb bytes (work_bytes b places))
-unfolding row3
-row_3_rest b places bytes e = rw e
-
--- ---- the legs' pass
+use Rattle.book_format.specs.Format.{leg_samples}
 
 -- what is known of the first i legs of b, each of which has a sample
 pub record Passed (b : List ℕ) (i sum : ℕ) : Type 0 where

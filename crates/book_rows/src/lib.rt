@@ -41,7 +41,6 @@ fn work_bytes(book: &Book, places: usize) -> usize
 }
 
 // How many samples all legs have, unless some leg has none.
-#[tactic(auto, using(crate::proofs::Counts::none_passed), unfolding(book_format::specs::Format::leg_at))]
 fn sample_sum(book: &Book) -> Option<usize>
     requires { legs book.now ≤ 65535 }
     ensures { result ≡ cond (some_below (legs book.now) (λ i. eqb (leg_samples book.now i) 0))

@@ -1,7 +1,9 @@
 -- What a book leaves whose reading is accepted: none of rows 1 to 8 holds, and the lent work space is enough for growth and for the passes.
 use mathlib.Core.Path.{◌≡◌, refl, sym, ap, ◌∙◌, subst}
-use mathlib.Core.Bool.{true, false, not, ◌||◌}
-use mathlib.Core.List.{List}
+use mathlib.Core.Bool.{Bool, true, false, not, ◌||◌, cond}
+use mathlib.Core.List.{List, [], ◌∷◌}
+use Rattle.laws.specs.Refusals.{Row, first_of}
+use Rattle.std.proofs.Common.{lit≤}
 use Prim.Native.Nat.{ℕ, ◌+◌, ◌*◌, ◌≤◌}
 use native.Mathlib.Omega.{arith}
 use borrow.Author.Tests.{not-false}
@@ -20,7 +22,7 @@ use Rattle.book_format.proofs.Theorems.{length_by_counts}
 use Rattle.book_options.specs.Options.{row8, search_room}
 use Rattle.book_reader.specs.declared.Reading.{Reading}
 use Rattle.book_reader.specs.declared.Reading.TheVariants.{Accepted, Refused}
-use Rattle.book_reader.specs.Reader.{read_rows, read_number, reading_number, Ready, ReadInto, BookRead}
+use Rattle.book_reader.specs.Reader.{rows_from4, read_rows, read_number, reading_number, Ready, ReadInto, BookRead}
 use Rattle.book_reader.proofs.Rooms.{enough}
 use Rattle.arcs_growth.specs.Read.{Read}
 use Rattle.arcs_growth.proofs.Books.{read_rows_lem}
@@ -121,6 +123,24 @@ module _ (b : List ℕ) (places bytes : ℕ) (cells marks : List ℕ) (r : Readi
 
   pub refused_some : {k : ℕ} → r ≡ Refused k → k ≡ 0 → ⊥
   refused_some e = subst (ReadInto b cells marks) e read.into
+
+-- its number is that of one of the rows 1 to 8
+at_most : ℕ → List Row → Type 0
+at_most m [] = Unit
+at_most m (r ∷ rows) = (r.number ≤ m) × at_most m rows
+
+first_most : (m : ℕ) (rows : List Row) → at_most m rows → first_of rows ≤ m
+unfolding first_of at_most
+first_most m [] h = omega arith
+first_most m (r ∷ rows) h = go r.holds (first_most m rows h.1)
+  where
+    go : (x : Bool) → first_of rows ≤ m → cond x r.number (first_of rows) ≤ m
+    go true k = h.0
+    go false k = k
+
+pub read_most : (b : List ℕ) (places bytes : ℕ) → read_number b places bytes ≤ 8
+unfolding read_number read_rows rows_from4 at_most
+read_most b places bytes = first_most 8 (read_rows b places bytes) (lit≤ tt, (lit≤ tt, (lit≤ tt, (lit≤ tt, (lit≤ tt, (lit≤ tt, (lit≤ tt, (lit≤ tt, tt))))))))
 
 -- the reader was told how many places there are
 pub read_as : {b : List ℕ} {places more bytes : ℕ} {cells lent marks : List ℕ} {r : Reading} → places ≡ more → BookRead b places bytes cells lent marks r → BookRead b more bytes cells lent marks r

@@ -13,7 +13,10 @@ use Rattle.grow_rules.specs.Growth.{Grown, departure}
 use Rattle.arcs_growth.proofs.OneGrowth.{one_growth}
 use Rattle.arcs_passes.proofs.Sheet.{SheetWell}
 use Rattle.arcs_passes.proofs.Finished.{sheet_well, lent_arcs, lent_many, lent_ends, lent_taken, lent_of_runs}
-use Rattle.est_times.specs.declared.Sheet.{Sheet}
+use Rattle.std.specs.Prelude.{Result, Ok, Err}
+use Rattle.report.specs.declared.Report.{Report}
+use Rattle.refusals.specs.declared.Refusal.{Refusal}
+use Rattle.refusals.specs.Refusals.{told}
 use Rattle.est_times.specs.Network.{zero_table, network}
 use Rattle.est_times.specs.Demand.{Noted, Demand}
 use Rattle.est_times.specs.Sheet.{Finished, job, report_of, DemandOf}
@@ -57,12 +60,16 @@ module _ (b : List ℕ) (z : Sizes) (f : Finished) (d : FinishedBy b (network b 
     ended = sheet.ended;
   }
 
-pub final_demand : (b : List ℕ) (z : Sizes) (built : Table) (r : Sheet) → BuiltAs (job b z) built r → length built.floats ≡ z.floats → length built.numbers ≡ z.numbers
+pub final_demand : (b : List ℕ) (z : Sizes) (built : Table) (r : Result Report Refusal) → BuiltAs (job b z) built r → length built.floats ≡ z.floats → length built.numbers ≡ z.numbers
     → (k : ℕ) → k ≡ sheet_nodes r → (t : Table) → t.floats ≡ floats_kept k built.floats (length built.floats) → t.numbers ≡ numbers_kept k built.numbers (length built.numbers) → DemandOf b t r
-final_demand b z built r told lf lu k e t p q = go (job b z) refl told
+final_demand b z built r made_as lf lu k e t p q = go (job b z) refl made_as
   where
     go : (j : Answer Finished) → job b z ≡ j → BuiltAs j built r → DemandOf b t r
-    go (refused x) d h = subst (DemandOf b t) (sym h.0) tt
+    go (refused x) d h = none r h
+      where
+        none : (y : Result Report Refusal) → told y ≡ refused x → DemandOf b t y
+        none (Ok y) q = absurd (cc)
+        none (Err y) q = tt
     go (given f) d h = subst (DemandOf b t) (sym h.0) (made b z f c t agree)
       where
         c : FinishedBy b (network b z) f

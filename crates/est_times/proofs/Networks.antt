@@ -13,7 +13,9 @@ use Rattle.book_reader.specs.Reader.{read_number}
 use Rattle.net_node.specs.Table.{Room}
 use Rattle.net_node.specs.Lent.{Sizes, places_in}
 use Rattle.grow_rules.specs.Growth.{Grown, grow}
-use Rattle.grow_book.specs.declared.GrownBook.{GrownBook}
+use Rattle.std.specs.Prelude.{Result}
+use Rattle.report.specs.declared.Report.{Report}
+use Rattle.refusals.specs.declared.Refusal.{Refusal}
 use Rattle.grow_book.specs.Answers.{GrownAs}
 use Rattle.arcs_growth.specs.Read.{Read}
 use Rattle.arcs_growth.proofs.Theorems.{GrownWell, well}
@@ -97,6 +99,6 @@ module _ (b : List ℕ) (fs : List Float) (us : List ℕ) (bytes : ℕ) (e : fs 
   unfolding zero_table
   same = λ i. record { floats = sym e i; numbers = sym d i }
 
-  pub grown_network : read_number b (places_in lent) bytes ≡ 0 → (gs : List Float) (vs : List ℕ) (r : GrownBook)
+  pub grown_network : read_number b (places_in lent) bytes ≡ 0 → (gs : List Float) (vs : List ℕ) (r : Result Report Refusal)
       → GrownAs (grow b (places_in lent) (record { floats = fs; numbers = us })) gs vs r → GrownAs (network b lent) gs vs r
   grown_network none gs vs r = subst (λ (a : Answer Grown). GrownAs a gs vs r) (sym (network_grows b lent none ∙ ap (grow b (places_in lent)) same))

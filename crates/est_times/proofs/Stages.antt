@@ -8,7 +8,7 @@ use lib.Dec.{T}
 use lib.ListN.{length, take}
 use lib.Seq.{length-take-le}
 use lib.Ieee.{Float, binary64, nan_bits, of_bits}
-use Rattle.laws.specs.Answer.{Answer, refused, given, and_then}
+use Rattle.laws.specs.Answer.{Answer, refused, given, and_then, number_of}
 use Rattle.fields.specs.Fields.{u64_at}
 use Rattle.floats.specs.Floats.{book_float}
 use Rattle.space.specs.Space.{bytes_of}
@@ -22,25 +22,18 @@ use Rattle.pass_rules.specs.Walks.{Inside}
 use Rattle.pass_rules.specs.Passes.{passes}
 use Rattle.pass_all.specs.Answers.{TimedAs}
 use Rattle.report.specs.declared.Report.{Report}
-use Rattle.grow_book.specs.declared.GrownBook.{GrownBook}
-use Rattle.grow_book.specs.declared.GrownBook.TheVariants.{Whole, Stopped}
+use Rattle.std.specs.Prelude.{Result, Ok, Err}
+use Rattle.refusals.specs.declared.Refusal.{Refusal}
+use Rattle.refusals.specs.Refusals.{refusal_number, told}
+use Rattle.refusals.proofs.Answers.{refusal_some}
 use Rattle.grow_book.specs.Answers.{WholeAs, GrownAs}
-use Rattle.est_times.specs.declared.Sheet.{Sheet}
-use Rattle.est_times.specs.declared.Sheet.TheVariants.{Made, Refused}
 use Rattle.est_times.specs.Network.{network}
 use Rattle.est_times.specs.Sheet.{Finished, finished_as, timed_from, job, report_of}
-use Rattle.est_times.specs.Stages.{grown_number, BuiltAs, answer_as}
+use Rattle.est_times.specs.Stages.{BuiltAs}
 use Rattle.est_times.proofs.Accepts.{head_there, departure_float, enough_of}
-use Rattle.est_times.proofs.Networks.{Sound, sound, network_numbered}
+use Rattle.est_times.proofs.Networks.{Sound, sound}
 
 -- ---- the small functions
-
-pub answer_made : (r : Report) (k : ℕ) → k ≡ 0 → Made r ≡ answer_as r k
-answer_made r k e = sym (ap (answer_as r) e)
-
-pub answer_refused : (r : Report) (k : ℕ) → (k ≡ 0 → ⊥) → Refused k ≡ answer_as r k
-answer_refused r zero h = absurd (h refl)
-answer_refused r (suc k) h = refl
 
 pub departure_number : (b : List ℕ) (k : ℕ) → book_float (departure_bits b) ≡ true → k ≡ u64_at b 8 → T (not (nan_bits binary64 k))
 unfolding departure_bits
@@ -56,17 +49,17 @@ job_is : (b : List ℕ) (z : Sizes) → job b z ≡ and_then (network b z) (time
 unfolding job
 job_is b z = refl
 
-pub built_refused : (b : List ℕ) (z : Sizes) (fs : List Float) (us : List ℕ) (grown : GrownBook) → GrownAs (network b z) fs us grown → {k : ℕ} → grown ≡ Stopped k
-    → (number : ℕ) → number ≡ grown_number grown → (t : Table) → BuiltAs (job b z) t (Refused number)
-built_refused b z fs us grown g {k} e number d t =
-    let h : network b z ≡ refused k = subst (GrownAs (network b z) fs us) e g in
-    subst (λ (j : Answer Finished). BuiltAs j t (Refused number)) (sym (job_is b z ∙ ap (λ (a : Answer Grown). and_then a (timed_from b)) h)) (ap Refused (d ∙ ap grown_number e), network_numbered b z k h)
+pub built_refused : (b : List ℕ) (z : Sizes) (fs : List Float) (us : List ℕ) (grown : Result Report Refusal) → GrownAs (network b z) fs us grown → (k : Refusal) → grown ≡ Err k
+    → (t : Table) (r : Result Report Refusal) → r ≡ Err k → BuiltAs (job b z) t r
+built_refused b z fs us grown g k e t r q =
+    let h : network b z ≡ refused (refusal_number k) = subst (GrownAs (network b z) fs us) e g in
+    subst (λ (j : Answer Finished). BuiltAs j t r) (sym (job_is b z ∙ ap (λ (a : Answer Grown). and_then a (timed_from b)) h)) (ap told q)
 
 -- a network that is whole: what it is, with the counts of its report
 abbrev pub WholeOf : Answer Grown → List Float → List ℕ → Report → Type 0
 WholeOf a fs us r = WholeAs a fs us r.nodes r.added r.splits r.joined r.finished
 
-pub whole_told : (b : List ℕ) (z : Sizes) (fs : List Float) (us : List ℕ) (grown : GrownBook) → GrownAs (network b z) fs us grown → (r : Report) → grown ≡ Whole r → WholeOf (network b z) fs us r
+pub whole_told : (b : List ℕ) (z : Sizes) (fs : List Float) (us : List ℕ) (grown : Result Report Refusal) → GrownAs (network b z) fs us grown → (r : Report) → grown ≡ Ok r → WholeOf (network b z) fs us r
 whole_told b z fs us grown g r e = subst (GrownAs (network b z) fs us) e g
 
 -- what the passes ask for, of slices of work space of these lengths
@@ -126,13 +119,19 @@ module _ (n c : ℕ) (cells : List ℕ) (h : n * 2 ≤ c) (e : length cells ≡ 
   pub flags_fit : (m : ℕ) → m ≡ length (take (n * 2) cells) → n * 2 ≤ m
   flags_fit m d = omega (arith, flags_are)
 
--- ---- the passes' number
+-- ---- what the passes answer
 
-timed_built : (g : Grown) (report : Report) (left : Table) (number : ℕ) (t : Answer Table) → TimedAs t number left → report ≡ report_of g
-    → BuiltAs (and_then t (λ (x : Table). given (finished_as g x))) left (answer_as report number)
-timed_built g report left number (refused zero) h q = absurd (h.1 refl)
-timed_built g report left number (refused (suc k)) h q = (ap (answer_as report) h.0, h.1)
-timed_built g report left number (given t) h q = (ap (answer_as report) h.0 ∙ ap Made q, h.1)
+-- a report stands unless they refuse
+abbrev pub passed : Report → Result (Unit {0}) Refusal → Result Report Refusal
+passed report (Ok u) = Ok report
+passed report (Err k) = Err k
+
+timed_built : (g : Grown) (report : Report) (left : Table) (p : Result (Unit {0}) Refusal) (t : Answer Table) → TimedAs t (number_of (told p)) left → report ≡ report_of g
+    → BuiltAs (and_then t (λ (x : Table). given (finished_as g x))) left (passed report p)
+timed_built g report left (Ok u) (refused k) h q = absurd (h.1 (sym h.0))
+timed_built g report left (Err x) (refused k) h q = ap refused h.0
+timed_built g report left (Ok u) (given t) h q = (ap Ok q, h.1)
+timed_built g report left (Err x) (given t) h q = absurd (refusal_some x h.0)
 
 module _ (b : List ℕ) (z : Sizes) (fs : List Float) (us : List ℕ) (report : Report) (w : WholeOf (network b z) fs us report) (time : Float) (d : time ≡ departure b) where
   report_is : report ≡ report_of w.network
@@ -147,10 +146,10 @@ module _ (b : List ℕ) (z : Sizes) (fs : List Float) (us : List ℕ) (report : 
       ∙ ap (λ (k : ℕ). passes w.network.table k time) (sym w.nodes_are)
       ∙ ap (passes w.network.table w.network.nodes) d
 
-  pub built_whole : (number : ℕ) (left : Table) → TimedAs (passes (record { floats = fs; numbers = us }) report.nodes time) number left
-      → (sheet : Sheet) → sheet ≡ answer_as report number → BuiltAs (job b z) left sheet
-  built_whole number left h sheet q =
-      let p = passes w.network.table w.network.nodes (departure b) in
-      let built : BuiltAs (timed_from b w.network) left (answer_as report number) =
-      timed_built w.network report left number p (subst (λ (t : Answer Table). TimedAs t number left) passes_are h) report_is in
-      subst (λ (j : Answer Finished). BuiltAs j left sheet) (sym (job_is b z ∙ ap (λ (a : Answer Grown). and_then a (timed_from b)) w.is)) (subst (BuiltAs (timed_from b w.network) left) (sym q) built)
+  pub built_whole : (p : Result (Unit {0}) Refusal) (left : Table) → TimedAs (passes (record { floats = fs; numbers = us }) report.nodes time) (number_of (told p)) left
+      → (sheet : Result Report Refusal) → sheet ≡ passed report p → BuiltAs (job b z) left sheet
+  built_whole p left h sheet q =
+      let a = passes w.network.table w.network.nodes (departure b) in
+      let built : BuiltAs (timed_from b w.network) left (passed report p) =
+      timed_built w.network report left p a (subst (λ (t : Answer Table). TimedAs t (number_of (told p)) left) passes_are h) report_is in
+      subst (λ (j : Answer Finished). BuiltAs j left sheet) (sym (job_is b z ∙ ap (λ (x : Answer Grown). and_then x (timed_from b)) w.is)) (subst (BuiltAs (timed_from b w.network) left) (sym q) built)

@@ -1,7 +1,7 @@
 -- The whole job, `make_est_times`: a book is read, its network grown, checked and timed. Put together from the
 -- definitions of the crates below, with no new algorithm.
-use Rattle.std.specs.Prelude.{◌≡◌, List, ℕ, length}
-use Rattle.laws.specs.Answer.{Answer, refused, given, and_then}
+use Rattle.std.specs.Prelude.{◌≡◌, List, ℕ, length, Result, Ok, Err}
+use Rattle.laws.specs.Answer.{Answer, refused, given, and_then, number_of}
 use Rattle.report.specs.declared.Report.{Report}
 use Rattle.space.specs.Lent.{Cleared}
 use Rattle.net_node.specs.Table.{Table}
@@ -9,8 +9,8 @@ use Rattle.net_node.specs.Left.{Network, floats_left, numbers_left}
 use Rattle.net_node.specs.Lent.{Slices, Sizes, sizes_of}
 use Rattle.grow_rules.specs.Growth.{Grown, departure}
 use Rattle.pass_rules.specs.Passes.{passes}
-use Rattle.est_times.specs.declared.Sheet.{Sheet}
-use Rattle.est_times.specs.declared.Sheet.TheVariants.{Made, Refused}
+use Rattle.refusals.specs.declared.Refusal.{Refusal}
+use Rattle.refusals.specs.Refusals.{refusal_number, told}
 use Rattle.est_times.specs.Network.{network}
 use Rattle.est_times.specs.Demand.{Demand}
 
@@ -39,9 +39,10 @@ report_of g = record {
   finished = g.finished;
 }
 
-abbrev pub answered : Answer Finished → Sheet
-answered (refused k) = Refused k
-answered (given f) = Made (report_of f.grown)
+-- the report, or the refusal
+abbrev pub answered : Answer Finished → Answer Report
+answered (refused k) = refused k
+answered (given f) = given (report_of f.grown)
 
 -- the nodes that stay in the table
 abbrev pub sheet_of : Answer Finished → Answer Network
@@ -49,30 +50,29 @@ sheet_of (refused k) = refused k
 sheet_of (given f) = given (record { table = f.timed; nodes = f.grown.nodes })
 
 -- document 01's number for each answer, and its report, which is zero on a refusal
-abbrev pub sheet_number : Sheet → ℕ
-sheet_number (Made r) = 0
-sheet_number (Refused k) = k
+abbrev pub sheet_number : Result Report Refusal → ℕ
+sheet_number r = number_of (told r)
 
-abbrev pub reported : Sheet → Report
-reported (Made r) = r
-reported (Refused k) = record { nodes = 0; added = 0; splits = 0; joined = 0; finished = 0 }
+abbrev pub reported : Result Report Refusal → Report
+reported (Ok r) = r
+reported (Err k) = record { nodes = 0; added = 0; splits = 0; joined = 0; finished = 0 }
 
 -- ---- the promise of `make_est_times`
 
 -- document 01 under "Arcs", of every accepted book
-abbrev pub DemandOf : List ℕ → Table → Sheet → Type 0
-DemandOf b t (Made r) = Demand b t r
-DemandOf b t (Refused k) = Unit
+abbrev pub DemandOf : List ℕ → Table → Result Report Refusal → Type 0
+DemandOf b t (Ok r) = Demand b t r
+DemandOf b t (Err k) = Unit
 
 -- a refusal has a number: 0 is answered with a sheet alone
-abbrev pub HasNumber : Sheet → Type 0
-HasNumber (Made r) = Unit
-HasNumber (Refused k) = k ≡ 0 → ⊥
+abbrev pub HasNumber : Result Report Refusal → Type 0
+HasNumber (Ok r) = Unit
+HasNumber (Err k) = refusal_number k ≡ 0 → ⊥
 
 -- For a book, what was lent at entry and what stands there at exit: the answer, both slices of the table, the work
 -- space, and demand 3, whatever table and work space held.
-pub record SheetMade (b : List ℕ) (lent left : Slices) (r : Sheet) : Type 0 where
-  pub answer : r ≡ answered (job b (sizes_of lent))
+pub record SheetMade (b : List ℕ) (lent left : Slices) (r : Result Report Refusal) : Type 0 where
+  pub answer : told r ≡ answered (job b (sizes_of lent))
   pub numbered : HasNumber r
   pub floats : left.table.floats ≡ floats_left (sheet_of (job b (sizes_of lent))) (length lent.table.floats)
   pub numbers : left.table.numbers ≡ numbers_left (sheet_of (job b (sizes_of lent))) (length lent.table.numbers)

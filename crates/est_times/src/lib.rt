@@ -2,7 +2,7 @@
 // specs/Stages.antt.
 #![tactic(auto)]
 
-ghost use Rattle.std.specs.Prelude.{◌≡◌, true, ◌≤◌, length};
+ghost use Rattle.std.specs.Prelude.{◌≡◌, true, ◌≤◌, ◌<◌, length};
 ghost use Rattle.floats.specs.Floats.{book_float};
 ghost use Rattle.book_format.specs.Format.{departure_bits};
 ghost use Rattle.net_node.specs.Lent.{table_at_exit, lent_at_entry, lent_at_exit, sizes_of};
@@ -10,27 +10,20 @@ ghost use Rattle.grow_rules.specs.Growth.{departure};
 ghost use Rattle.grow_book.specs.Answers.{GrownAs};
 ghost use Rattle.est_times.specs.Network.{network};
 ghost use Rattle.est_times.specs.Sheet.{job, SheetMade};
-ghost use Rattle.est_times.specs.Stages.{Begun, grown_number, BuiltAs, answer_as, sheet_nodes};
+ghost use Rattle.est_times.specs.Stages.{Begun, BuiltAs};
 
-use book_reader::Reading;
-use grow_book::GrownBook;
+use refusals::Refusal;
 use report::Report;
-
-// The report of a sheet, or the number of a refusal.
-#[derive(Clone, Copy)]
-pub enum Sheet {
-    Made(Report),
-    Refused(u32),
-}
+use space::Zero;
 
 // Makes zero what growth begins with: the table, the cells and the marks.
 pub fn clear_before(floats: &mut [f64], numbers: &mut [u32], cells: &mut [u32], marks: &mut [u32])
     ensures { Begun floats.new numbers.new cells.new marks.new }
 {
-    space::clear_floats(floats);
-    space::clear_numbers(numbers);
-    space::clear_numbers(cells);
-    space::clear_numbers(marks);
+    Zero::clear(floats);
+    Zero::clear(numbers);
+    Zero::clear(cells);
+    Zero::clear(marks);
 }
 
 // Reads a book and grows its network, rows 1 to 13.
@@ -41,29 +34,22 @@ pub fn read_and_grow(
     reals: &mut [f64],
     cells: &mut [u32],
     marks: &mut [u32],
-) -> GrownBook
+) -> Result<Report, Refusal>
     requires { Begun floats.old numbers.old cells.old marks.old }
     ensures { GrownAs (network book.now (sizes_of (lent_at_entry floats numbers reals cells marks)))
         floats.new numbers.new result }
 {
     let places = net_node::places(floats.len(), numbers.len());
-    let reading = book_reader::read_book(book, places, reals.len(), cells, marks);
-    match reading {
-        Reading::Refused(k) => GrownBook::Stopped(k),
-        Reading::Accepted(s, kept) => {
-            grow_book::grow_book(book, s, kept, floats, numbers, reals, cells, marks)
-        }
-    }
-}
-
-// The number of a growth that was refused.
-fn number_of(g: GrownBook) -> u32
-    ensures { result ≡ grown_number g }
-{
-    match g {
-        GrownBook::Whole(_) => 0,
-        GrownBook::Stopped(k) => k,
-    }
+    let accepted = book_reader::read_book(book, places, reals.len(), cells, marks)?;
+    grow_book::grow_book(
+        &accepted.book,
+        accepted.kept,
+        floats,
+        numbers,
+        reals,
+        cells,
+        marks,
+    )
 }
 
 // The departure of a book that was read.
@@ -75,16 +61,6 @@ fn departure_of(book: &[u8]) -> f64
     f64::from_bits(fields::u64_at(book, 8))
 }
 
-// The answer to a network that has grown, by the number that the passes give.
-fn answer(report: Report, number: u32) -> Sheet
-    ensures { result ≡ answer_as report number }
-{
-    if number == 0 {
-        return Sheet::Made(report);
-    }
-    Sheet::Refused(number)
-}
-
 // Reads a book, grows its network, checks it and times it.
 fn build(
     book: &[u8],
@@ -93,34 +69,21 @@ fn build(
     reals: &mut [f64],
     cells: &mut [u32],
     marks: &mut [u32],
-) -> Sheet
+) -> Result<Report, Refusal>
     requires { Begun floats.old numbers.old cells.old marks.old }
     ensures { BuiltAs (job book.now (sizes_of (lent_at_entry floats numbers reals cells marks)))
         (table_at_exit floats numbers) result }
 {
-    let grown = read_and_grow(book, floats, numbers, reals, cells, marks);
-    let GrownBook::Whole(report) = grown else {
-        return Sheet::Refused(number_of(grown));
-    };
+    let report = read_and_grow(book, floats, numbers, reals, cells, marks)?;
     let n = report.nodes;
     let flags = &mut cells[..n * 2];
-    space::clear_numbers(flags);
+    Zero::clear(flags);
     let departure = departure_of(book);
-    let number = pass_all::run_passes(floats, numbers, n, departure, reals, flags, marks);
-    answer(report, number)
+    pass_all::run_passes(floats, numbers, n, departure, reals, flags, marks)?;
+    Ok(report)
 }
 
-// How many nodes stay in the table: none on a refusal.
-fn nodes_of(sheet: Sheet) -> usize
-    ensures { result ≡ sheet_nodes sheet }
-{
-    match sheet {
-        Sheet::Made(r) => r.nodes,
-        Sheet::Refused(_) => 0,
-    }
-}
-
-// Makes the sheet of a book in a lent table: every route with its splits and joins, timed. Whatever table and work
+// Makes the sheet of a book in a lent table: every route with its splits and joins, timed. Its report. Whatever table and work
 // space held, the table has the sheet then, or is zero, and the work space is zero.
 pub fn make_est_times(
     book: &[u8],
@@ -129,13 +92,13 @@ pub fn make_est_times(
     reals: &mut [f64],
     cells: &mut [u32],
     marks: &mut [u32],
-) -> Sheet
+) -> Result<Report, Refusal>
     ensures { SheetMade book.now (lent_at_entry floats numbers reals cells marks)
         (lent_at_exit floats numbers reals cells marks) result }
 {
     clear_before(floats, numbers, cells, marks);
     let sheet = build(book, floats, numbers, reals, cells, marks);
-    let n = nodes_of(sheet);
+    let n = sheet.map_or(0, |report| report.nodes);
     net_node::clear_behind(floats, numbers, n);
     space::clear_work(reals, cells, marks);
     sheet

@@ -170,6 +170,7 @@ fn list_events(
         (list_at_entry floats numbers) (list_at_exit floats numbers) (told result) }
 {
     let places = list_places(floats.len(), numbers.len());
+    // The count is the answer behind the loop too: `enumerate` would be no plainer.
     let mut count = 0;
     for p in course.passed_points() {
         if p.is_bad() {

@@ -78,9 +78,15 @@ module _ {c : Course} (w : Walkable c) where
   within_start = subst (Within c) (start_is back front refl refl) (start_within back front refl refl)
 
   -- in the code's words
-  pub started : (s : Sample) → s ≡ c.sample 0 → (b f : ℕ) → b ≡ first_beyond c.offset (sub binary64 s.offset c.length) 0 c.points → f ≡ first_beyond c.offset s.offset 0 c.points
-      → (heads 1 b f ≡ start c) × Within c (heads 1 b f)
-  started s e b f p q =
-      let x = p ∙ ap (λ (o : Sample). first_beyond c.offset (sub binary64 o.offset c.length) 0 c.points) e in
-      let y = q ∙ ap (λ (o : Sample). first_beyond c.offset o.offset 0 c.points) e in
-      (start_is b f x y, start_within b f x y)
+  module _ (s : Sample) (e : s ≡ c.sample 0) (b f : ℕ) (p : b ≡ first_beyond c.offset (sub binary64 s.offset c.length) 0 c.points) (q : f ≡ first_beyond c.offset s.offset 0 c.points) where
+    back_is : b ≡ back
+    back_is = p ∙ ap (λ (o : Sample). first_beyond c.offset (sub binary64 o.offset c.length) 0 c.points) e
+
+    front_is : f ≡ front
+    front_is = q ∙ ap (λ (o : Sample). first_beyond c.offset o.offset 0 c.points) e
+
+    pub started : heads 1 b f ≡ start c
+    started = start_is b f back_is front_is
+
+    pub started_within : Within c (heads 1 b f)
+    started_within = start_within b f back_is front_is

@@ -9,7 +9,7 @@ use native.Mathlib.Omega.{arith}
 use borrow.Author.Tests.{eqb-true, eq-eqb, ne_eqb}
 use lib.Dec.{T, eqb}
 use lib.ListN.{length, get_or}
-use lib.Ieee.{Float, nan, binary64, le, of_bits, nan_bits}
+use lib.Ieee.{Float, nan, binary64, le, nan_bits}
 use Rattle.floats.specs.Floats.{book_float}
 use Rattle.floats.proofs.Order.{le_trans}
 use Rattle.fields.specs.Fields.{u64_at}
@@ -34,10 +34,6 @@ use Rattle.event_walk.proofs.Turns.{heads, passed_past, point_clear, point_arriv
 
 pub offset_number : (b : List ℕ) (at n : ℕ) → bad_sample_from b at ≡ false → n ≡ u64_at b (at + 8) → T (not (nan_bits binary64 n))
 offset_number b at n h e = book_no_nan n (subst (λ (k : ℕ). book_float k ≡ true) (sym e) (sample_floats b at h).offset)
-
-pub offset_is : (b : List ℕ) (at n : ℕ) → n ≡ u64_at b (at + 8) → of_bits binary64 n ≡ (sample_from b at).offset
-unfolding sample_from
-offset_is b at n e = ap (of_bits binary64) e
 
 pub sample_held : {b : List ℕ} {offsets : List Float} {m : Movement} → Held b offsets m → (i : ℕ) → i < m.samples → (m.at + i * 24 + 24 ≤ length b) × (bad_sample_from b (m.at + i * 24) ≡ false)
 sample_held h i g = (omega (arith, h.bytes), h.floats i g)

@@ -105,6 +105,7 @@ impl<'a> Iterator for PassedPoints<'a> {
 }
 
 // Whether a sample reaches the last point (row 11). Offsets never fall, so the last sample tells for all.
+#[tactic(auto, using(crate::proofs::Steps::reaches_by, crate::proofs::Steps::sample_held))]
 pub fn reaches_last(book: &[u8], offsets: &[f64], m: Movement) -> bool
     requires held { Held book.now offsets.now m }
     requires points_nonzero { 0 < m.points }
@@ -144,6 +145,7 @@ fn first_beyond(offsets: &[f64], points: usize, x: f64) -> usize
 }
 
 // The offset of the sample whose first byte is at `at`.
+#[tactic(auto, using(crate::proofs::Steps::offset_number), unfolding(book_format::specs::Format::sample_from))]
 fn sample_offset(book: &[u8], at: usize) -> f64
     requires sample_width_in_bounds { at + sample_width ≤ length book.now }
     requires at_value { bad_sample_from book.now at ≡ false }
@@ -195,7 +197,7 @@ impl<'a> Course<'a> {
     }
 
     // The first sample from `from` on that reaches x.
-    #[tactic(auto, unfolding(crate::specs::Course::course_of))]
+    #[tactic(auto, using(crate::proofs::Searches::short_on), unfolding(crate::specs::Course::course_of))]
     fn first_reaching(&self, from: usize, x: f64) -> Option<usize>
         ensures { FirstReaching (λ i. ((course_held self.now).sample i).offset) (course_held self.now).samples
             x from result }
@@ -263,7 +265,7 @@ impl<'a> Course<'a> {
     }
 
     // The next point that is passed, where the next event is emitted.
-    #[tactic(auto, unfolding(crate::specs::Course::course_of))]
+    #[tactic(auto, using(crate::proofs::Steps::next_none), unfolding(crate::specs::Course::course_of))]
     fn seen_event(&self, h: Heads) -> Option<(PassedPoint, Heads)>
         requires within { Within (course_held self.now) h }
         requires h_value { unseen (course_held self.now) h ≡ false }

@@ -9,9 +9,9 @@ use borrow.Author.Tests.{lt-ltb, le-ltb}
 use lib.Dec.{ltb}
 use lib.ListN.{length, get_or}
 use lib.Ieee.{Float, binary64, of_bits, nan}
+use Rattle.net_join_paths.specs.declared.EstJoinPath.{EstJoinPath}
 use Rattle.net_node.specs.Left.{places_of}
 use Rattle.laws.specs.Answer.{Answer, refused, and_then}
-use Rattle.book_format.specs.declared.Sections.{Sections}
 use Rattle.book_format.specs.Format.{links, legs}
 use Rattle.book_options.specs.Options.{kept_origins}
 use Rattle.book_reader.specs.Reader.{Ready}
@@ -27,14 +27,17 @@ use Rattle.grow_rules.specs.Growth.{Growth, fake_node, first_nodes, grow_origins
 use Rattle.grow_rules.specs.Growth.{Grown}
 use Rattle.grow_events.specs.Held.{NetIn, ends_at}
 use Rattle.grow_state.specs.declared.Plan.{Plan}
-use Rattle.grow_state.specs.declared.State.{State}
-use Rattle.grow_state.specs.declared.GrowthAnswer.{GrowthAnswer}
-use Rattle.grow_state.specs.declared.GrowthAnswer.TheVariants.{On, Refused}
-use Rattle.grow_state.specs.Held.{PlanIn, DriveIn, Driving, lists}
+use Rattle.grow_events.specs.declared.Counts.{Counts}
+use Rattle.grow_state.specs.declared.Rest.{Rest}
+use Rattle.std.specs.Prelude.{Result, Ok, Err}
+use Rattle.refusals.specs.declared.Refusal.{Refusal}
+use Rattle.refusals.specs.Refusals.{refusal_number}
+use Rattle.report.specs.declared.Report.{Report}
+use Rattle.arcs_growth.proofs.Books.{read_rows_lem}
+use Rattle.grow_state.specs.Held.{PlanIn, DriveIn, idle, lists}
 use Rattle.grow_origins.specs.Origins.{start_state, OriginsIn, SomeOrigins, OnlyStart, OriginsGiven, OriginsAs, GrowsOrigins}
 use Rattle.net_insertion.specs.Insertion.{table_of}
-use Rattle.grow_book.specs.declared.GrownBook.{GrownBook}
-use Rattle.grow_book.specs.Answers.{DrivenAs, DriveAs, closing, grown_from, Closing, SomeClosing, GrownAs}
+use Rattle.grow_book.specs.Answers.{DrivenAs, DriveAs, closing, grown_from, Closing, SomeClosing, GrownAs, AtStart, FromOrigins}
 
 -- ---- from the origins on
 
@@ -53,51 +56,53 @@ driven_is b places g = refl
 pub all_plan : {b : List ℕ} {p : Plan} {n m : ℕ} → PlanIn b p n → m ≡ n → PlanIn b p m
 all_plan {b} {p} plan e = subst (PlanIn b p) (sym e) plan
 
-pub all_start : (fs : List Float) (us : List ℕ) (g : State) → g ≡ start_state → OnlyStart (node_at fs us) 2 → OnlyStart (node_at fs us) g.counts.nodes
+pub all_start : (fs : List Float) (us : List ℕ) (g : Rest) → g ≡ start_state → OnlyStart (node_at fs us) 2 → OnlyStart (node_at fs us) g.counts.nodes
 unfolding start_state
-all_start fs us g first s = subst (λ (x : State). OnlyStart (node_at fs us) x.counts.nodes) (sym first) s
+all_start fs us g first s = subst (λ (x : Rest). OnlyStart (node_at fs us) x.counts.nodes) (sym first) s
 
-module _ (b : List ℕ) (p : Plan) (fs : List Float) (us : List ℕ) (reals : List Float) (cells joins : List ℕ) (g : State) (first : g ≡ start_state) where
-  pub all_some : SomeOrigins b p (lists fs us reals cells joins) (kept_origins b) start_state → SomeOrigins b p (lists fs us reals cells joins) (kept_origins b) g
-  all_some s = subst (SomeOrigins b p (lists fs us reals cells joins) (kept_origins b)) (sym first) s
+module _ (b : List ℕ) (p : Plan) (fs : List Float) (us : List ℕ) (reals : List Float) (cells : List ℕ) (joins : List EstJoinPath) (g : Rest) (first : g ≡ start_state) where
+  pub all_some : AtStart b p (lists fs us reals cells joins) → SomeOrigins b p (lists fs us reals cells joins) (kept_origins b) g
+  all_some s = subst (SomeOrigins b p (lists fs us reals cells joins) (kept_origins b)) (sym first) (record { net = first_nodes b s.table; runs = []; origins = s.origins })
 
-  module _ (fs' : List Float) (us' : List ℕ) (reals' : List Float) (cells' : List ℕ) (t : GrowthAnswer)
+  module _ (fs' : List Float) (us' : List ℕ) (reals' : List Float) (cells' : List ℕ) (t : Result Rest Refusal)
       (told : GrowsOrigins b p g (lists fs us reals cells joins) (lists fs' us' reals' cells' joins) t) where
     with_origins_lem : GrowsOrigins b p start_state (lists fs us reals cells joins) (lists fs' us' reals' cells' joins) t
-    with_origins_lem net runs o = told net runs (subst (λ (x : State). OriginsIn b p (lists fs us reals cells joins) (kept_origins b) x net runs) (sym first) o)
+    with_origins_lem net runs o = told net runs (subst (λ (x : Rest). OriginsIn b p (lists fs us reals cells joins) (kept_origins b) x net runs) (sym first) o)
 
-    pub all_stopped : (k : ℕ) → t ≡ Refused k → (net : Net) → OriginsIn b p (lists fs us reals cells joins) (kept_origins b) start_state net [] → grown_from b p.w.places net ≡ refused k
+    pub all_stopped : (k : Refusal) → t ≡ Err k → (net : Net) → OriginsIn b p (lists fs us reals cells joins) (kept_origins b) start_state net [] → grown_from b p.w.places net ≡ refused (refusal_number k)
     all_stopped k e net o = from_is b p.w.places net ∙ ap (λ (a : Answer Growth). and_then a (driven_from b p.w.places)) (subst (OriginsAs (grow_origins b p.w.places (kept_origins b) (record { net = net; saved = [] })) b p (lists fs' us' reals' cells' joins) []) e (with_origins_lem net [] o))
 
-    module _ (s : State) (e : t ≡ On s) where
+    module _ (s : Rest) (e : t ≡ Ok s) where
       as_origins : (net : Net) (runs : List Run) → OriginsIn b p (lists fs us reals cells joins) (kept_origins b) start_state net runs → OriginsGiven (grow_origins b p.w.places (kept_origins b) (record { net = net; saved = runs })) b p (lists fs' us' reals' cells' joins) [] s
       as_origins net runs o = subst (OriginsAs (grow_origins b p.w.places (kept_origins b) (record { net = net; saved = runs })) b p (lists fs' us' reals' cells' joins) []) e (with_origins_lem net runs o)
 
-      pub all_driving : SomeOrigins b p (lists fs us reals cells joins) (kept_origins b) start_state → Driving b p (lists fs' us' reals' cells' joins) s
-      all_driving q = let x = as_origins q.net q.runs q.origins in record { path = []; net = x.growth.net; runs = x.growth.saved; holds = x.origins.holds }
+      pub all_from : AtStart b p (lists fs us reals cells joins) → FromOrigins b p (lists fs' us' reals' cells' joins) s
+      all_from q =
+          let x = as_origins (first_nodes b q.table) [] q.origins in
+          record { read = q.read; table = q.table; room = q.room; more = q.more; growth = x.growth; grown = x.is; path = []; holds = x.origins.holds }
 
-      module _ (fs'' : List Float) (us'' cells'' : List ℕ) (d : GrowthAnswer)
-          (drove : (path : List ℕ) (net : Net) (runs : List Run) → DriveIn b p (lists fs' us' reals' cells' joins) path s net runs → DriveAs (drive (legs b) b p.w.places net runs) p fs'' us'' cells'' d) where
+      module _ (fs'' : List Float) (us'' cells'' : List ℕ) (d : Result Counts Refusal)
+          (drove : (path : List ℕ) (net : Net) (runs : List Run) → DriveIn b p (lists fs' us' reals' cells' joins) path (idle s) net runs → DriveAs (drive (legs b) b p.w.places net runs) p fs'' us'' cells'' d) where
         from-driven : (net : Net) (runs : List Run) (x : OriginsGiven (grow_origins b p.w.places (kept_origins b) (record { net = net; saved = [] })) b p (lists fs' us' reals' cells' joins) [] s)
             → grown_from b p.w.places net ≡ and_then (drive (legs b) b p.w.places x.growth.net x.growth.saved) (closing p.w.places)
         from-driven net runs x = from_is b p.w.places net ∙ ap (λ (a : Answer Growth). and_then a (driven_from b p.w.places)) x.is ∙ driven_is b p.w.places x.growth
 
-        pub all-refused : (k : ℕ) → d ≡ Refused k → (net : Net) → OriginsIn b p (lists fs us reals cells joins) (kept_origins b) start_state net [] → grown_from b p.w.places net ≡ refused k
+        pub all-refused : (k : Refusal) → d ≡ Err k → (net : Net) → OriginsIn b p (lists fs us reals cells joins) (kept_origins b) start_state net [] → grown_from b p.w.places net ≡ refused (refusal_number k)
         all-refused k q net o =
             let x = as_origins net [] o in
             from-driven net [] x ∙ ap (λ (a : Answer Net). and_then a (closing p.w.places)) (subst (DriveAs (drive (legs b) b p.w.places x.growth.net x.growth.saved) p fs'' us'' cells'') q (drove [] x.growth.net x.growth.saved x.origins.holds))
 
-        module _ (z : State) (q : d ≡ On z) where
-          as-driven : (net : Net) (runs : List Run) → DriveIn b p (lists fs' us' reals' cells' joins) [] s net runs → DrivenAs (drive (legs b) b p.w.places net runs) p fs'' us'' cells'' z
+        module _ (z : Counts) (q : d ≡ Ok z) where
+          as-driven : (net : Net) (runs : List Run) → DriveIn b p (lists fs' us' reals' cells' joins) [] (idle s) net runs → DrivenAs (drive (legs b) b p.w.places net runs) p fs'' us'' cells'' z
           as-driven net runs h = subst (DriveAs (drive (legs b) b p.w.places net runs) p fs'' us'' cells'') q (drove [] net runs h)
 
-          pub all-closing : SomeOrigins b p (lists fs us reals cells joins) (kept_origins b) start_state → SomeClosing p.w fs'' us'' cells'' z.counts
+          pub all-closing : AtStart b p (lists fs us reals cells joins) → SomeClosing p.w fs'' us'' cells'' z
           all-closing o =
-              let x = as_origins o.net o.runs o.origins in
+              let x = as_origins (first_nodes b o.table) [] o.origins in
               let y = as-driven x.growth.net x.growth.saved x.origins.holds in
               record { net = y.net; closes = record { start = cells''; holds = y.holds } }
 
-          pub all_grown : (fs''' : List Float) (us''' : List ℕ) (r : GrownBook) → ((net : Net) → Closing p.w fs'' us'' cells'' z.counts net → GrownAs (closing p.w.places net) fs''' us''' r) → (net : Net) → OriginsIn b p (lists fs us reals cells joins) (kept_origins b) start_state net []
+          pub all_grown : (fs''' : List Float) (us''' : List ℕ) (r : Result Report Refusal) → ((net : Net) → Closing p.w fs'' us'' cells'' z net → GrownAs (closing p.w.places net) fs''' us''' r) → (net : Net) → OriginsIn b p (lists fs us reals cells joins) (kept_origins b) start_state net []
               → GrownAs (grown_from b p.w.places net) fs''' us''' r
           all_grown fs''' us''' r f net o =
               let x = as_origins net [] o in
@@ -163,7 +168,7 @@ book_start fs us places e h time fs' us' df du =
     ∙ node_one (table_of fs us) time places (record { floats = f.floats_fit; numbers = f.numbers_fit; most = f.most }) (omega arith) in
     record { two = refl; no_next = ap (λ (x : EstTime). x.idx_next) one; no_alt = ap (λ (x : EstTime). x.idx_next_alt) one }
 
-module _ {b : List ℕ} {s : Sections} {kept : ℕ} {cells marks : List ℕ} (ready : Ready b s kept cells marks) (p : Plan) (reals : List Float) (plan : PlanIn b p (length reals)) (at_zero : get_or reals 0 nan ≡ of_bits binary64 0)
+module _ {b : List ℕ} {kept : ℕ} {cells marks : List ℕ} (ready : Ready b kept cells marks) (p : Plan) (reals : List Float) (plan : PlanIn b p (length reals)) (at_zero : get_or reals 0 nan ≡ of_bits binary64 0)
     (fs : List Float) (us : List ℕ) (room : Room fs us p.w.places) (some : 1 < p.w.places) (behind : p.w.links_at ≡ (legs b + 1) * 8 + p.w.places * 8) (long : (legs b + 1 + p.w.places + links b) * 8 ≤ length cells) where
   t : Table
   t = record { floats = fs; numbers = us }
@@ -190,7 +195,7 @@ module _ {b : List ℕ} {s : Sections} {kept : ℕ} {cells marks : List ℕ} (re
     elsewhere = λ q h f. refl;
   }
 
-  start_origins : (joins : List ℕ) → OriginsIn b p (lists (first_table t p.departure).floats (first_table t p.departure).numbers reals cells joins) (kept_origins b) start_state (first_nodes b t) []
+  start_origins : (joins : List EstJoinPath) → OriginsIn b p (lists (first_table t p.departure).floats (first_table t p.departure).numbers reals cells joins) (kept_origins b) start_state (first_nodes b t) []
   unfolding start_state
   start_origins joins = record {
     holds = record {
@@ -203,11 +208,10 @@ module _ {b : List ℕ} {s : Sections} {kept : ℕ} {cells marks : List ℕ} (re
       prefixes = tt;
       separate = tt;
     };
-    idle = refl;
     firsts = tt;
   }
 
-  first_origins : (fs' : List Float) (us' : List ℕ) → fs' ≡ (first_table (table_of fs us) p.departure).floats → us' ≡ (first_table (table_of fs us) p.departure).numbers → (joins : List ℕ)
+  first_origins : (fs' : List Float) (us' : List ℕ) → fs' ≡ (first_table (table_of fs us) p.departure).floats → us' ≡ (first_table (table_of fs us) p.departure).numbers → (joins : List EstJoinPath)
       → OriginsIn b p (lists fs' us' reals cells joins) (kept_origins b) start_state (first_nodes b (table_of fs us)) []
   unfolding t
   first_origins fs' us' df du joins =
@@ -215,18 +219,26 @@ module _ {b : List ℕ} {s : Sections} {kept : ℕ} {cells marks : List ℕ} (re
       (subst (λ (x : List ℕ). OriginsIn b p (lists (first_table (table_of fs us) p.departure).floats x reals cells joins) (kept_origins b) start_state (first_nodes b (table_of fs us)) []) (sym du) (start_origins joins))
 
 -- the same by what `grow_book` asks and its parts tell
-module _ {b : List ℕ} {s : Sections} {kept : ℕ} {cells marks : List ℕ} (ready : Ready b s kept cells marks) (p : Plan) (reals : List Float) (plan : PlanIn b p (length reals)) (at_zero : get_or reals 0 nan ≡ of_bits binary64 0)
+module _ {b : List ℕ} {kept : ℕ} {cells marks : List ℕ} (ready : Ready b kept cells marks) (p : Plan) (reals : List Float) (plan : PlanIn b p (length reals)) (at_zero : get_or reals 0 nan ≡ of_bits binary64 0)
     (fs : List Float) (us : List ℕ) (places : ℕ) (are : places ≡ places_of (length fs) (length us)) (planned : p.w.places ≡ places) (some : 2 ≤ places) (behind : p.w.links_at ≡ (legs b + 1) * 8 + places * 8)
     (long : (legs b + 1 + places_of (length fs) (length us) + links b) * 8 ≤ length cells) (fs' : List Float) (us' : List ℕ) (df : fs' ≡ (first_table (table_of fs us) p.departure).floats)
-    (du : us' ≡ (first_table (table_of fs us) p.departure).numbers) (joins : List ℕ) where
+    (du : us' ≡ (first_table (table_of fs us) p.departure).numbers) (joins : List EstJoinPath) where
   book_origins : OriginsIn b p (lists fs' us' reals cells joins) (kept_origins b) start_state (first_nodes b (table_of fs us)) []
   book_origins =
       first_origins ready p reals plan at_zero fs us (let f = places_fit (planned ∙ are) in record { floats = f.floats_fit; numbers = f.numbers_fit; most = f.most }) (omega (arith, planned)) (omega (arith, behind, planned)) (omega (arith, long, planned, are)) fs' us' df du joins
 
-  pub book_some : SomeOrigins b p (lists fs' us' reals cells joins) (kept_origins b) start_state
-  book_some = record { net = first_nodes b (table_of fs us); runs = []; origins = book_origins }
+  pub book_at_start : AtStart b p (lists fs' us' reals cells joins)
+  book_at_start =
+      let f = places_fit (planned ∙ are) in
+      record {
+        read = read_rows_lem b ready.readable.indices ready.readable.single ready.row8;
+        table = table_of fs us;
+        room = record { floats = f.floats_fit; numbers = f.numbers_fit; most = f.most };
+        more = omega (arith, planned);
+        origins = book_origins;
+      }
 
-  pub book_grown : (fs'' : List Float) (us'' : List ℕ) (r : GrownBook) → ((net : Net) → OriginsIn b p (lists fs' us' reals cells joins) (kept_origins b) start_state net [] → GrownAs (grown_from b p.w.places net) fs'' us'' r)
+  pub book_grown : (fs'' : List Float) (us'' : List ℕ) (r : Result Report Refusal) → ((net : Net) → OriginsIn b p (lists fs' us' reals cells joins) (kept_origins b) start_state net [] → GrownAs (grown_from b p.w.places net) fs'' us'' r)
       → GrownAs (grow b (places_of (length fs) (length us)) (table_of fs us)) fs'' us'' r
   book_grown fs'' us'' r f =
       subst (λ (a : Answer Grown). GrownAs a fs'' us'' r) (sym (grow_from b (places_of (length fs) (length us)) (table_of fs us) (omega (arith, are))))

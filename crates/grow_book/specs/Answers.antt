@@ -1,9 +1,9 @@
 -- What the code of growth answers. Growth is `grow` of grow_rules' specs/Growth.antt.
-use Rattle.std.specs.Prelude.{◌≡◌, Bool, true, false, List, [], ◌∷◌, ℕ, Float}
+use Rattle.std.specs.Prelude.{◌≡◌, List, [], ◌∷◌, ℕ, ◌<◌, Float, Option, Some, None, Result, Ok, Err}
 use Rattle.laws.specs.Answer.{Answer, refused, given, and_then}
 use Rattle.book_format.specs.Format.{legs}
 use Rattle.grow_rules.specs.Run.{Net, Run}
-use Rattle.grow_rules.specs.Growth.{grow_origins, take_leg, drive, end_fakes, last_node, grown_with, Growth}
+use Rattle.grow_rules.specs.Growth.{first_nodes, grow_origins, take_leg, drive, end_fakes, last_node, grown_with, Growth}
 use Rattle.net_node.specs.Left.{Network}
 use Rattle.book_options.specs.Options.{kept_origins}
 use Rattle.net_event_map.specs.declared.Layout.{Layout}
@@ -12,13 +12,16 @@ use Rattle.grow_events.specs.declared.Counts.{Counts}
 use Rattle.grow_events.specs.Held.{NetIn}
 use Rattle.grow_state.specs.declared.Plan.{Plan}
 use Rattle.grow_state.specs.declared.State.{State}
-use Rattle.grow_state.specs.declared.GrowthAnswer.{GrowthAnswer}
-use Rattle.grow_state.specs.declared.GrowthAnswer.TheVariants.{On, Refused}
-use Rattle.net_node.specs.Table.{Table}
-use Rattle.grow_state.specs.Held.{Lists, DriveIn, TurnedAs}
+use Rattle.grow_state.specs.declared.Rest.{Rest}
+use Rattle.grow_state.specs.declared.Front.{Front}
+use Rattle.refusals.specs.declared.Refusal.{Refusal}
+use Rattle.refusals.specs.Refusals.{refusal_number}
+use Rattle.report.specs.declared.Report.{Report}
+use Rattle.net_node.specs.Table.{Room, Table}
+use Rattle.grow_state.specs.Held.{Lists, lists, DriveIn, TurnedAs, SameDrive, idle, with_front}
+use Rattle.arcs_growth.specs.Read.{Read}
+use Rattle.net_join_paths.specs.declared.EstJoinPath.{EstJoinPath}
 use Rattle.grow_origins.specs.Origins.{OriginsIn, start_state}
-use Rattle.grow_book.specs.declared.GrownBook.{GrownBook}
-use Rattle.grow_book.specs.declared.GrownBook.TheVariants.{Whole, Stopped}
 
 -- ---- all runs
 
@@ -27,21 +30,43 @@ abbrev pub next_turn : List ℕ → ℕ → Net → List Run → Answer Growth
 next_turn b places net [] = given (record { net = net; saved = [] })
 next_turn b places net (run ∷ saved) = take_leg b places net run saved
 
--- what is answered once each leg has had its turn, by whether no run is left
-abbrev pub after_all : Bool → State → GrowthAnswer
-after_all true g = On g
-after_all false g = Refused 0
+-- the run that takes its leg next is at the front of the same network and runs; or no run is left
+abbrev pub NextRun : Plan → List Float → List ℕ → List EstJoinPath → List EstJoinPath → State → Option (Rest × Front) → Type 0
+NextRun p reals cells joins joins' g None =
+    (b : List ℕ) (fs : List Float) (us path : List ℕ) (net : Net) (runs : List Run)
+    → DriveIn b p (lists fs us reals cells joins) path g net runs → runs ≡ []
+NextRun p reals cells joins joins' g (Some r) = SameDrive p reals cells joins joins' g (with_front r.0 r.1)
 
 -- the network that the driver leaves
-pub record DrivenAs (answer : Answer Net) (p : Plan) (fs : List Float) (us cells : List ℕ) (g : State) : Type 0 where
+pub record DrivenAs (answer : Answer Net) (p : Plan) (fs : List Float) (us cells : List ℕ) (c : Counts) : Type 0 where
   pub net : Net
   pub is : answer ≡ given net
-  pub holds : NetIn p.w cells fs us cells g.counts net
+  pub holds : NetIn p.w cells fs us cells c net
 
--- what the code answers: the state then, or a refusal
-abbrev pub DriveAs : Answer Net → Plan → List Float → List ℕ → List ℕ → GrowthAnswer → Type 0
-DriveAs answer p fs us cells (On g) = DrivenAs answer p fs us cells g
-DriveAs answer p fs us cells (Refused k) = answer ≡ refused k
+-- what the code answers: the counts then, or a refusal
+abbrev pub DriveAs : Answer Net → Plan → List Float → List ℕ → List ℕ → Result Counts Refusal → Type 0
+DriveAs answer p fs us cells (Ok c) = DrivenAs answer p fs us cells c
+DriveAs answer p fs us cells (Err r) = answer ≡ refused (refusal_number r)
+
+-- nodes 0 and 1 and no run, of a book that was read
+pub record AtStart (b : List ℕ) (p : Plan) (s : Lists) : Type 0 where
+  pub read : Read b
+  pub table : Table
+  pub room : Room table.floats table.numbers p.w.places
+  pub more : 1 < p.w.places
+  pub origins : OriginsIn b p s (kept_origins b) start_state (first_nodes b table) []
+
+-- the runs of its kept origins wait
+pub record FromOrigins (b : List ℕ) (p : Plan) (s : Lists) (g : Rest) : Type 0 where
+  pub read : Read b
+  pub table : Table
+  pub room : Room table.floats table.numbers p.w.places
+  pub more : 1 < p.w.places
+  pub growth : Growth
+  pub grown :
+      grow_origins b p.w.places (kept_origins b) (record { net = first_nodes b table; saved = [] }) ≡ given growth
+  pub path : List ℕ
+  pub holds : DriveIn b p s path (idle g) growth.net growth.saved
 
 -- ---- growth
 
@@ -83,34 +108,34 @@ pub record WholeAs (answer : Answer Grown) (fs : List Float) (us : List ℕ)
   pub finished_are : network.finished ≡ finished
 
 -- what the code answers: the report, or a refusal
-abbrev pub GrownAs : Answer Grown → List Float → List ℕ → GrownBook → Type 0
-GrownAs answer fs us (Whole c) = WholeAs answer fs us c.nodes c.added c.splits c.joined c.finished
-GrownAs answer fs us (Stopped k) = answer ≡ refused k
+abbrev pub GrownAs : Answer Grown → List Float → List ℕ → Result Report Refusal → Type 0
+GrownAs answer fs us (Ok c) = WholeAs answer fs us c.nodes c.added c.splits c.joined c.finished
+GrownAs answer fs us (Err r) = answer ≡ refused (refusal_number r)
 
 -- ---- what the parts answer, of every network and runs that the slices hold
 
 -- the run at the front, or the one that was saved last, takes its leg
-abbrev pub TakesNext : List ℕ → Plan → State → Lists → Lists → GrowthAnswer → Type 0
+abbrev pub TakesNext : List ℕ → Plan → State → Lists → Lists → Result State Refusal → Type 0
 TakesNext b p g s s' r =
     (path : List ℕ) (net : Net) (runs : List Run)
     → DriveIn b p s path g net runs
     → TurnedAs (next_turn b p.w.places net runs) b p s' r
 
 -- all runs take their legs
-abbrev pub Drives : List ℕ → Plan → State → Lists → Lists → GrowthAnswer → Type 0
+abbrev pub Drives : List ℕ → Plan → Rest → Lists → Lists → Result Counts Refusal → Type 0
 Drives b p g s s' r =
     (path : List ℕ) (net : Net) (runs : List Run)
-    → DriveIn b p s path g net runs
+    → DriveIn b p s path (idle g) net runs
     → DriveAs (drive (legs b) b p.w.places net runs) p s'.floats s'.numbers s'.cells r
 
 -- the end Fakes and the last node are put behind a network
-abbrev pub Closes : Layout → Counts → Table → List ℕ → Table → GrownBook → Type 0
+abbrev pub Closes : Layout → Counts → Table → List ℕ → Table → Result Report Refusal → Type 0
 Closes w c t cells t' r =
     (net : Net) → Closing w t.floats t.numbers cells c net
     → GrownAs (closing w.places net) t'.floats t'.numbers r
 
 -- a network of nodes 0 and 1 grows
-abbrev pub GrowsFirst : List ℕ → Plan → Lists → Table → GrownBook → Type 0
+abbrev pub GrowsFirst : List ℕ → Plan → Lists → Table → Result Report Refusal → Type 0
 GrowsFirst b p s t' r =
     (net : Net)
     → OriginsIn b p s (kept_origins b) start_state net []

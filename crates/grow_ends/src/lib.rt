@@ -22,7 +22,7 @@ fn fake_node(next: u32, prev: u32, prev_alt: u32, time: f64) -> EstTime
         idx_next: next,
         idx_prev: prev,
         idx_prev_alt: prev_alt,
-        ..net_node::blank_node()
+        ..EstTime::BLANK
     }
 }
 

@@ -16,11 +16,12 @@ use Rattle.net_node.specs.declared.EstTime.{EstTime}
 use Rattle.net_node.specs.declared.TimedEvent.{TimedEvent}
 use Rattle.net_node.specs.Table.{node_at, Indexed, Table, at}
 use Rattle.net_insertion.specs.declared.Place.{Place}
-use Rattle.net_insertion.specs.declared.Inserted.{Inserted}
-use Rattle.net_insertion.proofs.Numbers.{RefusesAs, inserted_refuses}
+use Rattle.std.specs.Prelude.{Result, Ok, Err}
 use Rattle.refusals.specs.declared.Refusal.{Refusal}
 use Rattle.refusals.specs.Refusals.{refusal_number}
-use Rattle.net_insertion.specs.declared.Inserted.TheVariants.{Added, Moved, Refused}
+use Rattle.net_insertion.specs.declared.Insertion.{Insertion}
+use Rattle.net_insertion.specs.declared.Insertion.TheVariants.{Added, Moved}
+use Rattle.net_join_paths.specs.declared.EstJoinPath.{EstJoinPath}
 use Rattle.net_insertion.specs.Insertion.{linked_to, event_node, split_fake, inserted, inserted_table, InsertedInto, flagged, table_of}
 use Rattle.net_insertion.proofs.Kept.{inserted_same, more, Kept, inserted_room, call_kept}
 use Rattle.net_event_map.specs.declared.Layout.{Layout}
@@ -30,7 +31,7 @@ use Rattle.grow_rules.specs.Run.{Net, Run, arc_to, member_of, count_if, added_to
 use Rattle.grow_rules.specs.Run.{inserted_run as answeredAs}
 use Rattle.grow_events.specs.declared.Counts.{Counts}
 use Rattle.grow_events.specs.declared.Mover.{Mover}
-use Rattle.grow_events.specs.Held.{ends_at, NetIn, RunIn, GoesAs, counts_added}
+use Rattle.grow_events.specs.Held.{ends_at, NetIn, RunIn, GoesAs, InsertedAs, counts_added}
 use Rattle.grow_events.proofs.Kept.{valid_more}
 use Rattle.grow_ends.proofs.Kept.{ends_same, below_more}
 
@@ -71,13 +72,13 @@ module _ {w : Layout} {start : List ℕ} {fs : List Float} {us cells : List ℕ}
     abbrev ended : ℕ → Bool
     ended = flagged cells (ends_at w)
 
-    abbrev answer : Inserted
+    abbrev answer : Result Insertion Refusal
     answer = inserted (table_of fs us) c.nodes w.places ended join p e
 
-    abbrev KeptAs : Table → Inserted → Type 0
+    abbrev KeptAs : Table → Result Insertion Refusal → Type 0
     KeptAs = Kept (table_of fs us) c.nodes w.places ended join p e
 
-    kept_now : (fs' : List Float) (us' : List ℕ) (a : Inserted) → a ≡ answer → InsertedInto (table_of fs us) c.nodes join p e fs' us' a → KeptAs (table_of fs' us') a
+    kept_now : (fs' : List Float) (us' : List ℕ) (a : Result Insertion Refusal) → a ≡ answer → InsertedInto (table_of fs us) c.nodes join p e fs' us' a → KeptAs (table_of fs' us') a
     kept_now = call_kept (table_of fs us) c.nodes w.places ended join p e v.room net_indexed h
 
     -- node i is new
@@ -106,7 +107,7 @@ module _ {w : Layout} {start : List ℕ} {fs : List Float} {us cells : List ℕ}
     unfolding event_node
     new_event after i j prev d x = ap (λ (y : ℕ). (at after y).link_event) (sym d) ∙ ap (λ (y : EstTime). y.link_event) x
 
-    ready_behind : (after : Table) (q : Place) → KeptAs after (Added q false) → Ready after q.idx_prev false
+    ready_behind : (after : Table) (q : Place) → KeptAs after (Ok (Added q false)) → Ready after q.idx_prev false
     unfolding linked_to
     ready_behind after q k =
         let i : c.nodes ≡ q.idx_prev = omega (arith, k.grown.last) in
@@ -117,7 +118,7 @@ module _ {w : Layout} {start : List ℕ} {fs : List Float} {us cells : List ℕ}
           indexed = subst (Indexed (at after)) (sym k.grown.last) k.grown.indexed;
         }
 
-    ready_split : (after : Table) (q : Place) → KeptAs after (Added q true) → Ready after q.idx_prev true
+    ready_split : (after : Table) (q : Place) → KeptAs after (Ok (Added q true)) → Ready after q.idx_prev true
     unfolding linked_to split_fake
     ready_split after q k =
         let i : c.nodes + 1 ≡ q.idx_prev = omega (arith, k.grown.last) in
@@ -130,24 +131,20 @@ module _ {w : Layout} {start : List ℕ} {fs : List Float} {us cells : List ℕ}
           indexed = subst (Indexed (at after)) (sym k.grown.last) k.grown.indexed;
         }
 
-    ready_as : (after : Table) (q : Place) (split : Bool) → KeptAs after (Added q split) → Ready after q.idx_prev split
+    ready_as : (after : Table) (q : Place) (split : Bool) → KeptAs after (Ok (Added q split)) → Ready after q.idx_prev split
     ready_as after q false k = ready_behind after q k
     ready_as after q true k = ready_split after q k
 
     -- by the contract of `insert_est_time`
-    added_ready : (fs' : List Float) (us' : List ℕ) (a : Inserted) → a ≡ answer → InsertedInto (table_of fs us) c.nodes join p e fs' us' a → (q : Place) (split : Bool) → a ≡ Added q split → Ready (table_of fs' us') q.idx_prev split
+    added_ready : (fs' : List Float) (us' : List ℕ) (a : Result Insertion Refusal) → a ≡ answer → InsertedInto (table_of fs us) c.nodes join p e fs' us' a → (q : Place) (split : Bool) → a ≡ Ok (Added q split) → Ready (table_of fs' us') q.idx_prev split
     added_ready fs' us' a f l q split g = ready_as (table_of fs' us') q split (subst (KeptAs (table_of fs' us')) g (kept_now fs' us' a f l))
 
-    pub added_fresh : (fs' : List Float) (us' : List ℕ) (a : Inserted) → a ≡ answer → InsertedInto (table_of fs us) c.nodes join p e fs' us' a → (q : Place) (split : Bool) → a ≡ Added q split → Fresh q.idx_prev split
+    pub added_fresh : (fs' : List Float) (us' : List ℕ) (a : Result Insertion Refusal) → a ≡ answer → InsertedInto (table_of fs us) c.nodes join p e fs' us' a → (q : Place) (split : Bool) → a ≡ Ok (Added q split) → Fresh q.idx_prev split
     added_fresh fs' us' a f l q split g = (added_ready fs' us' a f l q split g).fresh
-
--- row 12 or 13
-pub inserted_rows : (t : Table) (n places : ℕ) (ended : ℕ → Bool) (join : Float) (p : Place) (e : TimedEvent) (a : Inserted) → a ≡ inserted t n places ended join p e → (k : ℕ) → a ≡ Refused k → (k ≡ 12) ⊎ (k ≡ 13)
-inserted_rows t n places ended join p e a f k h = subst RefusesAs (sym f ∙ h) (inserted_refuses t n places ended join p e)
 
 -- ---- the network and the run then
 
-module _ {w : Layout} {start : List ℕ} {fs : List Float} {us cells : List ℕ} {c : Counts} {net : Net} (v : NetIn w start fs us cells c net) {leg : ℕ} {joins : List ℕ} {m : Mover} {run : Run} (u : RunIn c.nodes leg joins m run)
+module _ {w : Layout} {start : List ℕ} {fs : List Float} {us cells : List ℕ} {c : Counts} {net : Net} (v : NetIn w start fs us cells c net) {leg : ℕ} {joins : List EstJoinPath} {m : Mover} {run : Run} (u : RunIn c.nodes leg joins m run)
     (join : Float) (e : TimedEvent) where
   abbrev table_then : Table
   table_then = inserted_table (table_of fs us) c.nodes join m.place e
@@ -161,26 +158,26 @@ module _ {w : Layout} {start : List ℕ} {fs : List Float} {us cells : List ℕ}
       ∙ ap (answeredAs net run e table_then) (inserted_same (table_of fs us) c.nodes w.places (member_of net.ends) (flagged cells (ends_at w)) join m.place e (net_indexed v) u.stands (λ i h. sym (v.ended i (omega (arith, v.within)))))
 
   -- what the code got from `insert_est_time`
-  module _ (fs' : List Float) (us' : List ℕ) (a : Inserted) (f : a ≡ answer v join m.place e u.stands) (l : InsertedInto (table_of fs us) c.nodes join m.place e fs' us' a) where
-    answers : (x : Inserted) → a ≡ x → goes_on (insert_event w.places join net run e) ≡ goes_on (answeredAs net run e table_then x)
+  module _ (fs' : List Float) (us' : List ℕ) (a : Result Insertion Refusal) (f : a ≡ answer v join m.place e u.stands) (l : InsertedInto (table_of fs us) c.nodes join m.place e fs' us' a) where
+    answers : (x : Result Insertion Refusal) → a ≡ x → goes_on (insert_event w.places join net run e) ≡ goes_on (answeredAs net run e table_then x)
     answers x h = ap goes_on (event_is ∙ ap (answeredAs net run e table_then) (sym f ∙ h))
 
-    pub insert_refused : (k : ℕ) → a ≡ Refused k → (r : Refusal) → refusal_number r ≡ k → insert_event w.places join net run e ≡ refused (refusal_number r)
-    insert_refused k h r g = event_is ∙ ap (answeredAs net run e table_then) (sym f ∙ h) ∙ ap refused (sym g)
+    pub insert_refused : (r : Refusal) → a ≡ Err r → (x : Result (Counts × Mover) Refusal) → x ≡ Err r → InsertedAs (insert_event w.places join net run e) w start leg fs' us' cells joins x
+    insert_refused r h x g = subst (InsertedAs (insert_event w.places join net run e) w start leg fs' us' cells joins) (sym g) (event_is ∙ ap (answeredAs net run e table_then) (sym f ∙ h))
 
-    pub insert_moved : (q : Place) → a ≡ Moved q → GoesAs (goes_on (insert_event w.places join net run e)) w start leg fs' us' cells joins c (record { place = q; has_split = m.has_split; count = m.count })
+    pub insert_moved : (q : Place) → a ≡ Ok (Moved q) → GoesAs (goes_on (insert_event w.places join net run e)) w start leg fs' us' cells joins c (record { place = q; has_split = m.has_split })
     unfolding moved_to
     insert_moved q h =
-        let k : KeptAs v join m.place e u.stands (table_of fs' us') (Moved q) = subst (KeptAs v join m.place e u.stands (table_of fs' us')) h (kept_now v join m.place e u.stands fs' us' a f l) in
+        let k : KeptAs v join m.place e u.stands (table_of fs' us') (Ok (Moved q)) = subst (KeptAs v join m.place e u.stands (table_of fs' us')) h (kept_now v join m.place e u.stands fs' us' a f l) in
         record {
           after = record { net = net; run = moved_to run q run.has_split };
-          is = answers (Moved q) h;
+          is = answers (Ok (Moved q)) h;
           net = subst (λ (x : Table). NetIn w start x.floats x.numbers cells c net) (sym k.table) v;
           run = record { place = refl; leg = u.leg; has_split = u.has_split; joins = u.joins; few = u.few; valid = u.valid; stands = k.within };
         }
 
     -- and from `net_event_map::insert`
-    module _ (q : Place) (split : Bool) (h : a ≡ Added q split) (cells' : List ℕ) (long : length cells' ≡ length cells)
+    module _ (q : Place) (split : Bool) (h : a ≡ Ok (Added q split)) (cells' : List ℕ) (long : length cells' ≡ length cells)
         (mapped : MapsNode cells cells' w q.idx_prev e.link_event) (only : MapOnly cells cells' w) where
       ready : Ready v join m.place e u.stands (table_of fs' us') q.idx_prev split
       ready = added_ready v join m.place e u.stands fs' us' a f l q split h
@@ -215,11 +212,11 @@ module _ {w : Layout} {start : List ℕ} {fs : List Float} {us cells : List ℕ}
         elsewhere = λ x g f. only.stays x (λ j k a b d. omega arith) (λ i a (d : x ≡ w.nodes_at + i * 8). f i 0 a (omega arith) (omega arith)) ∙ v.elsewhere x g f;
       }
 
-      pub insert_added : (d : Counts) → d ≡ counts → GoesAs (goes_on (insert_event w.places join net run e)) w start leg fs' us' cells' joins d (record { place = q; has_split = true; count = m.count })
+      pub insert_added : (d : Counts) → d ≡ counts → GoesAs (goes_on (insert_event w.places join net run e)) w start leg fs' us' cells' joins d (record { place = q; has_split = true })
       unfolding moved_to
-      insert_added d z = subst (λ (d : Counts). GoesAs (goes_on (insert_event w.places join net run e)) w start leg fs' us' cells' joins d (record { place = q; has_split = true; count = m.count })) (sym z) (record {
+      insert_added d z = subst (λ (d : Counts). GoesAs (goes_on (insert_event w.places join net run e)) w start leg fs' us' cells' joins d (record { place = q; has_split = true })) (sym z) (record {
         after = record { net = added_to net table_then q split (arc_to run.place q.idx_prev e); run = moved_to run q true };
-        is = answers (Added q split) h;
+        is = answers (Ok (Added q split)) h;
         net = added_net;
         run = record { place = refl; leg = u.leg; has_split = refl; joins = u.joins; few = u.few; valid = valid_more ready.fresh.grows u.valid; stands = omega arith };
       })

@@ -13,9 +13,9 @@ use Rattle.net_node.specs.Table.{node_at, Indexed, Table, at}
 use Rattle.net_event_map.specs.declared.Layout.{Layout}
 use Rattle.net_event_map.specs.EventMap.{Mapped}
 use Rattle.net_join_paths.specs.declared.EstJoinPath.{EstJoinPath}
-use Rattle.net_join_paths.specs.Entries.{entries_in}
+use Rattle.net_join_paths.proofs.Kept.{Sound}
 use Rattle.net_joins.specs.declared.Step.{Step}
-use Rattle.net_joins.specs.declared.Step.TheVariants.{Joined, Waits, Refused}
+use Rattle.net_joins.specs.declared.Step.TheVariants.{Joined, Waits}
 use Rattle.net_joins.specs.Joins.{JoinStep, join_step, joined_table, StepAs, SteppedInto}
 use Rattle.net_joins.proofs.Kept.{Target, joined_target, waits_sound, stepped_table, joined_room, joined_indexed, joined_mapped}
 use Rattle.grow_rules.specs.Run.{Net, Run, After, joined_to, with_joins, insert_event, goes_on, joined_as, event_as, run_event}
@@ -23,6 +23,7 @@ use Rattle.grow_events.specs.declared.Counts.{Counts}
 use Rattle.grow_events.specs.declared.Mover.{Mover}
 use Rattle.std.specs.Prelude.{Result, Ok, Err}
 use Rattle.refusals.specs.declared.Refusal.{Refusal}
+use Rattle.refusals.specs.Refusals.{refusal_number}
 use Rattle.grow_events.specs.declared.RunOutcome.{RunOutcome}
 use Rattle.grow_events.specs.declared.RunOutcome.TheVariants.{On}
 use Rattle.grow_events.specs.Held.{NetIn, RunIn, Growing, Moving, LeftAs, GoesAs, OutcomeAs, InsertedAs, counts_joined}
@@ -30,7 +31,7 @@ use Rattle.grow_ends.proofs.Kept.{below_more}
 use Rattle.grow_events.proofs.Inserting.{net_indexed, net_mapped}
 use Rattle.net_insertion.specs.Insertion.{table_of}
 
-pub moving_grows : {w : Layout} {fs : List Float} {us cells joins : List ℕ} {c : Counts} {m : Mover} → Moving w fs us cells joins c m → Growing w fs us cells c
+pub moving_grows : {w : Layout} {fs : List Float} {us cells : List ℕ} {joins : List EstJoinPath} {c : Counts} {m : Mover} → Moving w fs us cells joins c m → Growing w fs us cells c
 moving_grows v = record { start = v.start; net = v.net; holds = v.holds }
 
 -- what an insertion gives is what the event gives
@@ -38,28 +39,28 @@ abbrev pub as_outcome : Result (Counts × Mover) Refusal → Result RunOutcome R
 as_outcome (Ok r) = Ok (On r.0 r.1)
 as_outcome (Err r) = Err r
 
-pub inserted_outcome : (answer : Answer After) (w : Layout) (start : List ℕ) (leg : ℕ) (fs : List Float) (us cells joins : List ℕ) (r : Result (Counts × Mover) Refusal)
+pub inserted_outcome : (answer : Answer After) (w : Layout) (start : List ℕ) (leg : ℕ) (fs : List Float) (us cells : List ℕ) (joins : List EstJoinPath) (r : Result (Counts × Mover) Refusal)
     → InsertedAs answer w start leg fs us cells joins r → OutcomeAs (goes_on answer) w start leg fs us cells joins (as_outcome r)
 inserted_outcome answer w start leg fs us cells joins (Ok r) h = h
 inserted_outcome answer w start leg fs us cells joins (Err r) h = ap goes_on h
 
-module _ {w : Layout} {start : List ℕ} {fs : List Float} {us cells : List ℕ} {c : Counts} {net : Net} (v : NetIn w start fs us cells c net) {leg : ℕ} {joins : List ℕ} {m : Mover} {run : Run} (u : RunIn c.nodes leg joins m run)
+module _ {w : Layout} {start : List ℕ} {fs : List Float} {us cells : List ℕ} {c : Counts} {net : Net} (v : NetIn w start fs us cells c net) {leg : ℕ} {joins : List EstJoinPath} {m : Mover} {run : Run} (u : RunIn c.nodes leg joins m run)
     (join : Float) (e : TimedEvent) where
   -- a run that has not added since its pop
   event_alone : not m.has_split ≡ true → run_event w.places join net run e ≡ goes_on (insert_event w.places join net run e)
   unfolding run_event
   event_alone h = ap (λ (b : Bool). event_as b w.places join net run e) (u.has_split ∙ not-true m.has_split h)
 
-  pub alone_as : not m.has_split ≡ true → (fs' : List Float) (us' cells' joins' : List ℕ) (r : Result (Counts × Mover) Refusal) → InsertedAs (insert_event w.places join net run e) w start leg fs' us' cells' joins' r → (x : Result RunOutcome Refusal) → x ≡ as_outcome r → OutcomeAs (run_event w.places join net run e) w start leg fs' us' cells' joins' x
+  pub alone_as : not m.has_split ≡ true → (fs' : List Float) (us' cells' : List ℕ) (joins' : List EstJoinPath) (r : Result (Counts × Mover) Refusal) → InsertedAs (insert_event w.places join net run e) w start leg fs' us' cells' joins' r → (x : Result RunOutcome Refusal) → x ≡ as_outcome r → OutcomeAs (run_event w.places join net run e) w start leg fs' us' cells' joins' x
   alone_as h fs' us' cells' joins' r o x q =
       subst (OutcomeAs (run_event w.places join net run e) w start leg fs' us' cells' joins') (sym q)
       (subst (λ a. OutcomeAs a w start leg fs' us' cells' joins' (as_outcome r)) (sym (event_alone h)) (inserted_outcome (insert_event w.places join net run e) w start leg fs' us' cells' joins' r o))
 
   abbrev step_now : JoinStep
-  step_now = join_step (node_at fs us) c.nodes w.places join e (entries_in joins m.count)
+  step_now = join_step (node_at fs us) c.nodes w.places join e joins
 
   -- one that has, and what it got from `join_step`
-  module _ (h : not m.has_split ≡ false) (fs' : List Float) (us' cells' joins' : List ℕ) (s : Step) (f : StepAs step_now joins' s) (t : SteppedInto (table_of fs us) c.nodes e fs' us' s) (k : cells' ≡ cells) where
+  module _ (h : not m.has_split ≡ false) (fs' : List Float) (us' cells' : List ℕ) (joins' : List EstJoinPath) (s : Result Step Refusal) (f : StepAs step_now joins' s) (t : SteppedInto (table_of fs us) c.nodes e fs' us' s) (k : cells' ≡ cells) where
     step_is : (d : JoinStep) → step_now ≡ d → run_event w.places join net run e ≡ joined_as w.places join net run e d
     unfolding run_event at
     step_is d g =
@@ -69,14 +70,16 @@ module _ {w : Layout} {start : List ℕ} {fs : List Float} {us cells : List ℕ}
         ∙ ap (λ (es : List EstJoinPath). joined_as w.places join net run e (join_step (node_at fs us) c.nodes w.places join e es)) u.joins
         ∙ ap (joined_as w.places join net run e) g
 
-    pub step_refused : (n : ℕ) → s ≡ Refused n → run_event w.places join net run e ≡ refused 12
-    step_refused n g = let z : StepAs step_now joins' (Refused n) = subst (StepAs step_now joins') g f in step_is _ z.0
+    pub step_refused : (r : Refusal) → s ≡ Err r → (x : Result RunOutcome Refusal) → x ≡ Err r → OutcomeAs (run_event w.places join net run e) w start leg fs' us' cells' joins' x
+    step_refused r g x h =
+        let z : StepAs step_now joins' (Err r) = subst (StepAs step_now joins') g f in
+        subst (OutcomeAs (run_event w.places join net run e) w start leg fs' us' cells' joins') (sym h) (step_is _ z.0 ∙ ap (λ (y : Refusal). refused (refusal_number y)) (sym z.1))
 
     -- ---- the run has joined
 
-    module _ (target : ℕ) (g : s ≡ Joined target) where
+    module _ (target : ℕ) (g : s ≡ Ok (Joined target)) where
       joins_to : Target c.nodes w.places target
-      joins_to = joined_target v.indexed w.places join e (entries_in joins m.count) u.valid joins' target (subst (StepAs step_now joins') g f)
+      joins_to = joined_target v.indexed w.places join e joins u.valid joins' target (subst (StepAs step_now joins') g f)
 
       -- what the code asks of the counts
       pub joined_small : (c.nodes < 65535) × (c.joined < 65535)
@@ -119,20 +122,20 @@ module _ {w : Layout} {start : List ℕ} {fs : List Float} {us cells : List ℕ}
 
     -- ---- it goes on
 
-    module _ (n : ℕ) (g : s ≡ Waits n) where
+    module _ (g : s ≡ Ok Waits) where
       pub waits_net : NetIn w start fs' us' cells' c net
       waits_net =
           let z : (fs' ≡ fs) × (us' ≡ us) = subst (SteppedInto (table_of fs us) c.nodes e fs' us') g t in
           subst (λ (x : List Float). NetIn w start x us' cells' c net) (sym z.0) (subst (λ (x : List ℕ). NetIn w start fs x cells' c net) (sym z.1) (subst (λ (x : List ℕ). NetIn w start fs us x c net) (sym k) v))
 
-      pub waits_run : RunIn c.nodes leg joins' (record { place = m.place; has_split = m.has_split; count = n }) (with_joins run (entries_in joins' n))
+      pub waits_run : RunIn c.nodes leg joins' m (with_joins run joins')
       unfolding with_joins
       waits_run =
-          let z : StepAs step_now joins' (Waits n) = subst (StepAs step_now joins') g f in
-          record { place = u.place; leg = u.leg; has_split = u.has_split; joins = refl; few = z.1; valid = (waits_sound v.indexed w.places join e (entries_in joins m.count) u.valid joins' n z).valid; stands = u.stands }
+          let sound : Sound c.nodes joins' = waits_sound v.indexed w.places join e joins u.valid joins' (subst (StepAs step_now joins') g f) in
+          record { place = u.place; leg = u.leg; has_split = u.has_split; joins = refl; few = sound.few; valid = sound.valid; stands = u.stands }
 
-      pub step_waits : (fs'' : List Float) (us'' cells'' joins'' : List ℕ) (r : Result (Counts × Mover) Refusal) → InsertedAs (insert_event w.places join net (with_joins run (entries_in joins' n)) e) w start leg fs'' us'' cells'' joins'' r → (x : Result RunOutcome Refusal) → x ≡ as_outcome r → OutcomeAs (run_event w.places join net run e) w start leg fs'' us'' cells'' joins'' x
+      pub step_waits : (fs'' : List Float) (us'' cells'' : List ℕ) (joins'' : List EstJoinPath) (r : Result (Counts × Mover) Refusal) → InsertedAs (insert_event w.places join net (with_joins run joins') e) w start leg fs'' us'' cells'' joins'' r → (x : Result RunOutcome Refusal) → x ≡ as_outcome r → OutcomeAs (run_event w.places join net run e) w start leg fs'' us'' cells'' joins'' x
       step_waits fs'' us'' cells'' joins'' r o x q =
-          let z : StepAs step_now joins' (Waits n) = subst (StepAs step_now joins') g f in
+          let z : StepAs step_now joins' (Ok Waits) = subst (StepAs step_now joins') g f in
           subst (OutcomeAs (run_event w.places join net run e) w start leg fs'' us'' cells'' joins'') (sym q)
-          (subst (λ a. OutcomeAs a w start leg fs'' us'' cells'' joins'' (as_outcome r)) (sym (step_is _ z.0)) (inserted_outcome (insert_event w.places join net (with_joins run (entries_in joins' n)) e) w start leg fs'' us'' cells'' joins'' r o))
+          (subst (λ a. OutcomeAs a w start leg fs'' us'' cells'' joins'' (as_outcome r)) (sym (step_is _ z)) (inserted_outcome (insert_event w.places join net (with_joins run joins') e) w start leg fs'' us'' cells'' joins'' r o))

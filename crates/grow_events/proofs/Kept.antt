@@ -109,7 +109,7 @@ module _ {w : Layout} {start : List ℕ} {fs fs' : List Float} {us us' cells cel
 pub valid_more : {es : List EstJoinPath} {n n' : ℕ} → n ≤ n' → Valid es n → Valid es n'
 valid_more l v = record { node = λ k h. omega (arith, v.node k h) }
 
-pub run_more : {n n' j : ℕ} {list : List ℕ} {m : Mover} {run : Run} → n ≤ n' → RunIn n j list m run → RunIn n' j list m run
+pub run_more : {n n' j : ℕ} {list : List EstJoinPath} {m : Mover} {run : Run} → n ≤ n' → RunIn n j list m run → RunIn n' j list m run
 run_more l u = record { place = u.place; leg = u.leg; has_split = u.has_split; joins = u.joins; few = u.few; valid = valid_more l u.valid; stands = omega (arith, u.stands) }
 
 -- ---- going on

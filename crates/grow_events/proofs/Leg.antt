@@ -16,11 +16,12 @@ use Rattle.event_walk.specs.declared.Movement.{Movement}
 use Rattle.event_walk.specs.declared.Heads.{Heads}
 use Rattle.event_walk.specs.declared.PassedPoint.{PassedPoint}
 use Rattle.event_walk.specs.Course.{Course, course_of, Walkable}
-use Rattle.event_walk.specs.Walk.{start, offset_next, clears_next, emits, turn, passed_as, passed_next, walk, turns_left, passed_from, points_passed, bad_point, some_bad, Each, Within}
+use Rattle.event_walk.specs.Walk.{start, offset_next, clears_next, emits, turn, passed_as, passed_next, walk, turns_left, passed_from, points_passed, bad_point, some_bad, Each}
 use Rattle.event_walk.proofs.Theorems.{never_the_last}
 use Rattle.grow_path.proofs.Testing.{bad_first, fine_first}
 use Rattle.grow_path.specs.Path.{event_at, events_at}
 use Rattle.net_event_map.specs.declared.Layout.{Layout}
+use Rattle.net_join_paths.specs.declared.EstJoinPath.{EstJoinPath}
 use Rattle.net_event_map.specs.EventMap.{RealKind, Real}
 use Rattle.grow_rules.specs.Run.{Net, Run, After, run_event, next_event, run_events}
 use Rattle.grow_rules.specs.Run.{Outcome}
@@ -91,46 +92,44 @@ module _ (b : List ℕ) (reals : List Float) (v : Movement) (w : Layout) (join :
   course = course_of b reals v
 
   -- what is left of a leg from a network and a run
-  abbrev left_of : List ℕ → Heads → Net → Run → Answer Outcome
-  left_of path h net run = run_events w.places join (events_at b path (passed_from course h)) (record { net = net; run = run })
+  abbrev left_of : List ℕ → List PassedPoint → Net → Run → Answer Outcome
+  left_of path ps net run = run_events w.places join (events_at b path ps) (record { net = net; run = run })
 
   -- and behind its next event
-  abbrev then_left : List ℕ → Heads → Answer Outcome → Answer Outcome
-  then_left path g x = and_then x (next_event (run_events w.places join (events_at b path (passed_from course g))))
+  abbrev then_left : List ℕ → List PassedPoint → Answer Outcome → Answer Outcome
+  then_left path later x = and_then x (next_event (run_events w.places join (events_at b path later)))
 
   abbrev whole_of : List ℕ → Net → Run → Answer Outcome
   whole_of path net run = run_events w.places join (events_at b path (points_passed course)) (record { net = net; run = run })
 
   -- a network and a run on their way, and what the whole leg gives
-  pub record OnWay (start path : List ℕ) (leg : ℕ) (fs : List Float) (us cells joins : List ℕ) (h : Heads) (c : Counts) (m : Mover) (whole : Answer Outcome) : Type 0 where
+  pub record OnWay (start path : List ℕ) (leg : ℕ) (fs : List Float) (us cells : List ℕ) (joins : List EstJoinPath) (ps : List PassedPoint) (c : Counts) (m : Mover) (whole : Answer Outcome) : Type 0 where
     pub net : Net
     pub run : Run
     pub holds : NetIn w start fs us cells c net
     pub runs : RunIn c.nodes leg joins m run
     pub along : Along b reals cells w v.points path
-    pub left : left_of path h net run ≡ whole
+    pub left : left_of path ps net run ≡ whole
 
-  module _ (fs₀ : List Float) (us₀ cells₀ joins₀ : List ℕ) (c₀ : Counts) (m₀ : Mover) where
-    pub record Going (fs : List Float) (us cells joins : List ℕ) (h : Heads) (c : Counts) (m : Mover) : Type 0 where
-      pub within : Within course h
-      pub ahead : Each (Ahead v.points) (passed_from course h)
+  module _ (fs₀ : List Float) (us₀ cells₀ : List ℕ) (joins₀ : List EstJoinPath) (c₀ : Counts) (m₀ : Mover) where
+    pub record Going (fs : List Float) (us cells : List ℕ) (joins : List EstJoinPath) (ps : List PassedPoint) (c : Counts) (m : Mover) : Type 0 where
+      pub ahead : Each (Ahead v.points) ps
       pub more : c₀.nodes ≤ c.nodes
-      pub fine : some_bad (points_passed course) ≡ some_bad (passed_from course h)
+      pub fine : some_bad (points_passed course) ≡ some_bad ps
       pub goes : (start path : List ℕ) (leg : ℕ) (net : Net) (run : Run) → NetIn w start fs₀ us₀ cells₀ c₀ net → RunIn c₀.nodes leg joins₀ m₀ run → Along b reals cells₀ w v.points path
-          → OnWay start path leg fs us cells joins h c m (whole_of path net run)
+          → OnWay start path leg fs us cells joins ps c m (whole_of path net run)
 
-    pub going_start : (h : Heads) → h ≡ start course → Within course h → Walkable course → Going fs₀ us₀ cells₀ joins₀ h c₀ m₀
-    unfolding points_passed course_of
-    going_start h e k l = record {
-      within = k;
-      ahead = subst (λ (x : Heads). Each (Ahead v.points) (passed_from course x)) (sym e) (all_ahead course l);
+    pub going_start : (ps : List PassedPoint) → ps ≡ points_passed course → Walkable course → Going fs₀ us₀ cells₀ joins₀ ps c₀ m₀
+    unfolding course_of
+    going_start ps e l = record {
+      ahead = subst (Each (Ahead v.points)) (sym e) (all_ahead course l);
       more = omega arith;
-      fine = ap (λ (x : Heads). some_bad (passed_from course x)) (sym e);
-      goes = λ start path leg net run n r a. record { net = net; run = run; holds = n; runs = r; along = a; left = ap (λ (x : Heads). left_of path x net run) e };
+      fine = ap some_bad (sym e);
+      goes = λ start path leg net run n r a. record { net = net; run = run; holds = n; runs = r; along = a; left = ap (λ (x : List PassedPoint). left_of path x net run) e };
     }
 
-    module _ {fs : List Float} {us cells joins : List ℕ} {h : Heads} {c : Counts} {m : Mover} (s : Going fs us cells joins h c m) where
-      pub going_end : passed_from course h ≡ [] → (start path : List ℕ) (leg : ℕ) (net : Net) (run : Run) → NetIn w start fs₀ us₀ cells₀ c₀ net → RunIn c₀.nodes leg joins₀ m₀ run → Along b reals cells₀ w v.points path
+    module _ {fs : List Float} {us cells : List ℕ} {joins : List EstJoinPath} {ps : List PassedPoint} {c : Counts} {m : Mover} (s : Going fs us cells joins ps c m) where
+      pub going_end : ps ≡ [] → (start path : List ℕ) (leg : ℕ) (net : Net) (run : Run) → NetIn w start fs₀ us₀ cells₀ c₀ net → RunIn c₀.nodes leg joins₀ m₀ run → Along b reals cells₀ w v.points path
           → GoesAs (unless_bad (some_bad (points_passed course)) (whole_of path net run)) w start leg fs us cells joins c m
       unfolding run_events events_at some_bad
       going_end e start path leg net run n r a =
@@ -139,8 +138,8 @@ module _ (b : List ℕ) (reals : List Float) (v : Movement) (w : Layout) (join :
           record { after = x; is = ap (λ (t : Bool). unless_bad t (whole_of path net run)) (s.fine ∙ ap some_bad e) ∙ sym o.left ∙ ap (λ (ps : List PassedPoint). run_events w.places join (events_at b path ps) x) e; net = o.holds; run = o.runs }
 
       -- the next event
-      module _ (p : PassedPoint) (g : Heads) (e : passed_from course h ≡ p ∷ passed_from course g) where
-        next-all : Ahead v.points p × Each (Ahead v.points) (passed_from course g)
+      module _ (p : PassedPoint) (later : List PassedPoint) (e : ps ≡ p ∷ later) where
+        next-all : Ahead v.points p × Each (Ahead v.points) later
         unfolding Each
         next-all = subst (Each (Ahead v.points)) e s.ahead
 
@@ -149,11 +148,11 @@ module _ (b : List ℕ) (reals : List Float) (v : Movement) (w : Layout) (join :
 
         -- it is bad
         pub going-bad : bad_point p ≡ true → (answer : Answer Outcome) → unless_bad (some_bad (points_passed course)) answer ≡ refused 11
-        going-bad d answer = ap (λ (t : Bool). unless_bad t answer) (s.fine ∙ bad_first course h g p e d)
+        going-bad d answer = ap (λ (t : Bool). unless_bad t answer) (s.fine ∙ bad_first ps later p e d)
 
         -- what is asked of it
         module _ (q : SomePath b reals cells₀ w v.points) (y : Moving w fs₀ us₀ cells₀ joins₀ c₀ m₀) where
-          way : OnWay y.start q.path y.leg fs us cells joins h c m (whole_of q.path y.net y.run)
+          way : OnWay y.start q.path y.leg fs us cells joins ps c m (whole_of q.path y.net y.run)
           way = s.goes y.start q.path y.leg y.net y.run y.holds y.runs q.along
 
           pub next-moving : Moving w fs us cells joins c m
@@ -166,23 +165,23 @@ module _ (b : List ℕ) (reals : List Float) (v : Movement) (w : Layout) (join :
           next-real x z = subst (λ (y : TimedEvent). Real y.link_event w.links) (sym z) (event_real way.along next-ahead)
 
         -- what became of it
-        module _ (x : TimedEvent) (z : x ≡ event_in cells p) (fs' : List Float) (us' cells' joins' : List ℕ) (r : Result RunOutcome Refusal)
+        module _ (x : TimedEvent) (z : x ≡ event_in cells p) (fs' : List Float) (us' cells' : List ℕ) (joins' : List EstJoinPath) (r : Result RunOutcome Refusal)
             (f : (start : List ℕ) (leg : ℕ) (net : Net) (run : Run) → NetIn w start fs us cells c net → RunIn c.nodes leg joins m run → OutcomeAs (run_event w.places join net run x) w start leg fs' us' cells' joins' r)
             (k : NotFewer c r) (ok : bad_point p ≡ false) where
-          fine-left : some_bad (points_passed course) ≡ some_bad (passed_from course g)
-          fine-left = s.fine ∙ fine_first course h g p e ok
+          fine-left : some_bad (points_passed course) ≡ some_bad later
+          fine-left = s.fine ∙ fine_first ps later p e ok
 
-          step : (path : List ℕ) (net : Net) (run : Run) → Along b reals cells w v.points path → left_of path h net run ≡ then_left path g (run_event w.places join net run x)
+          step : (path : List ℕ) (net : Net) (run : Run) → Along b reals cells w v.points path → left_of path ps net run ≡ then_left path later (run_event w.places join net run x)
           unfolding run_events events_at
           step path net run a =
               ap (λ (ps : List PassedPoint). run_events w.places join (events_at b path ps) (record { net = net; run = run })) e
-              ∙ ap (λ (y : TimedEvent). then_left path g (run_event w.places join net run y)) (sym (z ∙ event_is a next-ahead))
+              ∙ ap (λ (y : TimedEvent). then_left path later (run_event w.places join net run y)) (sym (z ∙ event_is a next-ahead))
 
           stopped : (r : Result RunOutcome Refusal) → ((d : Counts) (n : Mover) → r ≡ Ok (On d n) → ⊥) → (start path : List ℕ) (leg : ℕ) (net : Net) (run : Run) → Along b reals cells w v.points path
-              → OutcomeAs (run_event w.places join net run x) w start leg fs' us' cells' joins' r → OutcomeAs (left_of path h net run) w start leg fs' us' cells' joins' r
+              → OutcomeAs (run_event w.places join net run x) w start leg fs' us' cells' joins' r → OutcomeAs (left_of path ps net run) w start leg fs' us' cells' joins' r
           stopped (Ok (On d n)) i start path leg net run a o = absurd (i d n refl)
-          stopped (Ok (Ended d)) i start path leg net run a o = record { after = o.after; is = step path net run a ∙ ap (then_left path g) o.is; net = o.net }
-          stopped (Err n) i start path leg net run a o = step path net run a ∙ ap (then_left path g) o
+          stopped (Ok (Ended d)) i start path leg net run a o = record { after = o.after; is = step path net run a ∙ ap (then_left path later) o.is; net = o.net }
+          stopped (Err n) i start path leg net run a o = step path net run a ∙ ap (then_left path later) o
 
           stays : ((d : Counts) (n : Mover) → r ≡ Ok (On d n) → ⊥) → (start path : List ℕ) (leg : ℕ) (net : Net) (run : Run) → NetIn w start fs₀ us₀ cells₀ c₀ net → RunIn c₀.nodes leg joins₀ m₀ run → Along b reals cells₀ w v.points path
               → OutcomeAs (whole_of path net run) w start leg fs' us' cells' joins' r
@@ -191,19 +190,19 @@ module _ (b : List ℕ) (reals : List Float) (v : Movement) (w : Layout) (join :
               subst (λ (y : Answer Outcome). OutcomeAs y w start leg fs' us' cells' joins' r) o.left (stopped r i start path leg o.net o.run o.along (f start leg o.net o.run o.holds o.runs))
 
           -- it is the last, unless a bad one is left
-          pub going-stop : ((d : Counts) (n : Mover) → r ≡ Ok (On d n) → ⊥) → (r' : Result RunOutcome Refusal) → r' ≡ stopped_as (some_bad (passed_from course g)) r
+          pub going-stop : ((d : Counts) (n : Mover) → r ≡ Ok (On d n) → ⊥) → (r' : Result RunOutcome Refusal) → r' ≡ stopped_as (some_bad later) r
               → (start path : List ℕ) (leg : ℕ) (net : Net) (run : Run) → NetIn w start fs₀ us₀ cells₀ c₀ net → RunIn c₀.nodes leg joins₀ m₀ run → Along b reals cells₀ w v.points path
               → OutcomeAs (unless_bad (some_bad (points_passed course)) (whole_of path net run)) w start leg fs' us' cells' joins' r'
           going-stop i r' q start path leg net run n u a =
               subst (λ (t : Bool). OutcomeAs (unless_bad t (whole_of path net run)) w start leg fs' us' cells' joins' r') (sym fine-left)
-              (subst (OutcomeAs (unless_bad (some_bad (passed_from course g)) (whole_of path net run)) w start leg fs' us' cells' joins') (sym q) (go (some_bad (passed_from course g))))
+              (subst (OutcomeAs (unless_bad (some_bad later) (whole_of path net run)) w start leg fs' us' cells' joins') (sym q) (go (some_bad later)))
             where
               go : (t : Bool) → OutcomeAs (unless_bad t (whole_of path net run)) w start leg fs' us' cells' joins' (stopped_as t r)
               go true = refl
               go false = stays i start path leg net run n u a
 
-          pub stop-more : (r' : Result RunOutcome Refusal) → r' ≡ stopped_as (some_bad (passed_from course g)) r → NotFewer c₀ r'
-          stop-more r' q = subst (NotFewer c₀) (sym q) (either (some_bad (passed_from course g)))
+          pub stop-more : (r' : Result RunOutcome Refusal) → r' ≡ stopped_as (some_bad later) r → NotFewer c₀ r'
+          stop-more r' q = subst (NotFewer c₀) (sym q) (either (some_bad later))
             where
               go : (r : Result RunOutcome Refusal) → NotFewer c r → NotFewer c₀ r
               go (Ok (On d n)) i = omega (arith, s.more)
@@ -214,16 +213,15 @@ module _ (b : List ℕ) (reals : List Float) (v : Movement) (w : Layout) (join :
               either true = tt
               either false = go r k
 
-          pub going_on : Within course g → (d : Counts) (n : Mover) → r ≡ Ok (On d n) → Going fs' us' cells' joins' g d n
-          going_on l d n i = record {
-            within = l;
+          pub going_on : (d : Counts) (n : Mover) → r ≡ Ok (On d n) → Going fs' us' cells' joins' later d n
+          going_on d n i = record {
             ahead = next-all.1;
             more = let y : c.nodes ≤ d.nodes = subst (NotFewer c) i k in omega (arith, s.more);
             fine = fine-left;
             goes = λ start path leg net run a u j. on start path leg net run (s.goes start path leg net run a u j);
           }
             where
-              on : (start path : List ℕ) (leg : ℕ) (net : Net) (run : Run) → OnWay start path leg fs us cells joins h c m (whole_of path net run) → OnWay start path leg fs' us' cells' joins' g d n (whole_of path net run)
+              on : (start path : List ℕ) (leg : ℕ) (net : Net) (run : Run) → OnWay start path leg fs us cells joins ps c m (whole_of path net run) → OnWay start path leg fs' us' cells' joins' later d n (whole_of path net run)
               on start path leg net run o =
                   let y : GoesAs (run_event w.places join o.net o.run x) w start leg fs' us' cells' joins' d n = subst (OutcomeAs (run_event w.places join o.net o.run x) w start leg fs' us' cells' joins') i (f start leg o.net o.run o.holds o.runs) in
                   record {
@@ -232,8 +230,15 @@ module _ (b : List ℕ) (reals : List Float) (v : Movement) (w : Layout) (join :
                     holds = y.net;
                     runs = y.run;
                     along = along_kept o.holds y.net o.along;
-                    left = sym (step path o.net o.run o.along ∙ ap (then_left path g) y.is) ∙ o.left;
+                    left = sym (step path o.net o.run o.along ∙ ap (then_left path later) y.is) ∙ o.left;
                   }
+
+-- ---- the slices keep their lengths
+
+pub record Long (fs₀ : List Float) (us₀ cells₀ : List ℕ) (fs : List Float) (us cells : List ℕ) : Type 0 where
+  pub floats : length fs ≡ length fs₀
+  pub numbers : length us ≡ length us₀
+  pub cells_long : length cells ≡ length cells₀
 
 -- ---- what became of a run, by its arms
 
@@ -245,13 +250,3 @@ not_ended r o d p q x n e = cc
 
 pub not_refused : (r : Result RunOutcome Refusal) (k : Refusal) → r ≡ Err k → (x : Counts) (n : Mover) → r ≡ Ok (On x n) → ⊥
 not_refused r k p x n e = cc
-
--- ---- the slices keep their lengths
-
-pub record Long (fs₀ : List Float) (us₀ cells₀ joins₀ scratch₀ stack₀ : List ℕ) (fs : List Float) (us cells joins scratch stack : List ℕ) : Type 0 where
-  pub floats : length fs ≡ length fs₀
-  pub numbers : length us ≡ length us₀
-  pub cells_long : length cells ≡ length cells₀
-  pub joins_long : length joins ≡ length joins₀
-  pub scratch_long : length scratch ≡ length scratch₀
-  pub stack_long : length stack ≡ length stack₀

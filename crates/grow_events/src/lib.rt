@@ -2,21 +2,20 @@
 // specs/Held.antt.
 #![tactic(auto)]
 
-ghost use Rattle.std.specs.Prelude.{◌≡◌, ℕ, ◌+◌, ◌≤◌, ◌<◌, length, ◌⊎◌, IfOk};
-ghost use Rattle.event_walk.specs.Course.{course_of, Held, Walkable};
-ghost use Rattle.event_walk.specs.Walk.{passed_from, some_bad, Within};
+ghost use Rattle.std.specs.Prelude.{◌≡◌, ◌≤◌, ◌<◌, IfOk};
+ghost use Rattle.event_walk.specs.Walk.{some_bad};
 ghost use Rattle.net_event_map.specs.EventMap.{Real};
 ghost use Rattle.net_node.specs.Lent.{table_at_entry, table_at_exit};
-ghost use Rattle.net_stack.specs.Openings.{stack_length};
-ghost use Rattle.refusals.specs.Refusals.{refusal_number};
 ghost use Rattle.grow_events.specs.Held.{Growing, Moving, SomePath, NotFewer, stopped_as, net_at_entry, net_at_exit};
 ghost use Rattle.grow_events.specs.Held.{InsertsEvent, RunsEvent, RunsLeg, counts_added, counts_joined};
 
-use event_walk::{Heads, Movement, Next};
+use event_walk::{Course, PassedPoints};
 use net_event_map::Layout;
-use net_insertion::{Inserted, Place};
+use net_insertion::{Insertion, Place};
+use net_join_paths::JoinPaths;
 use net_joins::Step;
 use net_node::TimedEvent;
+use net_stack::Stack;
 use refusals::Refusal;
 
 // What is counted of a network: its nodes, event nodes, split Fakes and joins; and the latest node at which a run has
@@ -30,12 +29,11 @@ pub struct Counts {
     pub last_end: u32,
 }
 
-// The run that moves: its place, whether it has added since its pop, and how many join entries it has.
+// The run that moves: its place, and whether it has added since its pop.
 #[derive(Clone, Copy)]
 pub struct Mover {
     pub place: Place,
     pub has_split: bool,
-    pub count: usize,
 }
 
 // What becomes of a run at an event, or at all of a leg: it goes on, or it has ended by a join.
@@ -60,18 +58,6 @@ fn with_added(c: Counts, node: u32, split: bool) -> Counts
     }
 }
 
-// The row of an insertion that is refused, by its number.
-fn refusal_of(k: u32) -> Refusal
-    requires { (k ≡ 12) ⊎ (k ≡ 13) }
-    ensures { refusal_number result ≡ k }
-{
-    if k == 12 {
-        Refusal::NoPlace
-    } else {
-        Refusal::BadEnd
-    }
-}
-
 // Inserts an event at a run's place; a node that is added is put into the map of events.
 pub fn insert_event(
     floats: &mut [f64],
@@ -90,7 +76,6 @@ pub fn insert_event(
         (table_at_exit floats numbers) cells.new result }
     ensures more { IfOk result (λ r. c.nodes ≤ r.0.nodes) }
 {
-    let place = m.place;
     let inserted = net_insertion::insert_est_time(
         floats,
         numbers,
@@ -99,20 +84,18 @@ pub fn insert_event(
         cells,
         w.nodes_at + 2,
         join,
-        place,
+        m.place,
         e,
-    );
+    )?;
     match inserted {
-        Inserted::Refused(k) => Err(refusal_of(k)),
-        Inserted::Moved(place) => Ok((c, Mover { place, ..m })),
-        Inserted::Added(place, split) => {
+        Insertion::Moved(place) => Ok((c, Mover { place, ..m })),
+        Insertion::Added { place, split } => {
             let event = e.link_event;
             net_event_map::insert(cells, w, place.idx_prev, event);
             let counts = with_added(c, place.idx_prev, split);
             let mover = Mover {
                 place,
                 has_split: true,
-                ..m
             };
             Ok((counts, mover))
         }
@@ -139,18 +122,15 @@ pub fn run_event(
     cells: &mut [u32],
     w: Layout,
     join: f64,
-    joins: &mut [u32],
-    scratch: &mut [u32],
-    stack: &mut [u32],
+    joins: &mut JoinPaths,
+    scratch: &mut JoinPaths,
+    stack: &mut Stack,
     c: Counts,
     m: Mover,
     e: TimedEvent,
 ) -> Result<RunOutcome, Refusal>
-    requires moving { Moving w floats.old numbers.old cells.old joins.old c m }
+    requires moving { Moving w floats.old numbers.old cells.old joins.old.items c m }
     requires real { Real e.link_event w.links }
-    requires in_bounds { 2048 ≤ length joins.old }
-    requires in_bounds_2 { 2048 ≤ length scratch.old }
-    requires stack_length_in_bounds { stack_length ≤ length stack.old }
     ensures outcome { RunsEvent w join c m e (net_at_entry floats numbers cells joins)
         (net_at_exit floats numbers cells joins) result }
     ensures more { NotFewer c result }
@@ -160,34 +140,22 @@ pub fn run_event(
         return Ok(RunOutcome::On(counts, mover));
     }
     let step = net_joins::join_step(
-        floats, numbers, c.nodes, cells, w, join, joins, m.count, scratch, stack, e,
-    );
+        floats, numbers, c.nodes, cells, w, join, joins, scratch, stack, e,
+    )?;
     match step {
-        Step::Refused(_) => Err(Refusal::NoPlace),
         Step::Joined(_) => Ok(RunOutcome::Ended(with_joined(c))),
-        Step::Waits(count) => {
-            let waits = Mover { count, ..m };
-            let (counts, mover) = insert_event(floats, numbers, cells, w, join, c, waits, e)?;
+        Step::Waits => {
+            let (counts, mover) = insert_event(floats, numbers, cells, w, join, c, m, e)?;
             Ok(RunOutcome::On(counts, mover))
         }
     }
 }
 
 // What a leg gives whose run has stopped, or is refused, before its end: 11, if an event is bad that is left.
-fn stopped(
-    book: &[u8],
-    reals: &[f64],
-    v: Movement,
-    from: Heads,
-    became: Result<RunOutcome, Refusal>,
-) -> Result<RunOutcome, Refusal>
-    requires held { Held book.now reals.now v }
-    requires walkable { Walkable (course_of book.now reals.now v) }
-    requires within { Within (course_of book.now reals.now v) from }
-    ensures { result ≡ stopped_as (some_bad (passed_from (course_of book.now reals.now v) from))
-        became }
+fn stopped(left: PassedPoints, became: Result<RunOutcome, Refusal>) -> Result<RunOutcome, Refusal>
+    ensures { result ≡ stopped_as (some_bad left.entry) became }
 {
-    if grow_path::some_bad(book, reals, v, from) {
+    if grow_path::some_bad(left) {
         return Err(Refusal::BadEvent);
     }
     became
@@ -197,40 +165,30 @@ fn stopped(
 // before all that an event of the leg gives, so each is tested as it comes, and those that are left where the run
 // stops.
 pub fn run_events(
-    book: &[u8],
-    reals: &[f64],
+    course: &Course,
     floats: &mut [f64],
     numbers: &mut [u32],
     cells: &mut [u32],
     w: Layout,
     join: f64,
-    joins: &mut [u32],
-    scratch: &mut [u32],
-    stack: &mut [u32],
-    v: Movement,
+    joins: &mut JoinPaths,
+    scratch: &mut JoinPaths,
+    stack: &mut Stack,
     c: Counts,
     m: Mover,
 ) -> Result<RunOutcome, Refusal>
-    requires held { Held book.now reals.now v }
-    requires walkable { Walkable (course_of book.now reals.now v) }
-    requires some_path { SomePath book.now reals.now cells.old w v.points }
-    requires moving { Moving w floats.old numbers.old cells.old joins.old c m }
-    requires in_bounds { 2048 ≤ length joins.old }
-    requires in_bounds_2 { 2048 ≤ length scratch.old }
-    requires stack_length_in_bounds { stack_length ≤ length stack.old }
-    ensures outcome { RunsLeg book.now reals.now v w join c m
+    requires some_path { SomePath course.now.samples.now course.now.offsets.now cells.old w
+        course.now.movement.points }
+    requires moving { Moving w floats.old numbers.old cells.old joins.old.items c m }
+    ensures outcome { RunsLeg course.now.samples.now course.now.offsets.now course.now.movement w join c m
         (net_at_entry floats numbers cells joins) (net_at_exit floats numbers cells joins) result }
     ensures more { NotFewer c result }
 {
-    let mut h = event_walk::start_heads(book, reals, v);
+    let mut events = course.passed_points();
     let mut counts = c;
     let mut mover = m;
-    loop {
-        let next = event_walk::next_event(book, reals, v, h);
-        let Next::Passed(p, g) = next else {
-            return Ok(RunOutcome::On(counts, mover));
-        };
-        if event_walk::is_bad_point(p) {
+    while let Some(p) = events.next() {
+        if p.is_bad() {
             return Err(Refusal::BadEvent);
         }
         let e = grow_path::event_at(cells, p);
@@ -238,13 +196,13 @@ pub fn run_events(
             floats, numbers, cells, w, join, joins, scratch, stack, counts, mover, e,
         );
         let Ok(outcome) = became else {
-            return stopped(book, reals, v, g, became);
+            return stopped(events, became);
         };
         let RunOutcome::On(more, moved) = outcome else {
-            return stopped(book, reals, v, g, became);
+            return stopped(events, became);
         };
         counts = more;
         mover = moved;
-        h = g;
     }
+    Ok(RunOutcome::On(counts, mover))
 }

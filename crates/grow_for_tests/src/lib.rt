@@ -2,23 +2,13 @@
 // Contracts: specs/Grown.antt.
 #![tactic(auto)]
 
-ghost use Rattle.std.specs.Prelude.{◌≡◌};
 ghost use Rattle.net_node.specs.Lent.{lent_at_entry, lent_at_exit};
-ghost use Rattle.grow_for_tests.specs.Grown.{grown_report, NetworkGrown};
+ghost use Rattle.grow_for_tests.specs.Grown.{NetworkGrown};
 
-use grow_book::GrownBook;
+use refusals::Refusal;
+use report::Report;
 
-// How many nodes stay in the table: none on a refusal.
-fn nodes_of(g: GrownBook) -> usize
-    ensures { result ≡ (grown_report g).nodes }
-{
-    match g {
-        GrownBook::Whole(r) => r.nodes,
-        GrownBook::Stopped(_) => 0,
-    }
-}
-
-// The report's counts, or the number of a refusal. Whatever table and work space held, the table has the network then,
+// The report's counts. Whatever table and work space held, the table has the network then,
 // or is zero, and the work space is zero.
 pub fn grow_network(
     book: &[u8],
@@ -27,13 +17,13 @@ pub fn grow_network(
     reals: &mut [f64],
     cells: &mut [u32],
     marks: &mut [u32],
-) -> GrownBook
+) -> Result<Report, Refusal>
     ensures { NetworkGrown book.now (lent_at_entry floats numbers reals cells marks)
         (lent_at_exit floats numbers reals cells marks) result }
 {
     est_times::clear_before(floats, numbers, cells, marks);
     let grown = est_times::read_and_grow(book, floats, numbers, reals, cells, marks);
-    let n = nodes_of(grown);
+    let n = grown.map_or(0, |report| report.nodes);
     net_node::clear_behind(floats, numbers, n);
     space::clear_work(reals, cells, marks);
     grown

@@ -2,15 +2,13 @@
 -- before its insertions. The leg is found or the book is refused with 10; it is sought where the source extends the
 -- path: an origin's after its Clear is added, an alternative's before the run goes on. A run finishes in the leg whose
 -- link is a destination, never in its first leg. End Fakes are pushed for the ends in reverse."
-use Rattle.std.specs.Prelude.{Bool, true, false, not, ◌&&◌, ◌||◌, List, [], ◌∷◌, ℕ, zero, suc, ◌+◌, ◌-◌, eqb, ltb, length, Float}
+use Rattle.std.specs.Prelude.{Bool, true, false, not, ◌&&◌, ◌||◌, List, [], ◌∷◌, ℕ, zero, suc, ◌+◌, ◌-◌, eqb, ltb, length, Float, Option, Some, None}
 use Rattle.std.specs.Float.{binary64}
 use Rattle.std.specs.Float.Ieee.{add, of_bits}
 use Rattle.laws.specs.Answer.{Answer, refused, given, and_then}
 use Rattle.laws.specs.Below.{some_below}
 use Rattle.book_format.specs.Format.{legs, destinations, link_next, link_next_alt, origin_link, destination_link, leg_parent}
 use Rattle.book_format.specs.Format.{join_bits, departure_bits, length_bits, float_of}
-use Rattle.book_legs.specs.declared.LegSearch.{LegSearch}
-use Rattle.book_legs.specs.declared.LegSearch.TheVariants.{Found, Missing}
 use Rattle.book_legs.specs.Legs.{search_of, leg_search, search_number}
 use Rattle.book_options.specs.Options.{in_set, kept_origins}
 use Rattle.event_walk.specs.Walk.{row11, bad_leg_number}
@@ -100,9 +98,9 @@ on_leg run j added = record {
 }
 
 -- a run that takes the leg that a search has found: it has not added since. A search that finds none gives its number.
-abbrev pub takes_found : Run → LegSearch → Answer Run
-takes_found run Missing = refused (search_number Missing)
-takes_found run (Found j) = given (on_leg run j false)
+abbrev pub takes_found : Run → Option ℕ → Answer Run
+takes_found run None = refused (search_number None)
+takes_found run (Some j) = given (on_leg run j false)
 
 -- the same by the leg's number, 0 being none
 abbrev pub takes : Run → ℕ → Answer Run

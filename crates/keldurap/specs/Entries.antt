@@ -1,6 +1,6 @@
 -- What the functions for other languages promise. Each is thin: there is an answer of the crate's own entry, which
 -- meets that entry's promise over all that is lent, and the number, the counts and the report are those of this answer.
-use Rattle.std.specs.Prelude.{◌≡◌, List, ℕ, Float}
+use Rattle.std.specs.Prelude.{◌≡◌, List, ℕ, Float, Result}
 use Rattle.std.proofs.Math.Option.{Option}
 use Rattle.report.specs.Numbers.{numbers_of}
 use Rattle.net_node.specs.Lent.{Slices}
@@ -8,11 +8,10 @@ use Rattle.event_maker.specs.declared.Made.{Made}
 use Rattle.event_maker.specs.Maker.{LentLeg, EventList, EventsMade, made_number, made_count}
 use Rattle.pass_table.specs.declared.TimedTable.{TimedTable}
 use Rattle.pass_table.specs.TableEntry.{TimesUpdated, table_number, table_nodes}
-use Rattle.grow_book.specs.declared.GrownBook.{GrownBook}
-use Rattle.grow_for_tests.specs.Grown.{NetworkGrown, grown_report}
-use Rattle.est_times.specs.declared.Sheet.{Sheet}
+use Rattle.grow_for_tests.specs.Grown.{NetworkGrown}
+use Rattle.report.specs.declared.Report.{Report}
+use Rattle.refusals.specs.declared.Refusal.{Refusal}
 use Rattle.est_times.specs.Sheet.{SheetMade, sheet_number, reported}
-use Rattle.est_times.specs.Stages.{grown_number}
 use Rattle.listing.specs.declared.Listed.{Listed}
 use Rattle.listing.specs.Listing.{TextListed, listed_number, listed_length}
 
@@ -29,13 +28,13 @@ pub record TimesGiven (lent left : Slices) (departure : Float) (nodes r : ℕ) :
   pub counted : nodes ≡ table_nodes timed
 
 pub record NetworkGiven (b : List ℕ) (lent left : Slices) (report : List ℕ) (r : ℕ) : Type 0 where
-  pub grown : GrownBook
+  pub grown : Result Report Refusal
   pub made : NetworkGrown b lent left grown
-  pub number : r ≡ grown_number grown
-  pub reports : report ≡ numbers_of (grown_report grown)
+  pub number : r ≡ sheet_number grown
+  pub reports : report ≡ numbers_of (reported grown)
 
 pub record SheetGiven (b : List ℕ) (lent left : Slices) (report : List ℕ) (r : ℕ) : Type 0 where
-  pub sheet : Sheet
+  pub sheet : Result Report Refusal
   pub made : SheetMade b lent left sheet
   pub number : r ≡ sheet_number sheet
   pub reports : report ≡ numbers_of (reported sheet)

@@ -12,18 +12,12 @@ ghost use Rattle.net_node.specs.Lent.{lent_at_entry, lent_at_exit, table_seen};
 ghost use Rattle.book_reader.specs.Reader.{Checked};
 ghost use Rattle.event_maker.specs.Maker.{lent_leg, list_at_entry, list_at_exit, made_number, made_count};
 ghost use Rattle.pass_table.specs.TableEntry.{table_number, table_nodes};
-ghost use Rattle.grow_for_tests.specs.Grown.{grown_report};
-ghost use Rattle.est_times.specs.Sheet.{sheet_number, reported};
-ghost use Rattle.est_times.specs.Stages.{grown_number};
 ghost use Rattle.listing.specs.Listing.{sheet_in, listed_number, listed_length};
 ghost use Rattle.keldurap.specs.Entries.{EventsGiven, TimesGiven, NetworkGiven, SheetGiven, ListingGiven};
 
-use est_times::Sheet;
 use event_maker::Made;
-use grow_book::GrownBook;
 use listing::Listed;
 use pass_table::TimedTable;
-use report::Report;
 
 // ---- an answer's number, and what is told beside it
 
@@ -62,42 +56,6 @@ fn timed_nodes(answer: TimedTable) -> u32
     match answer {
         TimedTable::Whole(n) => n as u32,
         TimedTable::Refused(_) => 0,
-    }
-}
-
-fn grown_number(answer: GrownBook) -> u32
-    ensures { result ≡ grown_number answer }
-{
-    match answer {
-        GrownBook::Whole(_) => 0,
-        GrownBook::Stopped(k) => k,
-    }
-}
-
-fn grown_report(answer: GrownBook) -> Report
-    ensures { result ≡ grown_report answer }
-{
-    match answer {
-        GrownBook::Whole(r) => r,
-        GrownBook::Stopped(_) => report::no_report(),
-    }
-}
-
-fn sheet_number(answer: Sheet) -> u32
-    ensures { result ≡ sheet_number answer }
-{
-    match answer {
-        Sheet::Made(_) => 0,
-        Sheet::Refused(k) => k,
-    }
-}
-
-fn sheet_report(answer: Sheet) -> Report
-    ensures { result ≡ reported answer }
-{
-    match answer {
-        Sheet::Made(r) => r,
-        Sheet::Refused(_) => report::no_report(),
     }
 }
 
@@ -202,8 +160,8 @@ pub extern "C" fn keldurap_raw_grow_network(
         (lent_at_exit floats numbers reals cells marks) report.new result }
 {
     let grown = grow_for_tests::grow_network(book, floats, numbers, reals, cells, marks);
-    report::write_report(grown_report(grown), report);
-    grown_number(grown)
+    report::write_report(grown.unwrap_or(report::no_report()), report);
+    refusals::number_of(grown)
 }
 
 // The sheet of a book in a lent table: 0 and the report's five numbers, or the number of a refusal. Whatever table and
@@ -222,8 +180,8 @@ pub extern "C" fn keldurap_raw_make_est_times(
         (lent_at_exit floats numbers reals cells marks) report.new result }
 {
     let sheet = est_times::make_est_times(book, floats, numbers, reals, cells, marks);
-    report::write_report(sheet_report(sheet), report);
-    sheet_number(sheet)
+    report::write_report(sheet.unwrap_or(report::no_report()), report);
+    refusals::number_of(sheet)
 }
 
 // The listing of a sheet in a lent slice, by the table and the report: 0 and its length, 101 where the slice is too

@@ -7,7 +7,7 @@ use lib.IntN.{pos}
 use lib.ListN.{length, get_or}
 use lib.Ieee.{Float, nan, binary64, add, sub, mul, div, lt, le, eq, is_nan, of_bits, to_bits, of_int}
 use mathlib.Core.Option.{Option, some}
-use Rattle.laws.specs.Answer.{Answer, refused}
+use Rattle.laws.specs.Answer.{Answer, refused, given}
 use Rattle.net_node.specs.declared.EstType.{EstType}
 use Rattle.net_node.specs.declared.EstType.TheVariants.{Arrive, Clear, Fake}
 use Rattle.net_node.specs.declared.EstTime.{EstTime}
@@ -23,7 +23,6 @@ use Rattle.net_join_paths.specs.Entries.{entry}
 use Rattle.net_joins.specs.Joins.{JoinStep, JoinsTo, GoesOn, join_step}
 use Rattle.pass_queue.specs.declared.Entry.{Entry}
 use Rattle.pass_queue.specs.Queue.{best}
-use Rattle.est_times.specs.declared.Sheet.TheVariants.{Made}
 use Rattle.est_times.specs.Sheet.{Finished, job, answered}
 use Rattle.sheets.specs.Sheets.{program_sizes, book_text}
 use Rattle.laws.specs.Below as BelowOf
@@ -287,7 +286,7 @@ record Marked : Type 0 where
   earlier_time : best false (waits 2 3) (waits 1 5 ∷ []) ≡ waits 1 5
   -- "sample at the last point (11)", as row 11 has it: "offset 12 in leg 1 and leg 2's first sample"; at 11 m there is a sheet
   at_last_point : job_of 2 12 ≡ refused 11
-  before_last_point : answered (job_of 2 11) ≡ Made (record { nodes = 8; added = 4; splits = 0; joined = 0; finished = 1 })
+  before_last_point : answered (job_of 2 11) ≡ given (record { nodes = 8; added = 4; splits = 0; joined = 0; finished = 1 })
   -- "destination 0 (8)": this book with that destination
   destination_zero_lem : job_of 0 10 ≡ refused 8
   -- a train that stands on a point with its front and one with its end: their listings, byte for byte

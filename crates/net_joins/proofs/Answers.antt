@@ -3,13 +3,11 @@ use mathlib.Core.Path.{◌≡◌, refl, sym, ap, ◌∙◌, subst}
 use mathlib.Core.Bool.{Bool, true, false, cond, true≢false}
 use mathlib.Core.List.{List, []}
 use mathlib.Core.Option.{Option, none, some}
-use Prim.{Unit, tt}
+use Prim.{Unit}
 use Prim.Native.Nat.{ℕ, ◌+◌, ◌*◌, ◌≤◌, ◌<◌}
 use Rattle.std.specs.Prelude.{Result, Ok, Err, IsErr, IsErrAnd}
 use Rattle.refusals.specs.declared.Refusal.{Refusal}
 use Rattle.refusals.specs.declared.Refusal.TheVariants.{NoPlace}
-use native.Mathlib.Omega.{arith}
-use borrow.Author.Tests.{lt-ltb, le-ltb}
 use lib.Dec.{ltb}
 use lib.Ieee.{Float, lt}
 use lib.ListN.{get_or}
@@ -18,12 +16,11 @@ use Rattle.net_node.specs.declared.EstType.TheVariants.{Arrive, Clear, Fake}
 use Rattle.net_node.specs.declared.LinkEvent.{LinkEvent}
 use Rattle.net_node.specs.declared.EstTime.{EstTime}
 use Rattle.net_node.specs.declared.TimedEvent.{TimedEvent}
-use Rattle.net_node.specs.Table.{Room, Indexed, Table}
+use Rattle.net_node.specs.Table.{Indexed}
 use Rattle.net_event_map.specs.declared.Layout.{Layout}
 use Rattle.net_event_map.specs.EventMap.{seen_in, event_nodes, arrive_at, CellsApart, Mapped}
 use Rattle.net_event_map.proofs.Chains.{arrive_is}
 use Rattle.net_event_map.proofs.Kept.{apart_same}
-use Rattle.net_notes.specs.Log.{Ungiven}
 use Rattle.net_join_paths.specs.declared.EstJoinPath.{EstJoinPath}
 use Rattle.net_join_paths.specs.Entries.{EntriesAs, Valid}
 use Rattle.net_stack.specs.Stack.{is_arrive}
@@ -31,8 +28,7 @@ use Rattle.net_strands.specs.Space.{extended_all}
 use Rattle.net_strands.proofs.Kept.{space_sound}
 use Rattle.net_joins.specs.declared.SpeedJoin.{SpeedJoin}
 use Rattle.net_joins.specs.declared.Step.{Step}
-use Rattle.net_joins.specs.declared.Step.TheVariants.{Joined, Waits}
-use Rattle.net_joins.specs.Joins.{closest, appended_all, appended, rebuilt, JoinStep, JoinsTo, GoesOn, Beyond, step_with, joins_if, chosen_as, chosen, join_step, StepAs, SteppedInto}
+use Rattle.net_joins.specs.Joins.{closest, appended_all, appended, rebuilt, JoinStep, Beyond, step_with, joins_if, chosen_as, chosen, join_step, StepAs}
 use Rattle.net_joins.specs.Marks.{marks, NamesMarked, Chain, Ending, MapWalkable}
 use Rattle.net_joins.proofs.Marking.{length_marks, next_stays, first_stays, marked_all, marks_back}
 use Rattle.net_joins.proofs.Appending.{map_chain}
@@ -83,40 +79,12 @@ module _ (node : ℕ → EstTime) (n : ℕ) (e : LinkEvent) where
 
 -- ---- each way on
 
-pub join_full : (n places target : ℕ) → places ≤ n → (list : List EstJoinPath) → StepAs (joins_if (ltb n places) target) list (Err NoPlace)
-join_full n places target h list = (ap (λ (b : Bool). joins_if b target) (le-ltb n places h), refl)
-
-pub join_fits : (n places target : ℕ) → n < places → (list : List EstJoinPath) → StepAs (joins_if (ltb n places) target) list (Ok (Joined target))
-join_fits n places target h list = ap (λ (b : Bool). joins_if b target) (lt-ltb n places h)
-
 -- a refusal that is passed on by `?`
 pub beyond_as : {d : JoinStep} {x : Refusal} (list : List EstJoinPath) (r : Result Step Refusal) → IsErr r × IsErrAnd r (λ y. y ≡ x) → d ≡ Beyond → x ≡ NoPlace → StepAs d list r
 beyond_as list (Ok s) g h n = absurd g.1
 beyond_as list (Err y) g h n = (h, g.1 ∙ n)
 
--- it leaves the table as it was
-pub beyond_left : (t : Table) (n : ℕ) (e : TimedEvent) (r : Result Step Refusal) → IsErr r → SteppedInto t n e t.floats t.numbers r
-beyond_left t n e (Ok s) g = absurd (true≢false (sym g))
-beyond_left t n e (Err y) g = (refl, refl)
-
-pub goes_over : (a : Option (List EstJoinPath)) → a ≡ none → step_with a ≡ Beyond
-goes_over a h = ap step_with h
-
-pub goes_with : (a : Option (List EstJoinPath)) (list list' : List EstJoinPath) → a ≡ some list → list' ≡ list → step_with a ≡ GoesOn list'
-goes_with a list list' h e = ap step_with h ∙ ap GoesOn (sym e)
-
 -- ---- the step
-
--- fewer nodes have room too
-pub room_less : {fs : List Float} {us : List ℕ} {places : ℕ} (n : ℕ) → n ≤ places → Room fs us places → Room fs us n
-room_less n h r = record { floats = omega (arith, r.floats); numbers = omega (arith, r.numbers); most = omega (arith, r.most) }
-
--- the cells before and after a list was rebuilt
-pub cells_ungiven : {c : List ℕ} {w : Layout} {node : ℕ → EstTime} {n : ℕ} → Mapped c w node n → Ungiven c w
-cells_ungiven m = record { cell = λ i c h n. m.ungiven i c h n.0 n.1; name = m.unmarked }
-
-pub cells_apart : {c d : List ℕ} {w : Layout} → CellsApart c w → d ≡ c → CellsApart d w
-cells_apart {c} {d} {w} p e = subst (λ (q : List ℕ). CellsApart q w) (sym e) p
 
 pub cells_mapped : {c d : List ℕ} {w : Layout} {node : ℕ → EstTime} {n : ℕ} → Mapped c w node n → d ≡ c → Mapped d w node n
 cells_mapped {c} {d} {w} {node} {n} m e = subst (λ (q : List ℕ). Mapped q w node n) (sym e) m
@@ -153,18 +121,3 @@ module _ (node : ℕ → EstTime) (n places : ℕ) (join : Float) (e : TimedEven
 pub list_built : {node : ℕ → EstTime} {n : ℕ} → Indexed node n → (e : LinkEvent) (seen : Bool) (old list : List EstJoinPath) → Valid old n
     → extended_all node n e seen old [] ≡ some list → Valid list n
 list_built w e seen old list v o = (space_sound w e seen old list v o).valid
-
--- what a run that goes on leaves
-abbrev Stays : JoinStep → Type 0
-Stays (JoinsTo target) = ⊥
-Stays (GoesOn es) = Unit
-Stays Beyond = Unit
-
-goes_stays : (o : Option (List EstJoinPath)) → Stays (step_with o)
-goes_stays none = tt
-goes_stays (some es) = tt
-
-pub table_left_lem : (t : Table) (n : ℕ) (e : TimedEvent) (o : Option (List EstJoinPath)) (list : List EstJoinPath) (a : Result Step Refusal) → StepAs (step_with o) list a → SteppedInto t n e t.floats t.numbers a
-table_left_lem t n e o list (Ok Waits) h = (refl, refl)
-table_left_lem t n e o list (Err r) h = (refl, refl)
-table_left_lem t n e o list (Ok (Joined target)) h = absurd (subst Stays h (goes_stays o))

@@ -160,7 +160,12 @@ fn set_marks(cells: &mut [u32], w: Layout, list: &[EstJoinPath], mark: u32)
 }
 
 // Appends the nodes of a link's Arrive that are not marked. The entries that were there stay.
-fn append_unmarked(cells: &[u32], w: Layout, link_idx: u32, list: &mut JoinPaths) -> Result<(), Refusal>
+fn append_unmarked(
+    cells: &[u32],
+    w: Layout,
+    link_idx: u32,
+    list: &mut JoinPaths,
+) -> Result<(), Refusal>
     requires cells_apart { CellsApart cells.now w }
     requires link_idx_lt_links { link_idx < w.links }
     requires ending { Ending cells.now w (get_or cells.now (first_at w link_idx) 0) }
@@ -184,7 +189,12 @@ fn append_unmarked(cells: &[u32], w: Layout, link_idx: u32, list: &mut JoinPaths
 }
 
 // Appends to a list all nodes of the event that it doesn't name, if the event is an Arrive.
-fn add_new_join_paths(cells: &mut [u32], w: Layout, event: LinkEvent, list: &mut JoinPaths) -> Result<(), Refusal>
+fn add_new_join_paths(
+    cells: &mut [u32],
+    w: Layout,
+    event: LinkEvent,
+    list: &mut JoinPaths,
+) -> Result<(), Refusal>
     requires cells_apart { CellsApart cells.old w }
     requires real { Real event w.links }
     requires valid { Valid list.old.items w.places }

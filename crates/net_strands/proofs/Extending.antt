@@ -66,9 +66,6 @@ module _ (node : ℕ → EstTime) (n : ℕ) (e : LinkEvent) (seen : Bool) (x : E
 pub record Gathering (node : ℕ → EstTime) (n : ℕ) (e : LinkEvent) (seen : Bool) (old list : List EstJoinPath) (k : ℕ) : Type 0 where
   pub answer : extended_all node n e seen old [] ≡ extended_all node n e seen (drop k old) list
 
-pub gathering_start : (node : ℕ → EstTime) (n : ℕ) (e : LinkEvent) (seen : Bool) (old list : List EstJoinPath) → list ≡ [] → Gathering node n e seen old list 0
-gathering_start node n e seen old list h = record { answer = ap (extended_all node n e seen old) (sym h) }
-
 module _ {node : ℕ → EstTime} {n : ℕ} {e : LinkEvent} {seen : Bool} {old list : List EstJoinPath} {k : ℕ} (v : Gathering node n e seen old list k) where
   pub gathering_whole : length old ≤ k → extended_all node n e seen old [] ≡ some list
   unfolding extended_all

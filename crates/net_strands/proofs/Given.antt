@@ -17,11 +17,12 @@ use Rattle.net_node.specs.declared.EstTime.{EstTime}
 use Rattle.net_event_map.specs.declared.Layout.{Layout}
 use Rattle.net_notes.specs.Log.{matched_column, strands_column, nexts_column, note_in, span_number, span_in, Says, Touched, log_full, NotedAs, Notes, Ungiven}
 use Rattle.net_notes.specs.declared.Span.{Span}
-use Rattle.net_notes.proofs.Log.{touched_none, says_span, span_said}
+use Rattle.net_notes.proofs.Log.{says_span, span_said}
 use Rattle.net_join_paths.specs.declared.EstJoinPath.{EstJoinPath}
 use Rattle.net_join_paths.specs.Entries.{push, EntriesAs}
 use Rattle.net_join_paths.specs.Spans.{pushed_all, nodes_in}
-use Rattle.net_join_paths.proofs.Spans.{SameNodes, Appended, all_appended, one_appended, nodes_stay, nodes_behind, nodes_kept}
+use Rattle.net_join_paths.specs.Spans.{SameNodes}
+use Rattle.net_join_paths.proofs.Spans.{Appended, all_appended, one_appended, nodes_stay, nodes_behind, nodes_kept}
 use Rattle.net_strands.specs.Space.{alternatives}
 use Rattle.net_strands.specs.Walks.{popped_to, walked, spend}
 use Rattle.net_strands.specs.Given.{SpanGives, WalkGives, Given, GivenThen, Extends}
@@ -181,6 +182,3 @@ extends_followed {list' = list'} {r = r} rule rule' h x = record { answer = subs
 pub record Noting (cells₀ : List ℕ) (w : Layout) (node : ℕ → EstTime) (n : ℕ) (e : LinkEvent) (cells : List ℕ) (list : List EstJoinPath) : Type 0 where
   pub given : Given cells w node n e list
   pub touched : Touched w cells₀ cells
-
-pub noting_start : {cells : List ℕ} {w : Layout} (node : ℕ → EstTime) (n : ℕ) (e : LinkEvent) (list : List EstJoinPath) → 0 < n → n ≤ w.places → Ungiven cells w → Noting cells w node n e cells list
-noting_start node n e list z h u = record { given = given_none node n e list h u; touched = touched_none (omega arith) u }

@@ -6,22 +6,15 @@ use Prim.{Unit}
 use Prim.Native.Nat.{ℕ, zero, suc}
 use Rattle.std.specs.Prelude.{Result}
 use Rattle.refusals.specs.declared.Refusal.{Refusal}
-use lib.Ieee.{Float}
 use lib.ListN.{length}
 use Rattle.net_node.specs.declared.LinkEvent.{LinkEvent}
 use Rattle.net_node.specs.declared.EstTime.{EstTime}
 use Rattle.net_event_map.specs.declared.Layout.{Layout}
-use Rattle.net_event_map.proofs.Kept.{apart_same}
 use Rattle.net_join_paths.specs.declared.EstJoinPath.{EstJoinPath}
 use Rattle.net_strands.specs.Space.{alternatives, strand_from, strands, followed}
-use Rattle.net_strands.specs.Steps.{WalkRoom}
 use Rattle.net_strands.specs.Given.{Extends}
 use Rattle.net_strands.proofs.Extending.{Gathering}
 use Rattle.net_strands.proofs.Given.{Noting}
-
--- cells that are as many give as much room
-pub room_same : {fs : List Float} {us cells₀ cells : List ℕ} {nodes : ℕ} {w : Layout} → length cells ≡ length cells₀ → WalkRoom fs us cells₀ nodes w → WalkRoom fs us cells nodes w
-room_same s v = record { table = v.table; indexed = v.indexed; within = v.within; apart = apart_same s v.apart }
 
 -- ---- an entry that is followed
 

@@ -4,72 +4,31 @@
 #![tactic(auto)]
 
 ghost use Rattle.std.specs.Prelude.{◌≡◌, false, length};
+ghost use Rattle.laws.specs.Answer.{number_of};
+ghost use Rattle.refusals.specs.Refusals.{told};
 ghost use Rattle.space.specs.Space.{zeros};
 ghost use Rattle.space.specs.Lent.{work_at_entry, work_at_exit};
 ghost use Rattle.book_format.specs.Rows.{row6};
-ghost use Rattle.book_format.specs.Chains.{Readable};
 ghost use Rattle.book_options.specs.Options.{row8};
-ghost use Rattle.book_reader.specs.declared.Reading.TheVariants.{Accepted};
-ghost use Rattle.options_for_tests.specs.Searched.{OptionsSearched};
-ghost use Rattle.options_for_tests.specs.Steps.{ReadOnce, searched_number, searched_kept, SearchedAfter};
+ghost use Rattle.options_for_tests.specs.Searched.{OptionsSearched, part_number};
+ghost use Rattle.options_for_tests.specs.Steps.{SearchedIn};
 
-use book_format::Sections;
-use book_options::LinkOptions;
-use book_reader::Reading;
+use book_format::ReadableBook;
+use refusals::Refusal;
+use space::Zero;
 
-// What the search found: how many origins are kept, or the number of a refusal.
-#[derive(Clone, Copy)]
-pub enum FoundOptions {
-    Kept(usize),
-    Refused(u32),
-}
-
-// The search in a part of any length: 3 unless it is just as long as the search asks for.
-fn search_part(book: &[u8], s: Sections, kept: usize, part: &mut [u32]) -> FoundOptions
-    requires readable { Readable book.now s }
-    requires book_value { row6 book.now ≡ false }
-    requires book_value_2 { row8 book.now ≡ false }
+// The search in a part of any length, which is refused unless it is just as long as the search asks for.
+fn search_part(book: &ReadableBook, part: &mut [u32]) -> Result<usize, Refusal>
+    requires row6_passed { row6 book.now ≡ false }
+    requires row8_passed { row8 book.now ≡ false }
     requires part_value { part.old ≡ zeros (length part.old) }
-    ensures { SearchedAfter book.now (Accepted s kept) part.old part.new result }
+    ensures number { number_of (told result) ≡ part_number book.now (length part.old) }
+    ensures into { SearchedIn book.now part.old part.new result }
 {
-    if part.len() != book_options::search_room(s) {
-        return FoundOptions::Refused(3);
+    if part.len() != book_options::search_room(book.book()) {
+        return Err(Refusal::OutOfBounds);
     }
-    let options = book_options::get_link_idx_options(book, s, part);
-    match options {
-        LinkOptions::NoPath => FoundOptions::Refused(8),
-        LinkOptions::Kept(n) => FoundOptions::Kept(n),
-    }
-}
-
-// The search after a reading that let the book through.
-fn search_after(book: &[u8], reading: Reading, part: &mut [u32]) -> FoundOptions
-    requires read_once { ReadOnce book.now reading }
-    requires part_value { part.old ≡ zeros (length part.old) }
-    ensures { SearchedAfter book.now reading part.old part.new result }
-{
-    match reading {
-        Reading::Refused(n) => FoundOptions::Refused(n),
-        Reading::Accepted(s, kept) => search_part(book, s, kept, part),
-    }
-}
-
-fn number_of(found: FoundOptions) -> u32
-    ensures { result ≡ searched_number found }
-{
-    match found {
-        FoundOptions::Kept(_) => 0,
-        FoundOptions::Refused(n) => n,
-    }
-}
-
-fn kept_of(found: FoundOptions) -> usize
-    ensures { result ≡ searched_kept found }
-{
-    match found {
-        FoundOptions::Kept(n) => n,
-        FoundOptions::Refused(_) => 0,
-    }
+    book_options::get_link_idx_options(book.valid(), part)
 }
 
 // Reads a book in work space that is lent, then searches in the part: 0 and how many origins are kept, or the number of
@@ -88,10 +47,13 @@ pub extern "C" fn keldurap_tests_search_options(
         (work_at_exit reals cells marks) part.old part.new kept.new result }
 {
     space::clear_work(reals, cells, marks);
-    space::clear_numbers(part);
+    Zero::clear(part);
     let reading = book_reader::read_book(book, places, reals.len(), cells, marks);
     space::clear_work(reals, cells, marks);
-    let found = search_after(book, reading, part);
-    *kept = kept_of(found);
-    number_of(found)
+    let found = match reading {
+        Ok(accepted) => search_part(&accepted.book, part),
+        Err(refusal) => Err(refusal),
+    };
+    *kept = found.unwrap_or(0);
+    refusals::number_of(found)
 }

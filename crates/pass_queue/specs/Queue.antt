@@ -2,6 +2,8 @@
 -- ties the smaller index; backward the greatest by `EstTimePrev`'s `partial_cmp`": time, sub, index. The definition is
 -- a list, out of which the best entry is taken; where entries stand in it says nothing.
 use Rattle.std.specs.Prelude.{◌≡◌, Bool, true, false, ◌&&◌, cond, List, [], ◌∷◌, ℕ, zero, suc, ◌+◌, ◌-◌, ◌*◌, ◌≤◌, ◌<◌, T, ltb, eqb, length, get_or, Float}
+use Rattle.std.specs.declared.cmp.Ordering.{Ordering}
+use Rattle.std.specs.declared.cmp.Ordering.TheVariants.{Less, Equal, Greater}
 use Rattle.std.specs.Float.{nan, binary64}
 use Rattle.std.specs.Float.Ieee.{lt, is_nan, fits, to_bits}
 use Rattle.pass_queue.specs.declared.Entry.{Entry}
@@ -13,6 +15,12 @@ abbrev pub then_by : Bool → Bool → Bool → Bool
 then_by true greater rest = true
 then_by false true rest = false
 then_by false false rest = rest
+
+-- how two keys compare: the first is less, or greater
+abbrev pub order_by : Bool → Bool → Ordering
+order_by true greater = Less
+order_by false true = Greater
+order_by false false = Equal
 
 -- Entries that differ in nothing but the sign of a zero: by their bits, so that the order is total. Both name one node.
 unfoldable pub by_bits : Entry → Entry → Bool

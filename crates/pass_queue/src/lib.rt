@@ -1,25 +1,39 @@
-// The queue of a time pass: a binary heap in lent slices. Contracts: specs/Queue.antt, specs/Slots.antt.
+// The queue of a time pass: a binary heap in lent slices, since there is no heap memory for std's BinaryHeap. Contracts:
+// specs/Queue.antt, specs/Slots.antt.
 #![tactic(auto)]
 
 ghost use Rattle.std.specs.Prelude.{◌≡◌, Bool, true, false, ◌+◌, ◌*◌, ◌-◌, ◌≤◌, ◌<◌, length};
-ghost use Rattle.pass_queue.specs.Queue.{by_bits, before, Ordered, slot, Added};
+ghost use Rattle.std.specs.Ordering.{is_lt};
+ghost use Rattle.std.specs.Float.Ieee.{lt};
+ghost use Rattle.pass_queue.specs.Queue.{order_by, by_bits, before, Ordered, slot, Added};
 ghost use Rattle.pass_queue.specs.Queue.{Dropped, TakenOut};
 ghost use Rattle.pass_queue.specs.Slots.{put_times, put_nodes, BestChild};
 
+use std::cmp::Ordering;
+
 // An entry: a time, what is subtracted behind it (backward only), and a node.
-#[derive(Clone, Copy)]
+#[derive(Clone, Copy, Debug)]
 pub struct Entry {
     pub time: f64,
     pub sub: f64,
     pub node: u32,
 }
 
-// Entries that differ in nothing but the sign of a zero: by their bits.
-#[tactic(auto, unfolding(crate::specs::Queue::by_bits))]
-fn bits_before(a: Entry, b: Entry) -> bool
-    ensures { result ≡ by_bits a b }
+// How two floats compare: equal where one is no number.
+#[tactic(auto, using(crate::proofs::Compare::order_is))]
+fn float_order(x: f64, y: f64) -> Ordering
+    ensures { result ≡ order_by (lt x y) (lt y x) }
 {
-    (floats::bits_of(a.time), floats::bits_of(a.sub)) < (floats::bits_of(b.time), floats::bits_of(b.sub))
+    x.partial_cmp(&y).unwrap_or(Ordering::Equal)
+}
+
+// Entries that differ in nothing but the sign of a zero: by their bits.
+fn bits_order(a: Entry, b: Entry) -> Ordering
+    ensures { is_lt result ≡ by_bits a b }
+{
+    floats::bits_of(a.time)
+        .cmp(&floats::bits_of(b.time))
+        .then(floats::bits_of(a.sub).cmp(&floats::bits_of(b.sub)))
 }
 
 // The order in which a pass takes its entries.
@@ -38,16 +52,10 @@ impl Order for Forward {
     ghost backward = { false };
 
     fn is_before(a: Entry, b: Entry) -> bool {
-        if a.time < b.time {
-            return true;
-        }
-        if b.time < a.time {
-            return false;
-        }
-        if a.node != b.node {
-            return a.node < b.node;
-        }
-        bits_before(a, b)
+        float_order(a.time, b.time)
+            .then_with(|| a.node.cmp(&b.node))
+            .then_with(|| bits_order(a, b))
+            .is_lt()
     }
 }
 
@@ -58,26 +66,16 @@ impl Order for Backward {
     ghost backward = { true };
 
     fn is_before(a: Entry, b: Entry) -> bool {
-        if b.time < a.time {
-            return true;
-        }
-        if a.time < b.time {
-            return false;
-        }
-        if b.sub < a.sub {
-            return true;
-        }
-        if a.sub < b.sub {
-            return false;
-        }
-        if b.node != a.node {
-            return b.node < a.node;
-        }
-        bits_before(a, b)
+        float_order(b.time, a.time)
+            .then_with(|| float_order(b.sub, a.sub))
+            .then_with(|| b.node.cmp(&a.node))
+            .then_with(|| bits_order(a, b))
+            .is_lt()
     }
 }
 
 // The entry in slot i.
+#[tactic(auto, unfolding(crate::specs::Queue::slot))]
 fn entry_at(times: &[f64], nodes: &[u32], i: usize) -> Entry
     requires i_in_bounds { i * 2 + 2 ≤ length times.now }
     requires i_in_bounds_2 { i < length nodes.now }
@@ -92,6 +90,7 @@ fn entry_at(times: &[f64], nodes: &[u32], i: usize) -> Entry
 }
 
 // Puts an entry into slot i.
+#[tactic(auto, unfolding(crate::specs::Slots::put_times, crate::specs::Slots::put_nodes))]
 fn put_entry(times: &mut [f64], nodes: &mut [u32], i: usize, e: Entry)
     requires i_in_bounds { i * 2 + 2 ≤ length times.old }
     requires i_in_bounds_2 { i < length nodes.old }

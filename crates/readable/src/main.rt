@@ -5,14 +5,18 @@
 
 ghost use Rattle.std.specs.Prelude.{◌≡◌, IfSome, OnOk};
 ghost use Rattle.std.specs.Io.KnownBytes.{Appends};
+ghost use Rattle.laws.specs.Answer.{number_of};
+ghost use Rattle.refusals.specs.Refusals.{told};
 ghost use Rattle.book_reader.specs.Reader.{read_number};
 ghost use Rattle.readable.specs.Readable.{input_text, number_text};
 
-use std::io::{Read, Result, Write};
+use refusals::Refusal;
+use std::io;
+use std::io::{Read, Write};
 
-// The number of a book for a table of 192 nodes and 65,536 bytes of work space.
-fn number(book: &[u8]) -> u32
-    ensures { result ≡ read_number book.now 192 65536 }
+// The refusal that a book gets for a table of 192 nodes and 65,536 bytes of work space, if it gets one.
+fn read(book: &[u8]) -> Result<(), Refusal>
+    ensures { number_of (told result) ≡ read_number book.now 192 65536 }
 {
     let mut reals = [0.0f64; 3072];
     let mut cells = [0u32; 8192];
@@ -21,28 +25,28 @@ fn number(book: &[u8]) -> u32
 }
 
 // Prints the answer.
-fn print_number<W: Write>(n: u32, to: &mut W) -> Result<()>
-    ensures { OnOk result (Appends (W.contents to.old) (W.contents to.new) (number_text n)) }
+fn print_answer<W: Write>(answer: Result<(), Refusal>, to: &mut W) -> io::Result<()>
+    ensures { OnOk result (Appends (W.contents to.old) (W.contents to.new) (number_text (number_of (told answer)))) }
 {
-    if n == 0 {
-        return to.write_all(b"readable\n");
+    match answer {
+        Ok(()) => to.write_all(b"readable\n"),
+        Err(refusal) => writeln!(to, "{refusal}"),
     }
-    writeln!(to, "refused {n}")
 }
 
 // Reads the whole input and prints the answer to it.
-fn answer<R: Read, W: Write>(rt: &impl Eprint, from: &mut R, to: &mut W) -> Result<()>
+fn answer<R: Read, W: Write>(rt: &impl Eprint, from: &mut R, to: &mut W) -> io::Result<()>
     ensures { OnOk result (IfSome (R.remaining from.old)
         (λ input. Appends (W.contents to.old) (W.contents to.new) (input_text input))) }
 {
     let mut space = [0u8; 65536];
     let written = match streams::read_whole(from, &mut space)? {
-        Some(n) => print_number(number(&space[..n]), to),
+        Some(n) => print_answer(read(&space[..n]), to),
         None => to.write_all(b"too long\n"),
     };
     streams::say_unless(rt, "readable", written)
 }
 
-fn main(rt: HostRuntime) -> Result<()> {
+fn main(rt: HostRuntime) -> io::Result<()> {
     answer(&rt, &mut rt.stdin(), &mut rt.stdout())
 }

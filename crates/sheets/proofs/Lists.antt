@@ -6,19 +6,21 @@ use Prim.Native.Nat.{ℕ}
 use Rattle.space.specs.Space.{bytes_of}
 use Rattle.report.specs.declared.Report.{Report}
 use Rattle.net_node.specs.Lent.{Slices, Sizes, sizes_of}
-use Rattle.est_times.specs.declared.Sheet.{Sheet}
-use Rattle.est_times.specs.declared.Sheet.TheVariants.{Made, Refused}
+use Rattle.std.specs.Prelude.{Result, Ok, Err}
+use Rattle.laws.specs.Answer.{Answer}
+use Rattle.refusals.specs.declared.Refusal.{Refusal}
+use Rattle.refusals.specs.Refusals.{refusal_number, told}
 use Rattle.est_times.specs.Sheet.{job, answered, SheetMade}
 use Rattle.listing.specs.declared.Listed.{Listed}
 use Rattle.listing.specs.Listing.{refused_text, sheet_in, TextListed}
 use Rattle.sheets.specs.Sheets.{text_of, table_left, book_text, program_sizes, BookListed}
 
-module _ {b : List ℕ} {lent left : Slices} {out listing : List ℕ} {r : Listed} {sheet : Sheet} (made : SheetMade b lent left sheet) where
-  pub made_listed : {report : Report} → sheet ≡ Made report → TextListed (sheet_in report left.table) out listing r → BookListed b lent left out listing r
-  made_listed e l = record { sheet = sheet; made = made; written = subst (λ (s : Sheet). TextListed (text_of s left.table) out listing r) (sym e) l }
+module _ {b : List ℕ} {lent left : Slices} {out listing : List ℕ} {r : Listed} {sheet : Result Report Refusal} (made : SheetMade b lent left sheet) where
+  pub made_listed : {report : Report} → sheet ≡ Ok report → TextListed (sheet_in report left.table) out listing r → BookListed b lent left out listing r
+  made_listed e l = record { sheet = sheet; made = made; written = subst (λ (s : Result Report Refusal). TextListed (text_of (told s) left.table) out listing r) (sym e) l }
 
-  pub refused_listed : {k : ℕ} → sheet ≡ Refused k → TextListed (some (refused_text k)) out listing r → BookListed b lent left out listing r
-  refused_listed e l = record { sheet = sheet; made = made; written = subst (λ (s : Sheet). TextListed (text_of s left.table) out listing r) (sym e) l }
+  pub refused_listed : {k : Refusal} {n : ℕ} → sheet ≡ Err k → n ≡ refusal_number k → TextListed (some (refused_text n)) out listing r → BookListed b lent left out listing r
+  refused_listed e q l = record { sheet = sheet; made = made; written = subst (λ (s : Result Report Refusal). TextListed (text_of (told s) left.table) out listing r) (sym e) (subst (λ (x : ℕ). TextListed (some (refused_text x)) out listing r) q l) }
 
 -- ---- a book's text, by the sizes alone
 
@@ -26,8 +28,8 @@ module _ {b : List ℕ} {lent left : Slices} {out listing : List ℕ} {r : Liste
   left_is : left.table ≡ table_left b (sizes_of lent)
   left_is = λ i. record { floats = l.made.floats i; numbers = l.made.numbers i }
 
-  pub text_is : text_of l.sheet left.table ≡ book_text b (sizes_of lent)
-  text_is = ap (λ (s : Sheet). text_of s left.table) l.made.answer ∙ ap (text_of (answered (job b (sizes_of lent)))) left_is
+  pub text_is : text_of (told l.sheet) left.table ≡ book_text b (sizes_of lent)
+  text_is = ap (λ (s : Answer Report). text_of s left.table) l.made.answer ∙ ap (text_of (answered (job b (sizes_of lent)))) left_is
 
 -- slices of the program's sizes
 pub program_sizes_lem : (f n w c m : ℕ) → f ≡ program_sizes.floats → n ≡ program_sizes.numbers → w ≡ 3072 → c ≡ 8192 → m ≡ 2048 → ◌≡◌ {A = Sizes} (record { floats = f; numbers = n; bytes = bytes_of w c m }) program_sizes

@@ -15,10 +15,8 @@ use Rattle.space.specs.Space.{zeros}
 use Rattle.net_node.specs.Table.{Table, at}
 use Rattle.net_node.specs.Left.{nodes_in, places_of}
 use Rattle.net_node.specs.Lent.{Slices, Sizes, sizes_of, places_in}
-use Rattle.est_times.specs.declared.Sheet.{Sheet}
-use Rattle.est_times.specs.declared.Sheet.TheVariants.{Made, Refused}
-use Rattle.est_times.specs.Sheet.{Finished, job, answered}
-use Rattle.est_times.specs.Stages.{sheet_nodes}
+use Rattle.refusals.specs.Refusals.{told}
+use Rattle.est_times.specs.Sheet.{Finished, job, report_of, answered}
 use Rattle.est_times.proofs.Networks.{sound}
 use Rattle.est_times.proofs.Finished.{job_finished}
 use Rattle.listing.specs.declared.Listed.{Listed}
@@ -35,12 +33,12 @@ pub record Fitting (text : Option (List ℕ)) : Type 0 where
   pub fits : length bytes ≤ 65536
 
 -- an accepted book's nodes have places
-nodes_inside : (b : List ℕ) (z : Sizes) (r : Report) → Made r ≡ answered (job b z) → r.nodes ≤ places_in z
+nodes_inside : (b : List ℕ) (z : Sizes) (r : Report) → given r ≡ answered (job b z) → r.nodes ≤ places_in z
 nodes_inside b z r = go (job b z) refl
   where
-    go : (j : Answer Finished) → job b z ≡ j → Made r ≡ answered j → r.nodes ≤ places_in z
-    go (refused k) d e = let o : ◌≡◌ {A = ℕ} 0 1 = cc in absurd (omega arith)
-    go (given f) d e = let n = ap sheet_nodes e in let i = (sound b z f.grown (job_finished b z f d).network_given).whole.inside in omega arith
+    go : (j : Answer Finished) → job b z ≡ j → given r ≡ answered j → r.nodes ≤ places_in z
+    go (refused k) d e = absurd (cc)
+    go (given f) d e = let q : r ≡ report_of f.grown = cc in let n = ap (λ (x : Report). x.nodes) q in let i = (sound b z f.grown (job_finished b z f d).network_given).whole.inside in omega arith
 
 -- no more than the table has, of which both slices are as long as before
 places_filled : (f n : ℕ) (t : Table) → length t.floats ≡ f → length t.numbers ≡ n → places_of f n ≤ nodes_in t
@@ -55,9 +53,9 @@ sheet_fits r t h l = record {
   fits = omega (arith, sheet_most r (at t), l);
 }
 
-text_fits : (b : List ℕ) (z : Sizes) (s : Sheet) (t : Table) → s ≡ answered (job b z) → places_in z ≤ nodes_in t → places_in z ≤ 192 → Fitting (text_of s t)
-text_fits b z (Made r) t e h l = let i = nodes_inside b z r e in sheet_fits r t (omega arith) (omega arith)
-text_fits b z (Refused k) t e h l = record { bytes = refused_text k; is = refl; fits = omega (arith, refused_most k) }
+text_fits : (b : List ℕ) (z : Sizes) (s : Answer Report) (t : Table) → s ≡ answered (job b z) → places_in z ≤ nodes_in t → places_in z ≤ 192 → Fitting (text_of s t)
+text_fits b z (given r) t e h l = let i = nodes_inside b z r e in sheet_fits r t (omega arith) (omega arith)
+text_fits b z (refused k) t e h l = record { bytes = refused_text k; is = refl; fits = omega (arith, refused_most k) }
 
 program_places : places_in program_sizes ≡ 192
 unfolding places_of
@@ -67,11 +65,11 @@ program_places = refl
 
 module _ {b : List ℕ} {lent left : Slices} {out array : List ℕ} {r : Listed} (l : BookListed b lent left out array r) (sizes : sizes_of lent ≡ program_sizes) (floats : length left.table.floats ≡ program_sizes.floats)
     (numbers : length left.table.numbers ≡ program_sizes.numbers) (room : length out ≡ 65536) where
-  fitting : Fitting (text_of l.sheet left.table)
+  fitting : Fitting (text_of (told l.sheet) left.table)
   fitting =
       let p = program_places in
       let h = places_filled program_sizes.floats program_sizes.numbers left.table floats numbers in
-      text_fits b program_sizes l.sheet left.table (l.made.answer ∙ ap (λ (z : Sizes). answered (job b z)) sizes) h (omega arith)
+      text_fits b program_sizes (told l.sheet) left.table (l.made.answer ∙ ap (λ (z : Sizes). answered (job b z)) sizes) h (omega arith)
 
   text_listed : TextListed (some fitting.bytes) out array r
   text_listed = subst (λ (x : Option (List ℕ)). TextListed x out array r) fitting.is l.written

@@ -1,5 +1,5 @@
 -- A book's listing in a lent slice: its sheet's, or `refused N`.
-use Rattle.std.specs.Prelude.{◌≡◌, List, ◌++◌, ℕ, ◌-◌, ◌*◌, length}
+use Rattle.std.specs.Prelude.{◌≡◌, List, ◌++◌, ℕ, ◌-◌, ◌*◌, length, Result}
 use Rattle.std.proofs.Math.Option.{Option, some}
 use Rattle.std.specs.declared.option.Option.{Option as Known}
 use Rattle.std.specs.Io.KnownBytes.{Appends}
@@ -7,16 +7,18 @@ use Rattle.space.specs.Space.{zeros}
 use Rattle.net_node.specs.Table.{float_width, number_width, Table}
 use Rattle.net_node.specs.Left.{floats_left, numbers_left}
 use Rattle.net_node.specs.Lent.{Slices, Sizes}
-use Rattle.est_times.specs.declared.Sheet.{Sheet}
-use Rattle.est_times.specs.declared.Sheet.TheVariants.{Made, Refused}
+use Rattle.report.specs.declared.Report.{Report}
+use Rattle.refusals.specs.declared.Refusal.{Refusal}
+use Rattle.refusals.specs.Refusals.{told}
+use Rattle.laws.specs.Answer.{Answer, refused, given}
 use Rattle.est_times.specs.Sheet.{job, answered, sheet_of, SheetMade}
 use Rattle.listing.specs.declared.Listed.{Listed}
 use Rattle.listing.specs.Listing.{refused_text, sheet_in, TextListed}
 
 -- the text of an answer and the table that it left
-abbrev pub text_of : Sheet → Table → Option (List ℕ)
-text_of (Made r) t = sheet_in r t
-text_of (Refused k) t = some (refused_text k)
+abbrev pub text_of : Answer Report → Table → Option (List ℕ)
+text_of (given r) t = sheet_in r t
+text_of (refused k) t = some (refused_text k)
 
 -- the table that a book's job leaves, of slices of these sizes
 abbrev pub table_left : List ℕ → Sizes → Table
@@ -35,9 +37,9 @@ program_sizes = record { floats = 192 * float_width; numbers = 192 * number_widt
 
 -- The promise of a function from a book to its listing: the sheet is made in what is lent, and its text is listed.
 pub record BookListed (b : List ℕ) (lent left : Slices) (out listing : List ℕ) (r : Listed) : Type 0 where
-  pub sheet : Sheet
+  pub sheet : Result Report Refusal
   pub made : SheetMade b lent left sheet
-  pub written : TextListed (text_of sheet left.table) out listing r
+  pub written : TextListed (text_of (told sheet) left.table) out listing r
 
 -- What the program `sheet` prints, in an array of 65,536 bytes, which has room for it whatever the book is: there is a
 -- text, the first n bytes are the text, and zeros stand behind it.

@@ -5,7 +5,6 @@ ghost use Rattle.std.specs.Prelude.{OnOk};
 ghost use Rattle.net_node.specs.Lent.{lent_at_entry, lent_at_exit};
 ghost use Rattle.sheets.specs.Sheets.{BookListed, SheetPrinted, SheetText};
 
-use est_times::Sheet;
 use listing::Listed;
 use std::io::{Result, Write};
 
@@ -30,8 +29,8 @@ pub fn list_book(
 {
     let sheet = est_times::make_est_times(book, floats, numbers, reals, cells, marks);
     match sheet {
-        Sheet::Made(report) => listing::list_sheet(floats, numbers, report, out),
-        Sheet::Refused(k) => listing::list_refused(k, out),
+        Ok(report) => listing::list_sheet(floats, numbers, report, out),
+        Err(refusal) => listing::list_refused(refusal.into(), out),
     }
 }
 

@@ -31,5 +31,5 @@ loop-i-preserved c =
     let r = c.book-rows.ensures in
     let e = origin_link_lem _ _ c.origin_at-l.ensures in
     let named : c.origin_at-l.result.link_idx < links c.args.book.now =
-        omega (arith, e, origin_named _ r.valid.indices c.loop-i.i (omega (arith, ap origins r.is))) in
+    omega (arith, e, origin_named _ r.valid.indices c.loop-i.i (omega (arith, ap origins r.is))) in
     numbered_more c.loop-i.invariant _ _ e refl named (omega arith)

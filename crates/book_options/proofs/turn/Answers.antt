@@ -1,6 +1,6 @@
 -- `book_options::turn` meets its contract: each way through the turn is one law of Walks.
 use Rattle.std.proofs.Common.{◌≡◌, refl, sym, ap, ◌∙◌, ℕ, ◌+◌, ◌-◌, ◌*◌, ◌%◌, ◌<◌, List, arith}
-use lib.ListN.{length, get_or, set, length-set}
+use lib.ListN.{length, get_or, length-set}
 use Rattle.book_format.specs.Format.{links, destinations}
 use Rattle.book_format.proofs.Given.{link_prev_lem, link_prev_alt_lem}
 use Rattle.book_options.specs.Options.{search_room}
@@ -46,8 +46,8 @@ returns-then-mark-ne0 c =
     let r = c.book-rows.ensures in
     let e = popped c.args.marks.now (c.args.w.top - 1) c.links-links.ensures r.is in
     let at : 2 * c.links-links.result + c.destinations.result + c.args.w.kept
-        ≡ 2 * links c.args.book.now + destinations c.args.book.now + c.args.w.kept =
-        omega (arith, ap links r.is, ap destinations r.is) in
+    ≡ 2 * links c.args.book.now + destinations c.args.book.now + c.args.w.kept =
+    omega (arith, ap links r.is, ap destinations r.is) in
     turn_kept q.walking q.top_nonzero _ e c.if-mark-eq1.false _ refl (omega arith) c.if-mark-ne0.true _ _ at
     (omega (arith, at, end_inside q.walking q.top_nonzero q.marks_len _ e c.if-mark-eq1.false c.if-mark-ne0.true)) refl
 

@@ -1,7 +1,7 @@
 -- `book_reader::read_book` meets its contract.
-use Rattle.std.proofs.Common.{◌≡◌, refl, sym, ◌∙◌, ap, subst, ◌≤◌, ℕ, List, length, take, drop, arith}
+use Rattle.std.proofs.Common.{◌≡◌, refl, sym, ◌∙◌, ap, subst, ℕ, List, length, take, drop, arith}
 use Rattle.std.proofs.lemmas.Result.{err_from_is_err_and}
-use lib.Seq.{length-take-le, length_front}
+use lib.Seq.{length-take-le}
 use Rattle.book_options.specs.Options.{search_room}
 use Rattle.book_format.proofs.Given.{limits}
 use Rattle.book_reader.specs.Stages.{Blank, RestRead}
@@ -61,7 +61,7 @@ returns c =
     let behind = drop c.search_room-room.result c.args.marks.now in
     let told = asked (goal.at.returns c).After-search_room-room in
     let e : length part ≡ search_room b =
-        c.read_rest.auto.marks ∙ sym (slice_bounds-part-end-2 (goal.at.returns c).After-part-1) ∙ told in
+    c.read_rest.auto.marks ∙ sym (slice_bounds-part-end-2 (goal.at.returns c).After-part-1) ∙ told in
     let r = subst (λ (x : List ℕ). RestRead x c.read_rest.new.cells part c.read_rest.result) t.0 c.read_rest.ensures in
     record {
       number =

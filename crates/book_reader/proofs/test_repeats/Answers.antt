@@ -1,7 +1,6 @@
 -- `book_reader::test_repeats` meets its contract.
-use Rattle.std.proofs.Common.{sym, ◌∙◌, ap, subst, arith}
+use Rattle.std.proofs.Common.{sym, ◌∙◌, arith}
 use Rattle.space.proofs.Zeros.{zeros_again}
-use Rattle.book_format.specs.Chains.{Readable}
 use Rattle.book_reader.proofs.Numbers.{row6_repeats, row7_single, row7_early, row7_only, readable_of, cells_chained, from_6_first, from_6_second}
 use Rattle.book_reader.proofs.test_repeats.Goals as goal
 
@@ -42,8 +41,7 @@ pub returns : goal.returns
 returns c =
     let p = c.requires in
     let e = c.new-book.ensures in
-    let r = readable_of p.rows_passed (sym p.late_value ∙ c.if-late.false) in
-    (
+    let r = readable_of p.rows_passed (sym p.late_value ∙ c.if-late.false) in (
       e,
       record {
         row6 = row6_repeats _ _ p.rows_passed.places c.origins_repeat.ensures ∙ c.if-origins_repeat.false;

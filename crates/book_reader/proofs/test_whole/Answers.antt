@@ -27,7 +27,7 @@ left c =
     let e = sym c.counts_refused.ensures ∙ c.if-counts_refused.false in
     let P : Bool → Type 0 = λ t. LeftToRead c.args.book c.args.places c.args.bytes t in
     elim c.match-lowest_row.branch [
-      in-Ok w ↦ subst P (sym w.late-is) (left_early _ _ _ 0 q.row1_passed q.row2_passed e w.in-Ok.ensures refl)
+      | in-Ok w ↦ subst P (sym w.late-is) (left_early _ _ _ 0 q.row1_passed q.row2_passed e w.in-Ok.ensures refl)
       | in-Err+in-BadLeg w ↦ subst P (sym w.late-is) (left_late _ _ _ _ q.row1_passed q.row2_passed e w.in-Err.ensures (ap refusal_number w.in-BadLeg.is))
     ]
 

@@ -1,7 +1,7 @@
 -- `grow_book::grow_book` meets its contract: proofs/Growing.antt.
 use native.Mathlib.Omega.{arith}
 use lib.ListN.{length}
-use Rattle.grow_book.proofs.Growing.{book_small, places_fit, first_fit, book_start, book_some, book_grown}
+use Rattle.grow_book.proofs.Growing.{book_small, places_fit, first_fit, book_start, book_at_start, book_grown}
 use Rattle.grow_book.proofs.grow_book.Goals as goal
 
 pub returns-then-places-lt2 : goal.returns-then-places-lt2
@@ -10,7 +10,6 @@ returns-then-places-lt2 c = book_small _ _ c.places-places.ensures c.if-places-l
 pub plan_of-p-requires : goal.plan_of-p-requires
 plan_of-p-requires c = let r = c.requires.ready in
     record {
-      readable = r.readable;
       book_value = r.row7;
       places_bound = (places_fit c.places-places.ensures).most;
     }
@@ -37,12 +36,9 @@ run_all-requires c =
       options_in = r.ready.marked;
       book_in_bounds = r.book_in_bounds_3;
       kept_value = r.ready.kept;
-      some_origins = book_some r.ready _ _ plan c.start_path.ensures c.args.floats.now c.args.numbers.now _ c.places-places.ensures p.places c.if-places-lt2.false p.links r.book_in_bounds_2 _ _ f.floats f.numbers _;
+      at_start = book_at_start r.ready _ _ plan c.start_path.ensures c.args.floats.now c.args.numbers.now _ c.places-places.ensures p.places c.if-places-lt2.false p.links r.book_in_bounds_2 _ _ f.floats f.numbers _;
       only_start = book_start c.args.floats.now c.args.numbers.now _ c.places-places.ensures c.if-places-lt2.false _ _ _ f.floats f.numbers;
       started = r.ready.starts;
-      in_bounds = omega arith;
-      in_bounds_2 = omega arith;
-      stack_length_in_bounds = omega arith;
     }
 
 pub returns : goal.returns

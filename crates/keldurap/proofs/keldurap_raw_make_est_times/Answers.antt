@@ -1,7 +1,14 @@
 -- `keldurap::keldurap_raw_make_est_times` meets its contract.
-use mathlib.Core.Path.{ap, ◌∙◌}
+use mathlib.Core.Path.{◌≡◌, ap, ◌∙◌}
+use Rattle.std.proofs.Common.{rules}
 use Rattle.report.specs.Numbers.{numbers_of}
+use Rattle.est_times.specs.Sheet.{reported}
 use Rattle.keldurap.proofs.keldurap_raw_make_est_times.Goals as goal
+use Rattle.keldurap.proofs.keldurap_raw_make_est_times.Goals.{After-unwrap_or}
+
+-- the report that is told
+report_told : (c : After-unwrap_or) → c.unwrap_or.result ≡ reported c.make_est_times-sheet.result
+report_told c = search rules
 
 pub returns : goal.returns
 returns c =
@@ -9,6 +16,6 @@ returns c =
     record {
       sheet = made.result;
       made = made.ensures;
-      number = c.sheet_number.ensures;
-      reports = c.write_report.ensures ∙ ap numbers_of c.sheet_report.ensures;
+      number = c.number_of.ensures;
+      reports = c.write_report.ensures ∙ ap numbers_of (report_told (goal.at.returns c).After-unwrap_or);
     }

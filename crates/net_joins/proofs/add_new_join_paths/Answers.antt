@@ -8,7 +8,7 @@ use Rattle.net_event_map.specs.EventMap.{event_nodes, arrive_at}
 use Rattle.net_join_paths.specs.declared.EstJoinPath.{EstJoinPath}
 use Rattle.net_stack.proofs.Arrives.{arrive_eq}
 use Rattle.net_joins.specs.Marks.{marks}
-use Rattle.net_joins.proofs.Answers.{while_apart, while_chain, while_marked, while_ending, marks_gone, append_none, append_listed}
+use Rattle.net_joins.proofs.Answers.{while_chain, while_marked, while_ending, marks_gone, append_none, append_listed}
 use Rattle.net_joins.proofs.add_new_join_paths.Goals as goal
 use Rattle.net_joins.proofs.add_new_join_paths.Goals.{After-set_marks}
 

@@ -22,8 +22,8 @@ got c =
     let put = λ (b : Bool). appended_if b c.args.link_idx c.loop-i.i c.loop-i.list.items in
     let items = λ (l : ArrayVec EstJoinPath). some l.items in
     elim c.if-not-marked.branch [
-      then-not-marked+in_ok-push_entry w ↦ ap put (mark_none _ w.if-not-marked.true) ∙ w.in_ok-push_entry.ensures.list ∙ ap items (sym w.list-is)
-    | else-not-marked w ↦ ap put (mark_some _ w.if-not-marked.false) ∙ ap items (sym w.list-is)
+      | then-not-marked+in_ok-push_entry w ↦ ap put (mark_none _ w.if-not-marked.true) ∙ w.in_ok-push_entry.ensures.list ∙ ap items (sym w.list-is)
+      | else-not-marked w ↦ ap put (mark_some _ w.if-not-marked.false) ∙ ap items (sym w.list-is)
     ]
 
 pub loop-i-init : goal.loop-i-init

@@ -7,7 +7,6 @@ use Rattle.net_join_paths.specs.declared.EstJoinPath.{EstJoinPath}
 use Rattle.net_join_paths.specs.Entries.{Valid}
 use Rattle.net_join_paths.proofs.Entries.{valid_wider}
 use Rattle.net_strands.specs.Space.{extended_all}
-use Rattle.net_joins.specs.declared.SpeedJoin.{SpeedJoin}
 use Rattle.net_joins.specs.Joins.{closest}
 use Rattle.net_joins.proofs.Choosing.{chosen_within}
 use Rattle.net_joins.proofs.Answers.{cells_mapped, list_built, beyond_as, step_over, step_joins, step_goes}

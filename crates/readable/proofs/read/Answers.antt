@@ -1,8 +1,8 @@
--- `readable::number` meets its contract: 1,024 units of work space are 65,536 bytes.
+-- `readable::read` meets its contract: 1,024 units of work space are 65,536 bytes.
 use Rattle.std.proofs.Common.{◌∙◌, refl}
 use Rattle.space.specs.Space.{bytes_of, units_of}
 use Rattle.book_reader.proofs.Rooms.{number_moved}
-use Rattle.readable.proofs.number.Goals as goal
+use Rattle.readable.proofs.read.Goals as goal
 
 pub returns : goal.returns
 unfolding bytes_of units_of
