@@ -239,3 +239,14 @@ pub record Long (fs₀ : List Float) (us₀ cells₀ : List ℕ) (fs : List Floa
   pub floats : length fs ≡ length fs₀
   pub numbers : length us ≡ length us₀
   pub cells_long : length cells ≡ length cells₀
+
+-- ---- what became of a run, by its arms
+
+pub went_on : (r : Result RunOutcome Refusal) (o : RunOutcome) (d : Counts) (n : Mover) → r ≡ Ok o → o ≡ On d n → r ≡ Ok (On d n)
+went_on r o d n p q = p ∙ ap Ok q
+
+pub not_ended : (r : Result RunOutcome Refusal) (o : RunOutcome) (d : Counts) → r ≡ Ok o → o ≡ Ended d → (x : Counts) (n : Mover) → r ≡ Ok (On x n) → ⊥
+not_ended r o d p q x n e = cc
+
+pub not_refused : (r : Result RunOutcome Refusal) (k : Refusal) → r ≡ Err k → (x : Counts) (n : Mover) → r ≡ Ok (On x n) → ⊥
+not_refused r k p x n e = cc

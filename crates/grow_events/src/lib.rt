@@ -195,7 +195,10 @@ pub fn run_events(
         let became = run_event(
             floats, numbers, cells, w, join, joins, scratch, stack, counts, mover, e,
         );
-        let Ok(RunOutcome::On(more, moved)) = became else {
+        let Ok(outcome) = became else {
+            return stopped(events, became);
+        };
+        let RunOutcome::On(more, moved) = outcome else {
             return stopped(events, became);
         };
         counts = more;

@@ -41,7 +41,7 @@ returns-in-Added-clause-outcome c =
     let i = c.insert_est_time in
     let p = c.insert in
     λ start joins leg net run v u.
-        insert_added v u _ _ _ _ i.result i.ensures.answer i.ensures.table _ _ (c.in_ok-inserted.was ∙ ap Ok c.in-Added.is) p.new.cells p.auto.cells p.ensures.mapped p.ensures.elsewhere _ c.with_added-counts.ensures
+    insert_added v u _ _ _ _ i.result i.ensures.answer i.ensures.table _ _ (c.in_ok-inserted.was ∙ ap Ok c.in-Added.is) p.new.cells p.auto.cells p.ensures.mapped p.ensures.elsewhere _ c.with_added-counts.ensures
 
 pub returns-in-Added-clause-more : goal.returns-in-Added-clause-more
 returns-in-Added-clause-more c =

@@ -27,7 +27,7 @@ pub returns-in-Joined-clause-outcome : goal.returns-in-Joined-clause-outcome
 returns-in-Joined-clause-outcome c =
     let s = c.join_step in
     λ start leg net run v u.
-        step_joined v u _ _ c.if-not-m.false _ _ _ _ s.result s.ensures.answer s.ensures.table s.ensures.cells _ (c.in_ok-step.was ∙ ap Ok c.in-Joined.is) _ c.with_joined.ensures
+    step_joined v u _ _ c.if-not-m.false _ _ _ _ s.result s.ensures.answer s.ensures.table s.ensures.cells _ (c.in_ok-step.was ∙ ap Ok c.in-Joined.is) _ c.with_joined.ensures
 
 pub returns-in_ok-counts-in-Waits-clause-outcome : goal.returns-in_ok-counts-in-Waits-clause-outcome
 returns-in_ok-counts-in-Waits-clause-outcome c =
@@ -35,10 +35,10 @@ returns-in_ok-counts-in-Waits-clause-outcome c =
     let i = c.insert_event-in-Waits in
     let w = c.in_ok-step.was ∙ ap Ok c.in-Waits.is in
     λ start leg net run v u.
-        step_waits v u _ _ c.if-not-m.false _ _ _ _ s.result s.ensures.answer s.ensures.table s.ensures.cells w
-        _ _ _ _ i.result (i.ensures.outcome start _ leg net _ (waits_net v u _ _ c.if-not-m.false _ _ _ _ s.result s.ensures.answer s.ensures.table s.ensures.cells w)
-        (waits_run v u _ _ c.if-not-m.false _ _ _ _ s.result s.ensures.answer s.ensures.table s.ensures.cells w))
-        _ (sym (ap as_outcome c.in_ok-counts-in-Waits.was))
+    step_waits v u _ _ c.if-not-m.false _ _ _ _ s.result s.ensures.answer s.ensures.table s.ensures.cells w
+    _ _ _ _ i.result (i.ensures.outcome start _ leg net _ (waits_net v u _ _ c.if-not-m.false _ _ _ _ s.result s.ensures.answer s.ensures.table s.ensures.cells w)
+    (waits_run v u _ _ c.if-not-m.false _ _ _ _ s.result s.ensures.answer s.ensures.table s.ensures.cells w))
+    _ (sym (ap as_outcome c.in_ok-counts-in-Waits.was))
 
 pub returns-in_err-counts-in-Waits-clause-outcome : goal.returns-in_err-counts-in-Waits-clause-outcome
 returns-in_err-counts-in-Waits-clause-outcome c =
@@ -46,7 +46,7 @@ returns-in_err-counts-in-Waits-clause-outcome c =
     let i = c.insert_event-in-Waits in
     let w = c.in_ok-step.was ∙ ap Ok c.in-Waits.is in
     λ start leg net run v u.
-        step_waits v u _ _ c.if-not-m.false _ _ _ _ s.result s.ensures.answer s.ensures.table s.ensures.cells w
-        _ _ _ _ i.result (i.ensures.outcome start _ leg net _ (waits_net v u _ _ c.if-not-m.false _ _ _ _ s.result s.ensures.answer s.ensures.table s.ensures.cells w)
-        (waits_run v u _ _ c.if-not-m.false _ _ _ _ s.result s.ensures.answer s.ensures.table s.ensures.cells w))
-        c.from_residual-in_err-counts-in-Waits.result (handed_on _ _ c.from_residual-in_err-counts-in-Waits.ensures.1 ∙ sym (ap as_outcome c.in_err-counts-in-Waits.was))
+    step_waits v u _ _ c.if-not-m.false _ _ _ _ s.result s.ensures.answer s.ensures.table s.ensures.cells w
+    _ _ _ _ i.result (i.ensures.outcome start _ leg net _ (waits_net v u _ _ c.if-not-m.false _ _ _ _ s.result s.ensures.answer s.ensures.table s.ensures.cells w)
+    (waits_run v u _ _ c.if-not-m.false _ _ _ _ s.result s.ensures.answer s.ensures.table s.ensures.cells w))
+    c.from_residual-in_err-counts-in-Waits.result (handed_on _ _ c.from_residual-in_err-counts-in-Waits.ensures.1 ∙ sym (ap as_outcome c.in_err-counts-in-Waits.was))
