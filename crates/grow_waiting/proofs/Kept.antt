@@ -8,6 +8,7 @@ use lib.ListN.{length, get_or, set}
 use lib.Seq.{get_or-set_other}
 use lib.Ieee.{Float, nan}
 use Rattle.net_node.specs.declared.EstTime.{EstTime}
+use Rattle.net_join_paths.specs.declared.EstJoinPath.{EstJoinPath}
 use Rattle.book_format.specs.Format.{legs}
 use Rattle.book_format.specs.Chains.{Chained}
 use Rattle.grow_path.specs.Kept.{PathIn}
@@ -127,10 +128,10 @@ module _ (c : List ℕ) (r : List Float) (w : Rooms) (top used : ℕ) (runs : Li
 -- ---- the runs, one by one
 
 -- the runs below one that is taken up again
-pub saved_rest : (c : List ℕ) (r : List Float) (w : Rooms) (top used : ℕ) (run : Waiting) (runs : List Waiting) (joins : List ℕ) (p : Popped) → PoppedAs run runs joins p → SavedIn c r w top used (run ∷ runs)
-    → SavedIn c r w p.below (used - p.count) runs
+pub saved_rest : (c : List ℕ) (r : List Float) (w : Rooms) (top used : ℕ) (run : Waiting) (runs : List Waiting) (joins : List EstJoinPath) (p : Popped) → PoppedAs run runs joins p → SavedIn c r w top used (run ∷ runs)
+    → SavedIn c r w p.below (used - length joins) runs
 saved_rest c r w top used run runs joins p a h =
-    subst (λ (i : ℕ). SavedIn c r w i (used - p.count) runs) (sym a.below) (subst (λ (n : ℕ). SavedIn c r w (top_of runs) (used - n) runs) (sym a.count) h.1.1.1.1)
+    subst (λ (i : ℕ). SavedIn c r w i (used - length joins) runs) (sym a.below) (subst (λ (es : List EstJoinPath). SavedIn c r w (top_of runs) (used - length es) runs) (sym a.entries) h.1.1.1.1)
 
 -- 0 on top: no run waits
 pub saved_end : (c : List ℕ) (r : List Float) (w : Rooms) (top used : ℕ) (runs : List Waiting) → top ≡ 0 → SavedIn c r w top used runs → runs ≡ []

@@ -3,18 +3,16 @@ use mathlib.Core.Path.{◌≡◌, refl, sym, ap, ◌∙◌, subst}
 use mathlib.Core.Logic.{◌≢◌}
 use mathlib.Core.List.{List, [], ◌∷◌, ◌++◌}
 use Prim.Native.Nat.{ℕ, zero, suc, ◌+◌, ◌-◌, ◌*◌, ◌≤◌, ◌<◌}
-use native.Mathlib.Numerals.{add-one}
 use native.Mathlib.Omega.{arith}
-use lib.ListN.{length, get_or, set, length-set}
+use lib.ListN.{length, get_or, set, take, length-set, length-append}
 use lib.Seq.{get_or-set_same, get_or-set_other}
+use Rattle.std.proofs.lemmas.List.{take_more, length-take-le, take_all}
 use lib.Ieee.{Float, nan}
 use Rattle.net_insertion.specs.declared.Place.{Place}
 use Rattle.net_join_paths.specs.declared.EstJoinPath.{EstJoinPath}
-use Rattle.net_join_paths.specs.Entries.{entry, entry_at, entries_in}
-use Rattle.net_join_paths.proofs.Entries.{entries_count, entries_more, entries_behind}
 use Rattle.grow_waiting.specs.declared.Rooms.{Rooms}
 use Rattle.grow_waiting.specs.Held.{Waiting, EntriesFrom, RunKept, Untaken, top_of, SavedIn, waiting_of, SavedElsewhere, SomeWaits, PoppedAs}
-use Rattle.grow_waiting.specs.Steps.{EntriesPushed}
+use Rattle.grow_waiting.specs.Steps.{EntriesPushed, EntriesCopied}
 
 -- ---- entries on the stack
 
@@ -39,9 +37,8 @@ entries_snoc c w k [] x n e h a b =
     (ap (λ (i : ℕ). get_or c (w.nodes_at + i * 8 + 3) 0) d ∙ a, (ap (λ (i : ℕ). get_or c (w.nodes_at + i * 8 + 4) 0) d ∙ b, tt))
 entries_snoc c w k (y ∷ xs) x n e h a b = (h.0, (h.1.0, entries_snoc c w (suc k) xs x n (omega arith) h.1.1 a b))
 
-pub pushed_none : (c : List ℕ) (w : Rooms) (used : ℕ) (joins : List ℕ) → EntriesPushed c c w used (entries_in joins 0)
-unfolding entries_in
-pushed_none c w used joins = record { there = tt; elsewhere = λ q h. refl }
+pub pushed_none : (c : List ℕ) (w : Rooms) (used : ℕ) → EntriesPushed c c w used []
+pushed_none c w used = record { there = tt; elsewhere = λ q h. refl }
 
 module _ (c : List ℕ) (w : Rooms) (i : ℕ) (x : EstJoinPath) where
   abbrev half : List ℕ
@@ -62,73 +59,72 @@ module _ (c : List ℕ) (w : Rooms) (i : ℕ) (x : EstJoinPath) where
   atop_node : w.nodes_at + i * 8 + 8 ≤ length c → get_or atop (w.nodes_at + i * 8 + 4) 0 ≡ x.est_idx_next
   atop_node l = get_or-set_same half (w.nodes_at + i * 8 + 4) x.est_idx_next 0 (omega (arith, length-set c (w.nodes_at + i * 8 + 3) x.link_idx_match))
 
-module _ {c c' : List ℕ} {w : Rooms} {used : ℕ} (joins : List ℕ) (k : ℕ) where
-  pub pushed_on : EntriesPushed c c' w used (entries_in joins k) → used + k < w.places → w.nodes_at + w.places * 8 ≤ length c' → (x : EstJoinPath) → x ≡ entry_at joins k
-      → EntriesPushed c (atop c' w (used + k) x) w used (entries_in joins (k + 1))
-  pushed_on v g l x e =
-      let n : length (entries_in joins k) ≡ k = entries_count joins k in
-      let m : length (entries_in joins (k + 1)) ≡ k + 1 = entries_count joins (k + 1) in
-      let s : EntriesFrom (atop c' w (used + k) x) w used (entries_in joins k) =
-      entries_same c' (atop c' w (used + k) x) w used (entries_in joins k)
+-- the entry at k, put behind those before it
+module _ {c c' : List ℕ} {w : Rooms} {used : ℕ} (xs : List EstJoinPath) (k : ℕ) where
+  pub pushed_on : EntriesPushed c c' w used (take k xs) → k < length xs → used + length xs ≤ w.places → w.nodes_at + w.places * 8 ≤ length c' → (ys : List EstJoinPath) (d : EstJoinPath) → ys ≡ xs
+      → EntriesPushed c (atop c' w (used + k) (get_or ys k d)) w used (take (k + 1) xs)
+  pushed_on v h g l ys d e =
+      let x : EstJoinPath = get_or ys k d in
+      let n : length (take k xs) ≡ k = length-take-le k xs (omega arith) in
+      let m : length (take (k + 1) xs) ≡ k + 1 = length-take-le (k + 1) xs (omega arith) in
+      let s : EntriesFrom (atop c' w (used + k) x) w used (take k xs) =
+      entries_same c' (atop c' w (used + k) x) w used (take k xs)
       (λ i t a b p q. atop_other c' w (used + k) x (w.nodes_at + i * 8 + t) (λ (d : w.nodes_at + i * 8 + t ≡ w.nodes_at + (used + k) * 8 + 3). omega arith) (λ (d : w.nodes_at + i * 8 + t ≡ w.nodes_at + (used + k) * 8 + 4). omega arith))
       v.there in
       record {
         there =
-            subst (EntriesFrom (atop c' w (used + k) x) w used) (sym (entries_more joins k))
-            (entries_snoc (atop c' w (used + k) x) w used (entries_in joins k) (entry_at joins k) (used + k) (omega arith) s (atop_match c' w (used + k) x (omega arith) ∙ ap (λ (y : EstJoinPath). y.link_idx_match) e) (atop_node c' w (used + k) x (omega arith) ∙ ap (λ (y : EstJoinPath). y.est_idx_next) e));
+            subst (EntriesFrom (atop c' w (used + k) x) w used) (sym (take_more xs k d h ∙ ap (λ (zs : List EstJoinPath). take k xs ++ (get_or zs k d ∷ [])) (sym e)))
+            (entries_snoc (atop c' w (used + k) x) w used (take k xs) x (used + k) (omega arith) s (atop_match c' w (used + k) x (omega arith)) (atop_node c' w (used + k) x (omega arith)));
         elsewhere = λ q h.
             atop_other c' w (used + k) x q (h (used + k) 3 (omega arith) (omega arith) (omega arith) (omega arith)) (h (used + k) 4 (omega arith) (omega arith) (omega arith) (omega arith))
             ∙ v.elsewhere q (λ i t a b p r. h i t a (omega arith) p r);
       }
 
-  pub pushed_all_lem : (count : ℕ) → EntriesPushed c c' w used (entries_in joins k) → k ≤ count → count ≤ k → EntriesPushed c c' w used (entries_in joins count)
-  pushed_all_lem count v a b = let e : k ≡ count = omega arith in subst (λ (n : ℕ). EntriesPushed c c' w used (entries_in joins n)) e v
+  pub pushed_whole : EntriesPushed c c' w used (take k xs) → length xs ≤ k → EntriesPushed c c' w used xs
+  pushed_whole v h = subst (EntriesPushed c c' w used) (take_all k xs h) v
 
 -- ---- entries as they are read
 
--- the entry at i of the stack, and the n from k on
-unfoldable pub stacked_at : List ℕ → Rooms → ℕ → EstJoinPath
-unfolding entry
-stacked_at c w i = entry (get_or c (w.nodes_at + i * 8 + 3) 0) (get_or c (w.nodes_at + i * 8 + 4) 0)
+-- the entry at i of the stack
+abbrev pub read_at : List ℕ → Rooms → ℕ → EstJoinPath
+read_at c w i = record { link_idx_match = get_or c (w.nodes_at + i * 8 + 3) 0; est_idx_next = get_or c (w.nodes_at + i * 8 + 4) 0 }
 
-unfoldable pub stacked : List ℕ → Rooms → ℕ → ℕ → List EstJoinPath
-unfolding stacked_at
-stacked c w k zero = []
-stacked c w k (suc n) = stacked c w k n ++ (stacked_at c w (k + n) ∷ [])
+entry_there : (c : List ℕ) (w : Rooms) (k : ℕ) (xs : List EstJoinPath) (i : ℕ) (d : EstJoinPath) → i < length xs → EntriesFrom c w k xs → read_at c w (k + i) ≡ get_or xs i d
+entry_there c w k [] i d h e = absurd (omega arith)
+entry_there c w k (x ∷ xs) zero d h e =
+    let a : get_or c (w.nodes_at + k * 8 + 3) 0 ≡ x.link_idx_match = e.0 in
+    let b : get_or c (w.nodes_at + k * 8 + 4) 0 ≡ x.est_idx_next = e.1.0 in
+    let z : k + 0 ≡ k = omega arith in
+    ap (read_at c w) z ∙ (λ t. record { link_idx_match = a t; est_idx_next = b t })
+entry_there c w k (x ∷ xs) (suc i) d h e =
+    let z : k + suc i ≡ suc k + i = omega arith in
+    ap (read_at c w) z ∙ entry_there c w (suc k) xs i d (omega arith) e.1.1
 
-module _ (c : List ℕ) (w : Rooms) where
-  stacked_first : (k n : ℕ) → stacked c w k (suc n) ≡ stacked_at c w k ∷ stacked c w (suc k) n
-  unfolding stacked
-  stacked_first k zero = ap (λ (i : ℕ). stacked_at c w i ∷ []) (omega arith)
-  stacked_first k (suc n) =
-      ap (λ (xs : List EstJoinPath). xs ++ (stacked_at c w (k + suc n) ∷ [])) (stacked_first k n)
-      ∙ ap (λ (i : ℕ). stacked_at c w k ∷ (stacked c w (suc k) n ++ (stacked_at c w i ∷ []))) (omega arith)
+-- the entries from `from` on, copied into a list up to the one at k
+pub record Copied (c : List ℕ) (w : Rooms) (from count k : ℕ) (list : List EstJoinPath) : Type 0 where
+  pub many : from + length list ≡ k
+  pub entries : (xs : List EstJoinPath) → EntriesFrom c w from xs → length xs ≡ count → list ≡ take (length list) xs
 
-  stacked_is : (k : ℕ) (xs : List EstJoinPath) → EntriesFrom c w k xs → stacked c w k (length xs) ≡ xs
-  unfolding stacked
-  stacked_is k [] h = refl
-  stacked_is k (x ∷ xs) h =
-      let a : get_or c (w.nodes_at + k * 8 + 3) 0 ≡ x.link_idx_match = h.0 in
-      let b : get_or c (w.nodes_at + k * 8 + 4) 0 ≡ x.est_idx_next = h.1.0 in
-      let r : stacked c w (suc k) (length xs) ≡ xs = stacked_is (suc k) xs h.1.1 in
-      stacked_first k (length xs) ∙ (λ t. record { link_idx_match = a t; est_idx_next = b t } ∷ r t)
+pub copied_none : (c : List ℕ) (w : Rooms) (from count : ℕ) (list : List EstJoinPath) → list ≡ [] → Copied c w from count from list
+copied_none c w from count list z = subst (Copied c w from count from) (sym z) (record { many = omega arith; entries = λ xs e l. refl })
 
-  pub copied_none : (k : ℕ) (joins : List ℕ) → entries_in joins 0 ≡ stacked c w k 0
-  unfolding entries_in stacked
-  copied_none k joins = refl
+module _ {c : List ℕ} {w : Rooms} {from count k : ℕ} {list : List EstJoinPath} (v : Copied c w from count k list) where
+  pub copied_on : k < from + count → (list' : List EstJoinPath) → list' ≡ list ++ (read_at c w k ∷ []) → Copied c w from count (k + 1) list'
+  copied_on h list' z = subst (Copied c w from count (k + 1)) (sym z) (record { many = omega (arith, n, v.many); entries = λ xs e l. behind xs e l })
+    where
+      n : length (list ++ (read_at c w k ∷ [])) ≡ length list + 1
+      n = length-append list (read_at c w k ∷ [])
 
-  pub copied_on : (k : ℕ) (joins : List ℕ) (n : ℕ) → entries_in joins n ≡ stacked c w k n → n * 2 + 2 ≤ length joins
-      → entries_in (set (set joins (n * 2) (get_or c (w.nodes_at + (k + n) * 8 + 3) 0)) (n * 2 + 1) (get_or c (w.nodes_at + (k + n) * 8 + 4) 0)) (n + 1) ≡ stacked c w k (n + 1)
-  unfolding stacked
-  copied_on k joins n h l =
-      entries_behind joins n (stacked_at c w (k + n)) l ∙ ap (λ (xs : List EstJoinPath). xs ++ (stacked_at c w (k + n) ∷ [])) h ∙ sym (ap (stacked c w k) (add-one n))
+      behind : (xs : List EstJoinPath) → EntriesFrom c w from xs → length xs ≡ count → list ++ (read_at c w k ∷ []) ≡ take (length (list ++ (read_at c w k ∷ []))) xs
+      behind xs e l =
+          let r : read_at c w (from + length list) ≡ get_or xs (length list) (read_at c w k) = entry_there c w from xs (length list) (read_at c w k) (omega (arith, v.many)) e in
+          ap (λ (ys : List EstJoinPath). ys ++ (read_at c w k ∷ [])) (v.entries xs e l)
+          ∙ ap (λ (x : EstJoinPath). take (length list) xs ++ (x ∷ [])) (ap (read_at c w) (sym v.many) ∙ r)
+          ∙ sym (take_more xs (length list) (read_at c w k) (omega (arith, v.many)))
+          ∙ ap (λ (i : ℕ). take i xs) (sym n)
 
-  pub copied_all : (k : ℕ) (joins : List ℕ) (n count : ℕ) → entries_in joins n ≡ stacked c w k n → n ≤ count → count ≤ n
-      → (xs : List EstJoinPath) → EntriesFrom c w k xs → length xs ≡ count → entries_in joins count ≡ xs
-  copied_all k joins n count h a b xs e l =
-      let d : count ≡ n = omega arith in
-      let f : n ≡ length xs = omega arith in
-      ap (entries_in joins) d ∙ h ∙ ap (stacked c w k) f ∙ stacked_is k xs e
+  pub copied_whole : k ≡ from + count → (xs : List EstJoinPath) → EntriesFrom c w from xs → length xs ≡ count → list ≡ xs
+  copied_whole h xs e l = v.entries xs e l ∙ take_all (length list) xs (omega (arith, v.many))
 
 -- ---- a change that leaves runs as they are
 
@@ -180,7 +176,8 @@ top_is c r w top used [] h = h.0
 top_is c r w top used (run ∷ runs) h = h.0
 
 -- what saving a run asks for
-pub record Saving (c : List ℕ) (r : List Float) (w : Rooms) (top used : ℕ) (place : Place) (leg depth : ℕ) (joins : List ℕ) (count : ℕ) : Type 0 where
+pub record Saving (c : List ℕ) (r : List Float) (w : Rooms) (top used : ℕ) (place : Place) (leg depth : ℕ) (joins : List EstJoinPath) (count : ℕ) : Type 0 where
+  pub counted : count ≡ length joins
   pub nodes_inside : w.nodes_at + w.places * 8 ≤ length c
   pub legs_before : (w.legs + 1) * 8 ≤ w.nodes_at
   pub pairs_inside : w.pairs_at + w.legs * 2 + 2 ≤ length r
@@ -188,7 +185,7 @@ pub record Saving (c : List ℕ) (r : List Float) (w : Rooms) (top used : ℕ) (
   pub real : 0 < leg
   pub entries_inside : used + count ≤ w.places
 
-module _ {c : List ℕ} {r : List Float} {w : Rooms} {top used : ℕ} {place : Place} {leg depth : ℕ} {joins : List ℕ} {count : ℕ} (f : Saving c r w top used place leg depth joins count) where
+module _ {c : List ℕ} {r : List Float} {w : Rooms} {top used : ℕ} {place : Place} {leg depth : ℕ} {joins : List EstJoinPath} {count : ℕ} (f : Saving c r w top used place leg depth joins count) where
   abbrev c1 : List ℕ
   c1 = set c (leg * 8 + 4) place.idx_prev
 
@@ -259,7 +256,7 @@ module _ {c : List ℕ} {r : List Float} {w : Rooms} {top used : ℕ} {place : P
   is_offset : get_or r2 (w.pairs_at + leg * 2 + 1) nan ≡ place.dist_to_next
   is_offset = get_or-set_same r1 (w.pairs_at + leg * 2 + 1) place.dist_to_next nan (omega (arith, length-set r (w.pairs_at + leg * 2) place.time_to_next, f.pairs_inside, f.inside))
 
-  module _ {c' : List ℕ} (p : EntriesPushed c4 c' w used (entries_in joins count)) where
+  module _ {c' : List ℕ} (p : EntriesPushed c4 c' w used joins) where
     -- pushing leaves the legs' units
     leg_unit : (j k : ℕ) → j ≤ w.legs → k < 8 → get_or c' (j * 8 + k) 0 ≡ get_or c4 (j * 8 + k) 0
     leg_unit j k a b = p.elsewhere (j * 8 + k) (λ i t e g h d o. omega (arith, f.legs_before))
@@ -267,7 +264,7 @@ module _ {c : List ℕ} {r : List Float} {w : Rooms} {top used : ℕ} {place : P
     pub save_elsewhere : SavedElsewhere c c' r r2 w
     save_elsewhere = record {
       cells = λ q a b.
-          p.elsewhere q (λ i k h g d e. b i k (omega (arith, entries_count joins count, f.entries_inside)) d e) ∙ four_other q (λ k h g. a leg k f.inside h g);
+          p.elsewhere q (λ i k h g d e. b i k (omega (arith, f.counted, f.entries_inside)) d e) ∙ four_other q (λ k h g. a leg k f.inside h g);
       reals = λ q a. two_other q (λ (d : q ≡ w.pairs_at + leg * 2). a leg 0 f.inside (omega arith) (omega arith)) (a leg 1 f.inside (omega arith));
     }
 
@@ -282,26 +279,23 @@ module _ {c : List ℕ} {r : List Float} {w : Rooms} {top used : ℕ} {place : P
           p.elsewhere (w.nodes_at + i * 8 + k) (λ l t a b d o q. omega arith) ∙ four_other (w.nodes_at + i * 8 + k) (λ t a b d. omega (arith, f.legs_before, f.inside));
     }
 
-    kept_new : RunKept c' r2 w top used (waiting_of place leg depth (entries_in joins count))
-    unfolding waiting_of
+    kept_new : RunKept c' r2 w top used (waiting_of place leg depth joins)
     kept_new = record {
       real = f.real;
       inside = f.inside;
       place = leg_unit leg 4 f.inside (omega arith) ∙ is_place;
       depth = leg_unit leg 5 f.inside (omega arith) ∙ is_depth;
-      count = leg_unit leg 6 f.inside (omega arith) ∙ is_count ∙ sym (entries_count joins count);
+      count = leg_unit leg 6 f.inside (omega arith) ∙ is_count ∙ f.counted;
       next = leg_unit leg 7 f.inside (omega arith) ∙ is_next;
       time = is_time;
       offset = is_offset;
       entries = p.there;
-      fits = omega (arith, entries_count joins count, f.entries_inside);
+      fits = omega (arith, f.counted, f.entries_inside);
     }
 
-    pub save_saved : (runs : List Waiting) → SavedIn c r w top used runs → Untaken leg runs → SavedIn c' r2 w leg (used + count) (waiting_of place leg depth (entries_in joins count) ∷ runs)
-    unfolding waiting_of
+    pub save_saved : (runs : List Waiting) → SavedIn c r w top used runs → Untaken leg runs → SavedIn c' r2 w leg (used + length joins) (waiting_of place leg depth joins ∷ runs)
     save_saved runs h a =
-        let n : length (entries_in joins count) ≡ count = entries_count joins count in
-        let u : used ≡ used + count - length (entries_in joins count) = omega arith in
+        let u : used ≡ used + length joins - length joins = omega arith in
         let t : top ≡ top_of runs = top_is c r w top used runs h in (
           refl,
           (
@@ -309,9 +303,9 @@ module _ {c : List ℕ} {r : List Float} {w : Rooms} {top used : ℕ} {place : P
             (
               a,
               (
-                subst (λ (i : ℕ). RunKept c' r2 w i (used + count - length (entries_in joins count)) (waiting_of place leg depth (entries_in joins count))) t
-                    (subst (λ (i : ℕ). RunKept c' r2 w top i (waiting_of place leg depth (entries_in joins count))) u kept_new),
-                subst (λ (i : ℕ). SavedIn c' r2 w i (used + count - length (entries_in joins count)) runs) t
+                subst (λ (i : ℕ). RunKept c' r2 w i (used + length joins - length joins) (waiting_of place leg depth joins)) t
+                    (subst (λ (i : ℕ). RunKept c' r2 w top i (waiting_of place leg depth joins)) u kept_new),
+                subst (λ (i : ℕ). SavedIn c' r2 w i (used + length joins - length joins) runs) t
                     (subst (λ (i : ℕ). SavedIn c' r2 w top i runs) u (saved_still steady top used runs (omega arith) a h)),
               ),
             ),
@@ -334,14 +328,13 @@ some_readily {c} {r} {w} {top} {used} s =
     let e : get_or c (top * 8 + 6) 0 ≡ length s.run.joins = ap (λ (j : ℕ). get_or c (j * 8 + 6) 0) h.0 ∙ v.count in
     record { inside = omega (arith, h.0, v.inside); there = omega (arith, h.1.0); room = omega (arith, v.fits, h.1.0); few = omega (arith, s.few) }
 
-module _ (c : List ℕ) (r : List Float) (w : Rooms) (top used : ℕ) (joins : List ℕ) where
-  pub pop_gives : ((xs : List EstJoinPath) → EntriesFrom c w (used - get_or c (top * 8 + 6) 0) xs → length xs ≡ get_or c (top * 8 + 6) 0 → entries_in joins (get_or c (top * 8 + 6) 0) ≡ xs)
+module _ (c : List ℕ) (r : List Float) (w : Rooms) (top used : ℕ) (joins : List EstJoinPath) where
+  pub pop_gives : EntriesCopied c w (used - get_or c (top * 8 + 6) 0) (get_or c (top * 8 + 6) 0) joins
       → (run : Waiting) (runs : List Waiting) → SavedIn c r w top used (run ∷ runs)
       → PoppedAs run runs joins (record {
         place = record { time_to_next = get_or r (w.pairs_at + top * 2) nan; dist_to_next = get_or r (w.pairs_at + top * 2 + 1) nan; idx_prev = get_or c (top * 8 + 4) 0 };
         leg = top;
         depth = get_or c (top * 8 + 5) 0;
-        count = get_or c (top * 8 + 6) 0;
         below = get_or c (top * 8 + 7) 0;
       })
   pop_gives copied run runs h =
@@ -356,6 +349,5 @@ module _ (c : List ℕ) (r : List Float) (w : Rooms) (top used : ℕ) (joins : L
         leg = e;
         depth = ap (λ (j : ℕ). get_or c (j * 8 + 5) 0) e ∙ v.depth;
         entries = copied run.joins (subst (λ (i : ℕ). EntriesFrom c w (used - i) run.joins) (sym n) v.entries) (sym n);
-        count = n;
         below = ap (λ (j : ℕ). get_or c (j * 8 + 7) 0) e ∙ v.next;
       }
