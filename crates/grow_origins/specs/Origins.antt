@@ -26,6 +26,8 @@ use Rattle.net_node.specs.declared.EstType.{EstType}
 use Rattle.grow_waiting.specs.Steps.{Stacks}
 use Rattle.grow_events.specs.declared.Mover.{Mover}
 use Rattle.grow_events.specs.Held.{NetIn, InsertedAs}
+use Rattle.net_join_paths.specs.declared.EstJoinPath.{EstJoinPath}
+use Rattle.arrayvec.specs.ArrayVec.{ArrayVec}
 
 -- nodes 0 and 1, and no run
 unfoldable pub start_state : Rest
@@ -127,8 +129,8 @@ pub record OriginInserted (b : List ℕ) (p : Plan) (s : Lists) (idxs : List ℕ
   pub apart : OtherLinks b link idxs
 
 -- some are
-pub record SomeOriginInserted (b : List ℕ) (p : Plan) (reals : List Float) (cells joins : List ℕ) (g : Rest)
-    (place : Place) (link : ℕ) : Type 0 where
+pub record SomeOriginInserted (b : List ℕ) (p : Plan) (reals : List Float) (cells : List ℕ)
+    (joins : List EstJoinPath) (g : Rest) (place : Place) (link : ℕ) : Type 0 where
   pub fs : List Float
   pub us : List ℕ
   pub idxs : List ℕ
@@ -148,9 +150,9 @@ event_at_rest departure link kind offset = record {
   link_event = record { link_idx = link; est_type = kind };
 }
 
--- a run at node i, at offset 0, with no join entries
+-- a run at node i, at offset 0
 abbrev pub mover_at : Float → ℕ → Mover
-mover_at time i = record { place = place_on time (of_bits binary64 0) i; has_split = false; count = 0 }
+mover_at time i = record { place = place_on time (of_bits binary64 0) i; has_split = false }
 
 -- ---- what they answer, of every network and runs that the slices hold
 
@@ -158,12 +160,13 @@ mover_at time i = record { place = place_on time (of_bits binary64 0) i; has_spl
 abbrev pub InsertsOrigin : Plan → Counts → ℕ → Table → List ℕ → Table → List ℕ
     → Result (Counts × Mover) Refusal → Type 0
 InsertsOrigin p c link t cells t' cells' r =
-    (b : List ℕ) (reals : ℕ) (start joins : List ℕ) (net : Net)
+    (b : List ℕ) (reals : ℕ) (start : List ℕ) (joins : List EstJoinPath) (net : Net)
     → PlanIn b p reals → NetIn p.w start t.floats t.numbers cells c net
     → InsertedAs (origin_answer b p.w.places link net) p.w start 0 t'.floats t'.numbers cells' joins r
 
 -- its run is saved
-abbrev pub SavesOrigin : List ℕ → Plan → Rest → Place → ℕ → Stacks → Stacks → List ℕ → Result Rest Refusal → Type 0
+abbrev pub SavesOrigin : List ℕ → Plan → Rest → Place → ℕ → Stacks → Stacks → List EstJoinPath → Result Rest Refusal
+    → Type 0
 SavesOrigin b p g place link s s' joins r =
     (fs : List Float) (us idxs : List ℕ) (net : Net) (run : Run) (runs : List Run)
     → OriginInserted b p (lists fs us s.reals s.cells joins) idxs g place link net run runs
@@ -187,6 +190,7 @@ GrowsOrigins b p g s s' r =
     b p s' [] r
 
 -- what the slices hold at exit, where the join entries are only read
-abbrev pub lists_left : Lent (List Float) → Lent (List ℕ) → Lent (List Float) → Lent (List ℕ) → Seen (List ℕ) → Lists
+abbrev pub lists_left : Lent (List Float) → Lent (List ℕ) → Lent (List Float) → Lent (List ℕ)
+    → Seen (ArrayVec EstJoinPath) → Lists
 lists_left floats numbers reals cells joins =
-    lists floats.exit.now numbers.exit.now reals.exit.now cells.exit.now joins.entry.now
+    lists floats.exit.now numbers.exit.now reals.exit.now cells.exit.now joins.entry.now.items

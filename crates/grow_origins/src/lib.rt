@@ -2,15 +2,14 @@
 // Contracts: grow_rules' specs/Growth.antt, specs/Origins.antt.
 #![tactic(auto)]
 
-ghost use Rattle.std.specs.Prelude.{◌≡◌, false, ◌≢◌, ℕ, ◌+◌, ◌*◌, ◌≤◌, ◌<◌, length, IfOk};
+ghost use Rattle.std.specs.Prelude.{◌≡◌, false, ◌≢◌, [], ℕ, ◌+◌, ◌*◌, ◌≤◌, ◌<◌, length, IfOk};
 ghost use Rattle.net_node.specs.Table.{node_at};
 ghost use Rattle.book_format.specs.Format.{links, origins, legs, origin_link};
 ghost use Rattle.book_format.specs.Rows.{row7};
-ghost use Rattle.book_format.specs.Chains.{Readable};
 ghost use Rattle.book_legs.specs.Legs.{Started};
 ghost use Rattle.book_options.specs.Options.{OptionsIn, kept_origins, search_room};
 ghost use Rattle.grow_events.specs.Held.{Growing};
-ghost use Rattle.grow_state.specs.Held.{PlanIn, lists};
+ghost use Rattle.grow_state.specs.Held.{PlanIn, lists, lists_at_entry, lists_at_exit};
 ghost use Rattle.net_node.specs.Lent.{table_at_entry, table_at_exit};
 ghost use Rattle.grow_waiting.specs.Steps.{stacks_at_entry, stacks_at_exit};
 ghost use Rattle.grow_origins.specs.Origins.{start_state, LeadsFrom, OnlyStart, SomeOrigin, SomeOrigins};
@@ -18,20 +17,19 @@ ghost use Rattle.grow_origins.specs.Origins.{SomeOriginInserted, event_at_rest, 
 ghost use Rattle.net_insertion.specs.Insertion.{table_of};
 ghost use Rattle.grow_origins.specs.Origins.{SavesOrigin, GrowsOrigin, GrowsOrigins, lists_left};
 
-use book_format::Sections;
-use book_legs::Taken;
+use book_format::ReadableBook;
 use grow_events::{Counts, Mover};
 use grow_state::{Plan, Rest};
 use grow_waiting::Rooms;
 use net_event_map::Layout;
 use net_insertion::Place;
+use net_join_paths::JoinPaths;
 use net_node::{EstType, LinkEvent, TimedEvent};
 use refusals::Refusal;
 
 // What growth goes by. The legs' units of cells stand first, then the nodes', then the links'; the path's points stand
 // first in the reals, then the pairs of the runs that wait.
-pub fn plan_of(book: &[u8], s: Sections, places: usize) -> Plan
-    requires readable { Readable book.now s }
+pub fn plan_of(book: &ReadableBook, places: usize) -> Plan
     requires book_value { row7 book.now ≡ false }
     requires places_bound { places ≤ 65535 }
     ensures plan { (reals : ℕ) → legs book.now * 3 + 4 ≤ reals
@@ -39,22 +37,23 @@ pub fn plan_of(book: &[u8], s: Sections, places: usize) -> Plan
     ensures places { result.w.places ≡ places }
     ensures links { result.w.links_at ≡ (legs book.now + 1) * 8 + places * 8 }
 {
-    let head = book_format::head_patterns(book, s);
-    let nodes_at = (s.legs + 1) * 8;
+    let rows = book.book();
+    let head = rows.head_patterns();
+    let legs = rows.legs();
+    let nodes_at = (legs + 1) * 8;
     let w = Layout {
         links_at: nodes_at + places * 8,
         nodes_at,
-        links: s.links,
+        links: rows.links(),
         places,
     };
     let r = Rooms {
         nodes_at,
-        pairs_at: s.legs + 2,
-        legs: s.legs,
+        pairs_at: legs + 2,
+        legs,
         places,
     };
     Plan {
-        s,
         w,
         r,
         join: f64::from_bits(head.join),
@@ -76,19 +75,17 @@ fn origin_event(departure: f64, link_idx: u32, est_type: EstType, offset: f64) -
     }
 }
 
-// A run at the start, or at an alternative of it.
+// A run at the start, or at an alternative of it, with no join entries.
 fn origin_run(departure: f64, idx_prev: u32) -> Mover
     ensures { result ≡ mover_at departure idx_prev }
 {
-    let place = Place {
-        time_to_next: departure,
-        dist_to_next: 0.0,
-        idx_prev,
-    };
     Mover {
-        place,
+        place: Place {
+            time_to_next: departure,
+            dist_to_next: 0.0,
+            idx_prev,
+        },
         has_split: false,
-        count: 0,
     }
 }
 
@@ -138,32 +135,31 @@ fn origin_events(
     grow_events::insert_event(floats, numbers, cells, w, p.join, counts, mover, clear)
 }
 
-// Saves an origin's run, whose leg is sought "after its Clear is added".
+// Saves an origin's run, which has no join entries, and whose leg is sought "after its Clear is added".
 fn save_origin(
-    book: &[u8],
+    book: &ReadableBook,
     reals: &mut [f64],
     cells: &mut [u32],
     marks: &[u32],
-    joins: &[u32],
+    joins: &JoinPaths,
     p: Plan,
     g: Rest,
     place: Place,
     link_idx: u32,
 ) -> Result<Rest, Refusal>
     requires plan_in { PlanIn book.now p (length reals.old) }
-    requires some_origin_inserted { SomeOriginInserted book.now p reals.old cells.old joins.now g place link_idx }
+    requires some_origin_inserted { SomeOriginInserted book.now p reals.old cells.old joins.now.items g place
+        link_idx }
+    requires no_joins { joins.now.items ≡ [] }
     requires started { Started book.now marks.now }
     requires book_in_bounds { 2 * links book.now ≤ length marks.now }
     requires link_idx_bound { link_idx < links book.now }
     ensures { SavesOrigin book.now p g place link_idx (stacks_at_entry cells reals)
-        (stacks_at_exit cells reals) joins.now result }
+        (stacks_at_exit cells reals) joins.now.items result }
 {
-    let taken = book_legs::take_start(book, p.s, cells, marks, link_idx);
-    let Taken::Leg(leg) = taken else {
-        return Err(Refusal::MissingLeg);
-    };
+    let leg = book_legs::take_start(book.book(), cells, marks, link_idx)?;
     grow_waiting::save(
-        cells, reals, p.r, g.top, g.used, place, leg.number, 0, joins, 0,
+        cells, reals, p.r, g.top, g.used, place, leg.number, 0, joins,
     );
     Ok(Rest {
         top: leg.number,
@@ -173,13 +169,13 @@ fn save_origin(
 
 // One kept origin: its events, then its leg.
 fn origin(
-    book: &[u8],
+    book: &ReadableBook,
     floats: &mut [f64],
     numbers: &mut [u32],
     reals: &mut [f64],
     cells: &mut [u32],
     marks: &[u32],
-    joins: &[u32],
+    joins: &JoinPaths,
     p: Plan,
     g: Rest,
     idx: usize,
@@ -187,15 +183,16 @@ fn origin(
 ) -> Result<Rest, Refusal>
     requires plan_in { PlanIn book.now p (length reals.old) }
     requires idx_bound { idx < origins book.now }
-    requires some_origin { SomeOrigin book.now p (lists floats.old numbers.old reals.old cells.old joins.now) idx
-        g }
+    requires some_origin { SomeOrigin book.now p
+        (lists floats.old numbers.old reals.old cells.old joins.now.items) idx g }
+    requires no_joins { joins.now.items ≡ [] }
     requires leads_from { LeadsFrom (table_of floats.old numbers.old) g.counts.nodes last (origin_link book.now idx) }
     requires started { Started book.now marks.now }
     requires book_in_bounds { 2 * links book.now ≤ length marks.now }
-    ensures { GrowsOrigin book.now p g idx (lists floats.old numbers.old reals.old cells.old joins.now)
+    ensures { GrowsOrigin book.now p g idx (lists floats.old numbers.old reals.old cells.old joins.now.items)
         (lists_left floats numbers reals cells joins) result }
 {
-    let at = book_format::origin_at(book, p.s, idx);
+    let at = book.valid().origin_at(idx);
     let (counts, mover) = origin_events(floats, numbers, cells, p, g.counts, at.link_idx, last)?;
     let inserted = Rest { counts, ..g };
     save_origin(
@@ -224,15 +221,16 @@ fn last_after(before: usize) -> u32
     before as u32
 }
 
-// All kept origins, in the order in which they stand in the marks.
+// All kept origins, in the order in which they stand in the marks. Their runs have no join entries: the list is
+// cleared.
 pub fn origins(
-    book: &[u8],
+    book: &ReadableBook,
     floats: &mut [f64],
     numbers: &mut [u32],
     reals: &mut [f64],
     cells: &mut [u32],
     marks: &[u32],
-    joins: &[u32],
+    joins: &mut JoinPaths,
     kept: usize,
     p: Plan,
     g: Rest,
@@ -241,15 +239,16 @@ pub fn origins(
     requires options_in { OptionsIn book.now marks.now }
     requires book_in_bounds { search_room book.now ≤ length marks.now }
     requires kept_value { kept ≡ length (kept_origins book.now) }
-    requires some_origins { SomeOrigins book.now p (lists floats.old numbers.old reals.old cells.old joins.now)
-        (kept_origins book.now) g }
+    requires some_origins { SomeOrigins book.now p
+        (lists floats.old numbers.old reals.old cells.old joins.old.items) (kept_origins book.now) g }
     requires only_start { OnlyStart (node_at floats.old numbers.old) g.counts.nodes }
     requires started { Started book.now marks.now }
-    ensures { GrowsOrigins book.now p g (lists floats.old numbers.old reals.old cells.old joins.now)
-        (lists_left floats numbers reals cells joins) result }
+    ensures { GrowsOrigins book.now p g (lists_at_entry floats numbers reals cells joins)
+        (lists_at_exit floats numbers reals cells joins) result }
 {
-    let s = p.s;
-    let rows_at = 2 * s.links + s.destinations;
+    joins.clear();
+    let rows = book.book();
+    let rows_at = 2 * rows.links() + rows.destinations();
     let mut rest = g;
     let mut last = 1;
     for k in 0..kept {
