@@ -25,7 +25,7 @@ use Rattle.std.specs.Prelude.{Result, Ok, Err}
 use Rattle.refusals.specs.declared.Refusal.{Refusal}
 use Rattle.grow_events.specs.declared.RunOutcome.{RunOutcome}
 use Rattle.grow_events.specs.declared.RunOutcome.TheVariants.{On}
-use Rattle.grow_events.specs.Held.{NetIn, RunIn, Growing, Moving, LeftAs, GoesAs, OutcomeAs, InsertedAs, counts_joined}
+use Rattle.grow_events.specs.Held.{NetIn, RunIn, Growing, Moving, LeftAs, OutcomeAs, InsertedAs, counts_joined}
 use Rattle.grow_ends.proofs.Kept.{below_more}
 use Rattle.grow_events.proofs.Inserting.{net_indexed, net_mapped}
 use Rattle.net_insertion.specs.Insertion.{table_of}

@@ -84,17 +84,17 @@ returns-in_ok-counts-in-Waits-clause-outcome c =
     let s = c.join_step-step in
     let i = c.insert_event-in-Waits in
     λ start leg net run v u.
-        step_waits v u _ _ c.if-not-m.false _ _ _ _ s.result s.ensures.answer s.ensures.table s.ensures.cells _ c.in-Waits.is
-        _ _ _ _ i.result (i.ensures.outcome start _ leg net _ (waits_net v u _ _ c.if-not-m.false _ _ _ _ s.result s.ensures.answer s.ensures.table s.ensures.cells _ c.in-Waits.is)
-        (waits_run v u _ _ c.if-not-m.false _ _ _ _ s.result s.ensures.answer s.ensures.table s.ensures.cells _ c.in-Waits.is))
-        _ (sym (ap as_outcome c.in_ok-counts-in-Waits.was))
+    step_waits v u _ _ c.if-not-m.false _ _ _ _ s.result s.ensures.answer s.ensures.table s.ensures.cells _ c.in-Waits.is
+    _ _ _ _ i.result (i.ensures.outcome start _ leg net _ (waits_net v u _ _ c.if-not-m.false _ _ _ _ s.result s.ensures.answer s.ensures.table s.ensures.cells _ c.in-Waits.is)
+    (waits_run v u _ _ c.if-not-m.false _ _ _ _ s.result s.ensures.answer s.ensures.table s.ensures.cells _ c.in-Waits.is))
+    _ (sym (ap as_outcome c.in_ok-counts-in-Waits.was))
 
 pub returns-in_err-counts-in-Waits-clause-outcome : goal.returns-in_err-counts-in-Waits-clause-outcome
 returns-in_err-counts-in-Waits-clause-outcome c =
     let s = c.join_step-step in
     let i = c.insert_event-in-Waits in
     λ start leg net run v u.
-        step_waits v u _ _ c.if-not-m.false _ _ _ _ s.result s.ensures.answer s.ensures.table s.ensures.cells _ c.in-Waits.is
-        _ _ _ _ i.result (i.ensures.outcome start _ leg net _ (waits_net v u _ _ c.if-not-m.false _ _ _ _ s.result s.ensures.answer s.ensures.table s.ensures.cells _ c.in-Waits.is)
-        (waits_run v u _ _ c.if-not-m.false _ _ _ _ s.result s.ensures.answer s.ensures.table s.ensures.cells _ c.in-Waits.is))
-        c.from_residual-in_err-counts-in-Waits.result (handed_on _ _ c.from_residual-in_err-counts-in-Waits.ensures.1 ∙ sym (ap as_outcome c.in_err-counts-in-Waits.was))
+    step_waits v u _ _ c.if-not-m.false _ _ _ _ s.result s.ensures.answer s.ensures.table s.ensures.cells _ c.in-Waits.is
+    _ _ _ _ i.result (i.ensures.outcome start _ leg net _ (waits_net v u _ _ c.if-not-m.false _ _ _ _ s.result s.ensures.answer s.ensures.table s.ensures.cells _ c.in-Waits.is)
+    (waits_run v u _ _ c.if-not-m.false _ _ _ _ s.result s.ensures.answer s.ensures.table s.ensures.cells _ c.in-Waits.is))
+    c.from_residual-in_err-counts-in-Waits.result (handed_on _ _ c.from_residual-in_err-counts-in-Waits.ensures.1 ∙ sym (ap as_outcome c.in_err-counts-in-Waits.was))

@@ -1,6 +1,5 @@
 -- `grow_events::run_events` meets its contract: `Going` is the loop's invariant.
 use mathlib.Core.Path.{refl, sym, ap, ◌∙◌, subst}
-use mathlib.Core.List.{[], ◌∷◌}
 use Prim.{tt}
 use native.Mathlib.Omega.{arith}
 use Rattle.event_walk.specs.Course.{course_of}
