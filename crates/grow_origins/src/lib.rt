@@ -129,8 +129,9 @@ fn origin_events(
     let w = p.w;
     let run = origin_run(p.departure, last);
     let arrive = origin_event(p.departure, link_idx, EstType::Arrive, 0.0);
-    let (counts, mover) =
-        grow_events::insert_event(floats, numbers, cells, w, p.join, c, run, arrive)?;
+    let (counts, mover) = grow_events::insert_event(
+        floats, numbers, cells, w, p.join, c, run, arrive,
+    )?;
     let clear = origin_event(p.departure, link_idx, EstType::Clear, 0.0 + p.length);
     grow_events::insert_event(floats, numbers, cells, w, p.join, counts, mover, clear)
 }

@@ -1,6 +1,5 @@
 -- `grow_origins::origin_events` meets its contract: proofs/OriginEvents.antt.
 use Prim.{tt}
-use native.Mathlib.Omega.{arith}
 use Rattle.grow_origins.proofs.OriginEvents.{real_event, first_there, first_grown, fewer_as, fewer_more, inserted_refused, origin_stops, origin_clears}
 use Rattle.grow_origins.proofs.origin_events.Goals as goal
 
