@@ -16,8 +16,10 @@ use Rattle.net_node.specs.declared.EstTime.{EstTime}
 use Rattle.net_node.specs.declared.TimedEvent.{TimedEvent}
 use Rattle.net_node.specs.Table.{Indexed, Table, at, with_next_alt}
 use Rattle.net_insertion.specs.declared.Place.{Place}
-use Rattle.net_insertion.specs.declared.Inserted.{Inserted}
-use Rattle.net_insertion.specs.declared.Inserted.TheVariants.{Added}
+use Rattle.std.specs.Prelude.{Result}
+use Rattle.refusals.specs.declared.Refusal.{Refusal}
+use Rattle.net_insertion.specs.declared.Insertion.{Insertion}
+use Rattle.net_insertion.specs.declared.Insertion.TheVariants.{Added}
 use Rattle.net_insertion.specs.Insertion.{seek, linked_to, event_node, split_fake, add_behind, split_at, place_at, added_as, inserted, inserted_table}
 use Rattle.net_insertion.proofs.Puts.{add_found, add_new, add_indexed, add_other, add_room, split_found, split_new, split_indexed, split_other, split_room}
 use Rattle.grow_rules.specs.Run.{Net, Run, After, added_to, moved_to, member_of, inserted_run, insert_event}
@@ -49,7 +51,7 @@ event_gave : (places : ℕ) (join : Float) (net : Net) (run : Run) (e : TimedEve
 unfolding insert_event
 event_gave places join net run e x y q split a i h =
     gave_as net run e (inserted_table net.table net.nodes join run.place e) x y q split a
-    (sym (ap (λ (z : Inserted). inserted_run net run e (inserted_table net.table net.nodes join run.place e) z) i) ∙ h)
+    (sym (ap (λ (z : Result Insertion Refusal). inserted_run net run e (inserted_table net.table net.nodes join run.place e) z) i) ∙ h)
 
 -- ---- an event behind a node
 

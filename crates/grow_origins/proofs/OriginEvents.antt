@@ -11,12 +11,10 @@ use Rattle.laws.specs.Answer.{Answer, refused, given, and_then}
 use Rattle.net_node.specs.declared.EstType.{EstType}
 use Rattle.net_node.specs.declared.EstType.TheVariants.{Arrive, Clear}
 use Rattle.net_node.specs.declared.TimedEvent.{TimedEvent}
-use Rattle.net_insertion.specs.declared.Inserted.{Inserted}
-use Rattle.net_insertion.specs.declared.Inserted.TheVariants.{Added, Moved}
-use Rattle.net_insertion.specs.declared.Inserted.TheVariants.{Refused as NotIn}
+use Rattle.net_insertion.specs.declared.Insertion.{Insertion}
+use Rattle.net_insertion.specs.declared.Insertion.TheVariants.{Added, Moved}
 use Rattle.net_insertion.specs.Insertion.{inserted, inserted_table, table_of}
 use Rattle.net_join_paths.specs.declared.EstJoinPath.{EstJoinPath}
-use Rattle.net_join_paths.specs.Entries.{entries_in}
 use Rattle.net_event_map.specs.declared.Layout.{Layout}
 use Rattle.net_event_map.specs.EventMap.{RealKind, Real}
 use Rattle.grow_rules.specs.Run.{Arc, Net, Run, After, arc_to, added_to, moved_to, inserted_run, insert_event, goes_on, member_of}
@@ -42,9 +40,8 @@ run_at time i = record { place = place_on time (of_bits binary64 0) i; leg = 0; 
 pub real_event : (e : TimedEvent) (time : Float) (link : ℕ) (kind : EstType) (offset : Float) (links : ℕ) → e ≡ event_at_rest time link kind offset → RealKind kind → link < links → Real e.link_event links
 real_event e time link kind offset links d k h = subst (λ (x : TimedEvent). Real x.link_event links) (sym d) (k, h)
 
-run_there : (n : ℕ) (joins : List ℕ) (time : Float) (i : ℕ) (m : Mover) → m ≡ mover_at time i → i < n → RunIn n 0 joins m (run_at time i)
-unfolding entries_in
-run_there n joins time i m e h = subst (λ (x : Mover). RunIn n 0 joins x (run_at time i)) (sym e) (record {
+run_there : (n : ℕ) (time : Float) (i : ℕ) (m : Mover) → m ≡ mover_at time i → i < n → RunIn n 0 [] m (run_at time i)
+run_there n time i m e h = subst (λ (x : Mover). RunIn n 0 [] x (run_at time i)) (sym e) (record {
   place = refl;
   leg = refl;
   has_split = refl;
@@ -74,12 +71,12 @@ module _ (w : Layout) (join time : Float) (last : ℕ) (fs : List Float) (us cel
   -- a network is there for the second
   pub first_grown : Growing w fs us cells c → (d : Counts) (n : Mover) → r ≡ Ok (d, n) → Growing w fs' us' cells' d × (n.place.idx_prev < d.nodes)
   first_grown g d n q =
-      let o = subst (InsertedAs (insert_event w.places join g.net (run_at time last) e) w g.start 0 fs' us' cells' []) q (t g.start [] 0 g.net (run_at time last) g.holds (run_there c.nodes [] time last m dm within)) in
+      let o = subst (InsertedAs (insert_event w.places join g.net (run_at time last) e) w g.start 0 fs' us' cells' []) q (t g.start [] 0 g.net (run_at time last) g.holds (run_there c.nodes time last m dm within)) in
       (record { start = g.start; net = o.after.net; holds = o.net }, o.run.stands)
 
 -- ---- a refusal that is handed on
 
-pub inserted_refused : (answer : Answer After) (w : Layout) (start : List ℕ) (leg : ℕ) (fs : List Float) (us cells joins : List ℕ) (r : Result (Counts × Mover) Refusal) (k : Refusal) → IsErrAnd r (λ (x : Refusal). x ≡ k) → answer ≡ refused (refusal_number k)
+pub inserted_refused : (answer : Answer After) (w : Layout) (start : List ℕ) (leg : ℕ) (fs : List Float) (us cells : List ℕ) (joins : List EstJoinPath) (r : Result (Counts × Mover) Refusal) (k : Refusal) → IsErrAnd r (λ (x : Refusal). x ≡ k) → answer ≡ refused (refusal_number k)
     → InsertedAs answer w start leg fs us cells joins r
 inserted_refused answer w start leg fs us cells joins (Ok x) k h q = absurd h
 inserted_refused answer w start leg fs us cells joins (Err x) k h q = q ∙ ap (λ (y : Refusal). refused (refusal_number y)) (sym h)
@@ -91,18 +88,18 @@ gone_in d (given (Goes x)) = x
 gone_in d (given (Left net)) = d
 gone_in d (refused n) = d
 
-module _ (net : Net) (time : Float) (last : ℕ) (e : TimedEvent) (w : Layout) (start : List ℕ) (fs : List Float) (us cells joins : List ℕ) (r : Result (Counts × Mover) Refusal) where
+module _ (net : Net) (time : Float) (last : ℕ) (e : TimedEvent) (w : Layout) (start : List ℕ) (fs : List Float) (us cells : List ℕ) (joins : List EstJoinPath) (r : Result (Counts × Mover) Refusal) where
   -- an answer from node `last` is one from the start: only the arc differs
-  answer_from : (t : Table) (x : Inserted) → InsertedAs (inserted_run net (run_at time last) e t x) w start 0 fs us cells joins r → InsertedAs (inserted_run net (run_at time 1) e t x) w start 0 fs us cells joins r
+  answer_from : (t : Table) (x : Result Insertion Refusal) → InsertedAs (inserted_run net (run_at time last) e t x) w start 0 fs us cells joins r → InsertedAs (inserted_run net (run_at time 1) e t x) w start 0 fs us cells joins r
   unfolding moved_to added_to
-  answer_from t (NotIn k) o = o
-  answer_from t (Moved q) o = o
-  answer_from t (Added q split) o = go r o
+  answer_from t (Err k) o = o
+  answer_from t (Ok (Moved q)) o = o
+  answer_from t (Ok (Added q split)) o = go r o
     where
       from : Arc
       from = arc_to (place_on time (of_bits binary64 0) last) q.idx_prev e
 
-      go : (r : Result (Counts × Mover) Refusal) → InsertedAs (inserted_run net (run_at time last) e t (Added q split)) w start 0 fs us cells joins r → InsertedAs (inserted_run net (run_at time 1) e t (Added q split)) w start 0 fs us cells joins r
+      go : (r : Result (Counts × Mover) Refusal) → InsertedAs (inserted_run net (run_at time last) e t (Ok (Added q split))) w start 0 fs us cells joins r → InsertedAs (inserted_run net (run_at time 1) e t (Ok (Added q split))) w start 0 fs us cells joins r
       go (Ok (c, m)) o =
           let s = ap (gone_in o.after) (sym o.is) in
           record {
@@ -118,7 +115,7 @@ module _ (net : Net) (time : Float) (last : ℕ) (e : TimedEvent) (w : Layout) (
   unfolding insert_event
   event_from places join link l d o =
       answer_from (inserted_table net.table net.nodes join (place_on time (of_bits binary64 0) 1) e) (inserted net.table net.nodes places (member_of net.ends) join (place_on time (of_bits binary64 0) 1) e)
-      (subst (λ (x : Inserted). InsertedAs (inserted_run net (run_at time last) e (inserted_table net.table net.nodes join (place_on time (of_bits binary64 0) 1) e) x) w start 0 fs us cells joins r)
+      (subst (λ (x : Result Insertion Refusal). InsertedAs (inserted_run net (run_at time last) e (inserted_table net.table net.nodes join (place_on time (of_bits binary64 0) 1) e) x) w start 0 fs us cells joins r)
       (l.answer places (member_of net.ends) join time (of_bits binary64 0) e d)
       (subst (λ (t : Table). InsertedAs (inserted_run net (run_at time last) e t (inserted net.table net.nodes places (member_of net.ends) join (place_on time (of_bits binary64 0) last) e)) w start 0 fs us cells joins r)
       (l.table join time (of_bits binary64 0) e d)
@@ -143,32 +140,32 @@ module _ (b : List ℕ) (places link : ℕ) (net : Net) where
 
 module _ (b : List ℕ) (p : Plan) (reals : ℕ) (plan : PlanIn b p reals) (link : ℕ) (fs : List Float) (us cells : List ℕ) (c : Counts) (m : Mover) (e : TimedEvent) (fs' : List Float) (us' cells' : List ℕ) (r : Result (Counts × Mover) Refusal)
     (t : InsertsEvent p.w p.join c m e (table_of fs us) cells (table_of fs' us') cells' r) (last : ℕ) (leads : LeadsFrom (table_of fs us) c.nodes last link) (dm : m ≡ mover_at p.departure last)
-    (de : e ≡ event_at_rest p.departure link Arrive (of_bits binary64 0)) (start joins : List ℕ) (net : Net) (v : NetIn p.w start fs us cells c net) where
-  arrives : InsertedAs (insert_event p.w.places (join_gap b) net (origin_run b) (origin_arrive b link)) p.w start 0 fs' us' cells' joins r
+    (de : e ≡ event_at_rest p.departure link Arrive (of_bits binary64 0)) (start : List ℕ) (net : Net) (v : NetIn p.w start fs us cells c net) where
+  arrives : InsertedAs (insert_event p.w.places (join_gap b) net (origin_run b) (origin_arrive b link)) p.w start 0 fs' us' cells' [] r
   unfolding origin_run origin_event
   arrives =
-      event_from net (departure b) last (origin_arrive b link) p.w start fs' us' cells' joins r p.w.places (join_gap b) link (leads_net last link v leads) refl
-      (subst (λ (j : Float). InsertedAs (insert_event p.w.places j net (run_at (departure b) last) (origin_arrive b link)) p.w start 0 fs' us' cells' joins r) plan.join
-      (subst (λ (x : TimedEvent). InsertedAs (insert_event p.w.places p.join net (run_at (departure b) last) x) p.w start 0 fs' us' cells' joins r) (de ∙ ap (λ (x : Float). event_at_rest x link Arrive (of_bits binary64 0)) plan.departs)
-      (t start joins 0 net (run_at (departure b) last) v (run_there c.nodes joins (departure b) last m (dm ∙ ap (λ (x : Float). mover_at x last) plan.departs) leads.within))))
+      event_from net (departure b) last (origin_arrive b link) p.w start fs' us' cells' [] r p.w.places (join_gap b) link (leads_net last link v leads) refl
+      (subst (λ (j : Float). InsertedAs (insert_event p.w.places j net (run_at (departure b) last) (origin_arrive b link)) p.w start 0 fs' us' cells' [] r) plan.join
+      (subst (λ (x : TimedEvent). InsertedAs (insert_event p.w.places p.join net (run_at (departure b) last) x) p.w start 0 fs' us' cells' [] r) (de ∙ ap (λ (x : Float). event_at_rest x link Arrive (of_bits binary64 0)) plan.departs)
+      (t start [] 0 net (run_at (departure b) last) v (run_there c.nodes (departure b) last m (dm ∙ ap (λ (x : Float). mover_at x last) plan.departs) leads.within))))
 
   -- the Arrive is refused
   pub origin_stops : (k : Refusal) → r ≡ Err k → origin_answer b p.w.places link net ≡ refused (refusal_number k)
-  origin_stops k q = answered b p.w.places link net ∙ ap (λ (a : Answer After). and_then a (clears b p.w.places link net)) (subst (InsertedAs (arrived b p.w.places link net) p.w start 0 fs' us' cells' joins) q arrives)
+  origin_stops k q = answered b p.w.places link net ∙ ap (λ (a : Answer After). and_then a (clears b p.w.places link net)) (subst (InsertedAs (arrived b p.w.places link net) p.w start 0 fs' us' cells' []) q arrives)
 
   -- it goes on, and clears
   pub origin_clears : (d : Counts) (n : Mover) → r ≡ Ok (d, n) → (f : TimedEvent) → f ≡ event_at_rest p.departure link Clear (add binary64 (of_bits binary64 0) p.length) → (fs'' : List Float) (us'' cells'' : List ℕ) (x : Result (Counts × Mover) Refusal)
-      → InsertsEvent p.w p.join d n f (table_of fs' us') cells' (table_of fs'' us'') cells'' x → InsertedAs (origin_answer b p.w.places link net) p.w start 0 fs'' us'' cells'' joins x
+      → InsertsEvent p.w p.join d n f (table_of fs' us') cells' (table_of fs'' us'') cells'' x → InsertedAs (origin_answer b p.w.places link net) p.w start 0 fs'' us'' cells'' [] x
   unfolding origin_event
   origin_clears d n q f df fs'' us'' cells'' x u =
-      let o = subst (InsertedAs (arrived b p.w.places link net) p.w start 0 fs' us' cells' joins) q arrives in
+      let o = subst (InsertedAs (arrived b p.w.places link net) p.w start 0 fs' us' cells' []) q arrives in
       let a : After = o.after in
       let g : arrived b p.w.places link net ≡ given a = goes_given (arrived b p.w.places link net) a o.is in
       let ev : f ≡ origin_clear b link = df ∙ ap (λ (y : Float). event_at_rest y link Clear (add binary64 (of_bits binary64 0) p.length)) plan.departs ∙ ap (λ (y : Float). event_at_rest (departure b) link Clear (add binary64 (of_bits binary64 0) y)) plan.train in
-      subst (λ (y : Answer After). InsertedAs y p.w start 0 fs'' us'' cells'' joins x) (sym (answered b p.w.places link net ∙ ap (λ (y : Answer After). and_then y (clears b p.w.places link net)) g))
-      (subst (λ (j : Float). InsertedAs (insert_event p.w.places j a.net a.run (origin_clear b link)) p.w start 0 fs'' us'' cells'' joins x) plan.join
-      (subst (λ (y : TimedEvent). InsertedAs (insert_event p.w.places p.join a.net a.run y) p.w start 0 fs'' us'' cells'' joins x) ev
-      (u start joins 0 a.net a.run o.net o.run)))
+      subst (λ (y : Answer After). InsertedAs y p.w start 0 fs'' us'' cells'' [] x) (sym (answered b p.w.places link net ∙ ap (λ (y : Answer After). and_then y (clears b p.w.places link net)) g))
+      (subst (λ (j : Float). InsertedAs (insert_event p.w.places j a.net a.run (origin_clear b link)) p.w start 0 fs'' us'' cells'' [] x) plan.join
+      (subst (λ (y : TimedEvent). InsertedAs (insert_event p.w.places p.join a.net a.run y) p.w start 0 fs'' us'' cells'' [] x) ev
+      (u start [] 0 a.net a.run o.net o.run)))
 
 -- ---- the run's leg is sought
 
@@ -197,11 +194,11 @@ abbrev joins_in : Run → Answer After → List EstJoinPath
 joins_in run (given x) = x.run.joins
 joins_in run (refused n) = run.joins
 
-inserted_joins : (net : Net) (run : Run) (e : TimedEvent) (t : Table) (i : Inserted) (a : After) → inserted_run net run e t i ≡ given a → a.run.joins ≡ run.joins
+inserted_joins : (net : Net) (run : Run) (e : TimedEvent) (t : Table) (i : Result Insertion Refusal) (a : After) → inserted_run net run e t i ≡ given a → a.run.joins ≡ run.joins
 unfolding moved_to
-inserted_joins net run e t (NotIn k) a h = absurd (subst Filled (sym h) tt)
-inserted_joins net run e t (Moved q) a h = ap (joins_in run) (sym h)
-inserted_joins net run e t (Added q s) a h = ap (joins_in run) (sym h)
+inserted_joins net run e t (Err k) a h = absurd (subst Filled (sym h) tt)
+inserted_joins net run e t (Ok (Moved q)) a h = ap (joins_in run) (sym h)
+inserted_joins net run e t (Ok (Added q s)) a h = ap (joins_in run) (sym h)
 
 insert_joins : (places : ℕ) (join : Float) (net : Net) (run : Run) (e : TimedEvent) (a : After) → insert_event places join net run e ≡ given a → a.run.joins ≡ run.joins
 unfolding insert_event

@@ -12,7 +12,8 @@ use Rattle.net_node.proofs.Tables.{RoomIn}
 use Rattle.laws.specs.Answer.{Answer, refused, given, and_then}
 use Rattle.book_format.specs.Format.{links, origins, destinations, leg_link, origin_link}
 use Rattle.book_format.proofs.Given.{limits}
-use Rattle.book_format.proofs.Places.{sized_links, sized_destinations}
+use Rattle.book_format.specs.Chains.{Readable}
+use Rattle.net_join_paths.specs.declared.EstJoinPath.{EstJoinPath}
 use Rattle.book_options.specs.Options.{OptionsIn, kept_origins, search_room}
 use Rattle.book_options.proofs.Kept.{kept_named, kept_most}
 use Rattle.book_options.proofs.Apart.{Other, kept_apart, Apart as AllOther}
@@ -55,15 +56,15 @@ not_over b idx idxs link (r ∷ rs) e f = (λ (q : leg_link b (r.leg - 1) ≡ li
 pub leads_as : (t : Table) (n last link link' : ℕ) → link ≡ link' → LeadsFrom t n last link' → LeadsFrom t n last link
 leads_as t n last link link' e l = subst (LeadsFrom t n last) (sym e) l
 
-module _ (b : List ℕ) (p : Plan) (fs : List Float) (us : List ℕ) (reals : List Float) (cells joins : List ℕ) (g : Rest) (idx link : ℕ) (named : link ≡ origin_link b idx) (plan : PlanIn b p (length reals))
+module _ (b : List ℕ) (p : Plan) (fs : List Float) (us : List ℕ) (reals : List Float) (cells : List ℕ) (joins : List EstJoinPath) (g : Rest) (idx link : ℕ) (named : link ≡ origin_link b idx) (plan : PlanIn b p (length reals))
     (fs' : List Float) (us' cells' : List ℕ) (long : length cells' ≡ length cells) (r : Result (Counts × Mover) Refusal) (more : IfOk r (λ x. g.counts.nodes ≤ x.0.nodes))
-    (t : (b : List ℕ) (reals : ℕ) (start joins : List ℕ) (net : Net) → PlanIn b p reals → NetIn p.w start fs us cells g.counts net → InsertedAs (origin_answer b p.w.places link net) p.w start 0 fs' us' cells' joins r) where
+    (t : (b : List ℕ) (reals : ℕ) (start : List ℕ) (net : Net) → PlanIn b p reals → NetIn p.w start fs us cells g.counts net → InsertedAs (origin_answer b p.w.places link net) p.w start 0 fs' us' cells' [] r) where
   module _ (idxs : List ℕ) (net : Net) (runs : List Run) (o : OriginsIn b p (lists fs us reals cells joins) (idx ∷ idxs) g net runs) where
-    told : InsertedAs (origin_answer b p.w.places link net) p.w cells 0 fs' us' cells' joins r
-    told = t b (length reals) cells joins net plan o.holds.grown
+    told : InsertedAs (origin_answer b p.w.places link net) p.w cells 0 fs' us' cells' [] r
+    told = t b (length reals) cells net plan o.holds.grown
 
     -- its run is at a place
-    inserted_origin : OtherLinks b (origin_link b idx) idxs → (c : Counts) (m : Mover) → r ≡ Ok (c, m) → (x : GoesAs (goes_on (origin_answer b p.w.places link net)) p.w cells 0 fs' us' cells' joins c m)
+    inserted_origin : OtherLinks b (origin_link b idx) idxs → (c : Counts) (m : Mover) → r ≡ Ok (c, m) → (x : GoesAs (goes_on (origin_answer b p.w.places link net)) p.w cells 0 fs' us' cells' [] c m)
         → OriginInserted b p (lists fs' us' reals cells' joins) idxs (record { counts = c; top = g.top; used = g.used }) m.place link x.after.net x.after.run runs
     inserted_origin d c m e x = record {
       origins = record {
@@ -82,7 +83,7 @@ module _ (b : List ℕ) (p : Plan) (fs : List Float) (us : List ℕ) (reals : Li
         → ((fs : List Float) (us idxs : List ℕ) (net : Net) (run : Run) (runs : List Run) → OriginInserted b p (lists fs us reals cells' joins) idxs (record { counts = c; top = g.top; used = g.used }) m.place link net run runs → OriginsAs (saved_origin b link net run runs) b p (lists fs us reals' cells'' joins) idxs k)
         → OriginsAs (grow_origin b p.w.places (origin_link b idx) (record { net = net; saved = runs })) b p (lists fs' us' reals' cells'' joins) idxs k
     origin_on d c m e reals' cells'' k f =
-        let x : GoesAs (goes_on (origin_answer b p.w.places link net)) p.w cells 0 fs' us' cells' joins c m = subst (InsertedAs (origin_answer b p.w.places link net) p.w cells 0 fs' us' cells' joins) e told in
+        let x : GoesAs (goes_on (origin_answer b p.w.places link net)) p.w cells 0 fs' us' cells' [] c m = subst (InsertedAs (origin_answer b p.w.places link net) p.w cells 0 fs' us' cells' []) e told in
         subst (λ (l : ℕ). OriginsAs (grow_origin b p.w.places l (record { net = net; saved = runs })) b p (lists fs' us' reals' cells'' joins) idxs k) named
         (subst (λ (a : Answer Growth). OriginsAs a b p (lists fs' us' reals' cells'' joins) idxs k) (sym (origin_given b p.w.places link net runs x.after x.is))
         (f fs' us' idxs x.after.net x.after.run runs (inserted_origin d c m e x)))
@@ -90,13 +91,13 @@ module _ (b : List ℕ) (p : Plan) (fs : List Float) (us : List ℕ) (reals : Li
     pub origin_not : (k : Refusal) → r ≡ Err k → grow_origin b p.w.places (origin_link b idx) (record { net = net; saved = runs }) ≡ refused (refusal_number k)
     origin_not k e =
         subst (λ (l : ℕ). grow_origin b p.w.places l (record { net = net; saved = runs }) ≡ refused (refusal_number k)) named
-        (origin_refused b p.w.places link net runs (refusal_number k) (subst (InsertedAs (origin_answer b p.w.places link net) p.w cells 0 fs' us' cells' joins) e told))
+        (origin_refused b p.w.places link net runs (refusal_number k) (subst (InsertedAs (origin_answer b p.w.places link net) p.w cells 0 fs' us' cells' []) e told))
 
   -- what saving asks
   pub some_inserted : SomeOrigin b p (lists fs us reals cells joins) idx g → (c : Counts) (m : Mover) → r ≡ Ok (c, m) → SomeOriginInserted b p reals cells' joins (record { counts = c; top = g.top; used = g.used }) m.place link
   some_inserted s c m e =
       let o : OriginsIn b p (lists fs us reals cells joins) (idx ∷ []) g s.net s.runs = record { holds = s.origins.holds; firsts = idx_alone b idx s.idxs s.runs s.origins.firsts } in
-      let x : GoesAs (goes_on (origin_answer b p.w.places link s.net)) p.w cells 0 fs' us' cells' joins c m = subst (InsertedAs (origin_answer b p.w.places link s.net) p.w cells 0 fs' us' cells' joins) e (told [] s.net s.runs o) in
+      let x : GoesAs (goes_on (origin_answer b p.w.places link s.net)) p.w cells 0 fs' us' cells' [] c m = subst (InsertedAs (origin_answer b p.w.places link s.net) p.w cells 0 fs' us' cells' []) e (told [] s.net s.runs o) in
       record { fs = fs'; us = us'; idxs = []; net = x.after.net; run = x.after.run; runs = s.runs; inserted_origin = inserted_origin [] s.net s.runs o tt c m e x }
 
 -- ---- a refusal that is handed on
@@ -108,14 +109,14 @@ origins_refused answer b p s idxs (Err x) k h q = q ∙ ap (λ (y : Refusal). re
 -- ---- the loop over the kept origins
 
 -- what the origins so far have made, those from k on being still to come
-pub record SoFar (b : List ℕ) (p : Plan) (fs : List Float) (us : List ℕ) (reals : List Float) (cells joins : List ℕ) (g : Rest) (last k : ℕ) (answer : Answer Growth) : Type 0 where
+pub record SoFar (b : List ℕ) (p : Plan) (fs : List Float) (us : List ℕ) (reals : List Float) (cells : List ℕ) (joins : List EstJoinPath) (g : Rest) (last k : ℕ) (answer : Answer Growth) : Type 0 where
   pub net : Net
   pub runs : List Run
   pub origins : OriginsIn b p (lists fs us reals cells joins) (drop k (kept_origins b)) g net runs
   pub same : answer ≡ grow_origins b p.w.places (drop k (kept_origins b)) (record { net = net; saved = runs })
   pub starts : AtLast b (drop k (kept_origins b)) net.table net.nodes last
 
-pub record OriginLoop (b : List ℕ) (p : Plan) (joins : List ℕ) (fs₀ : List Float) (us₀ : List ℕ) (reals₀ : List Float) (cells₀ : List ℕ) (g₀ : Rest) (fs : List Float) (us : List ℕ) (reals : List Float) (cells : List ℕ) (g : Rest) (last k : ℕ) : Type 0 where
+pub record OriginLoop (b : List ℕ) (p : Plan) (joins : List EstJoinPath) (fs₀ : List Float) (us₀ : List ℕ) (reals₀ : List Float) (cells₀ : List ℕ) (g₀ : Rest) (fs : List Float) (us : List ℕ) (reals : List Float) (cells : List ℕ) (g : Rest) (last k : ℕ) : Type 0 where
   pub within : k ≤ length (kept_origins b)
   pub floats : length fs ≡ length fs₀
   pub numbers : length us ≡ length us₀
@@ -124,7 +125,7 @@ pub record OriginLoop (b : List ℕ) (p : Plan) (joins : List ℕ) (fs₀ : List
   pub so_far : (net : Net) (runs : List Run) → OriginsIn b p (lists fs₀ us₀ reals₀ cells₀ joins) (kept_origins b) g₀ net runs → SoFar b p fs us reals cells joins g last k (grow_origins b p.w.places (kept_origins b) (record { net = net; saved = runs }))
 
 -- the network's table and nodes, as the slices hold them
-module _ {b : List ℕ} {p : Plan} {fs : List Float} {us : List ℕ} {reals : List Float} {cells joins idxs : List ℕ} {g : Rest} {net : Net} {runs : List Run} (o : OriginsIn b p (lists fs us reals cells joins) idxs g net runs) where
+module _ {b : List ℕ} {p : Plan} {fs : List Float} {us : List ℕ} {reals : List Float} {cells : List ℕ} {joins : List EstJoinPath} {idxs : List ℕ} {g : Rest} {net : Net} {runs : List Run} (o : OriginsIn b p (lists fs us reals cells joins) idxs g net runs) where
   net_start : OnlyStart (node_at fs us) g.counts.nodes → OnlyStart (at net.table) net.nodes
   unfolding at
   net_start s = subst (OnlyStart (at net.table)) (sym o.holds.grown.nodes) (subst (λ (t : Table). OnlyStart (at t) g.counts.nodes) (sym o.holds.grown.table) s)
@@ -139,7 +140,18 @@ module _ {b : List ℕ} {p : Plan} {fs : List Float} {us : List ℕ} {reals : Li
   net_leads : (last link : ℕ) → LeadsFrom net.table net.nodes last link → LeadsFrom (table_of fs us) g.counts.nodes last link
   net_leads last link l = subst (λ (t : Table). LeadsFrom t g.counts.nodes last link) o.holds.grown.table (subst (λ (n : ℕ). LeadsFrom net.table n last link) o.holds.grown.nodes l)
 
-pub loop_start : (b : List ℕ) (p : Plan) (joins : List ℕ) (fs : List Float) (us : List ℕ) (reals : List Float) (cells : List ℕ) (g : Rest) → OnlyStart (node_at fs us) g.counts.nodes → OriginLoop b p joins fs us reals cells g fs us reals cells g 1 0
+-- no run is at the front, so nothing is said of the join entries
+pub any_joins : {b : List ℕ} {p : Plan} {fs : List Float} {us : List ℕ} {reals : List Float} {cells : List ℕ} {joins joins' : List EstJoinPath} {idxs : List ℕ} {g : Rest} {net : Net} {runs : List Run}
+    → OriginsIn b p (lists fs us reals cells joins) idxs g net runs → OriginsIn b p (lists fs us reals cells joins') idxs g net runs
+any_joins o =
+    let d = o.holds in
+    record { holds = record { grown = d.grown; chained = d.chained; kept = d.kept; short = d.short; waiting = d.waiting; sound = d.sound; prefixes = d.prefixes; separate = d.separate }; firsts = o.firsts }
+
+pub some_joins : {b : List ℕ} {p : Plan} {fs : List Float} {us : List ℕ} {reals : List Float} {cells : List ℕ} {joins joins' : List EstJoinPath} {idxs : List ℕ} {g : Rest}
+    → SomeOrigins b p (lists fs us reals cells joins) idxs g → SomeOrigins b p (lists fs us reals cells joins') idxs g
+some_joins s = record { net = s.net; runs = s.runs; origins = any_joins s.origins }
+
+pub loop_start : (b : List ℕ) (p : Plan) (joins : List EstJoinPath) (fs : List Float) (us : List ℕ) (reals : List Float) (cells : List ℕ) (g : Rest) → OnlyStart (node_at fs us) g.counts.nodes → OriginLoop b p joins fs us reals cells g fs us reals cells g 1 0
 loop_start b p joins fs us reals cells g s = record {
   within = omega arith;
   floats = refl;
@@ -153,26 +165,21 @@ pub idx_left : (b : List ℕ) (kept k : ℕ) → kept ≡ length (kept_origins b
 idx_left b kept k e h = omega (arith, e)
 
 -- where the rows stand
-module _ (b : List ℕ) (p : Plan) (n : ℕ) (plan : PlanIn b p n) where
-  pub links_fit : p.s.links ≤ 65535
-  links_fit = omega (arith, sized_links plan.readable.sized, (limits b plan.readable.counted.counts).links_most)
+module _ (b : List ℕ) (r : Readable b) where
+  pub links_fit : links b ≤ 65535
+  links_fit = (limits b r.counted.counts).links_most
 
-  pub destinations_fit : p.s.destinations ≤ 1000
-  destinations_fit = omega (arith, sized_destinations plan.readable.sized, (limits b plan.readable.counted.counts).destinations_most)
+  pub destinations_fit : destinations b ≤ 1000
+  destinations_fit = (limits b r.counted.counts).destinations_most
 
   pub idxs_fit : length (kept_origins b) ≤ 1000
-  idxs_fit = omega (arith, kept_most b, (limits b plan.readable.counted.counts).origins_most)
+  idxs_fit = omega (arith, kept_most b, (limits b r.counted.counts).origins_most)
 
-  pub idxs_inside : (k : ℕ) (marks : List ℕ) → OptionsIn b marks → search_room b ≤ length marks → k < length (kept_origins b) → 2 * p.s.links + p.s.destinations + k < length marks
-  idxs_inside k marks m h g = omega (arith, sized_links plan.readable.sized, sized_destinations plan.readable.sized, kept_most b)
+  pub idxs_inside : (k : ℕ) (marks : List ℕ) → search_room b ≤ length marks → k < length (kept_origins b) → 2 * links b + destinations b + k < length marks
+  idxs_inside k marks h g = omega (arith, kept_most b)
 
-  pub idx_at : (k : ℕ) (marks : List ℕ) → OptionsIn b marks → k < length (kept_origins b) → get_or marks (2 * p.s.links + p.s.destinations + k) 0 ≡ get_or (kept_origins b) k 0
-  idx_at k marks m h =
-      let e : 2 * p.s.links + p.s.destinations + k ≡ 2 * links b + destinations b + k = omega (arith, sized_links plan.readable.sized, sized_destinations plan.readable.sized) in
-      ap (λ (i : ℕ). get_or marks i 0) e ∙ m.kept k h
-
-  pub idx_small : (k : ℕ) (marks : List ℕ) → OptionsIn b marks → k < length (kept_origins b) → get_or marks (2 * p.s.links + p.s.destinations + k) 0 ≤ 1000
-  idx_small k marks m h = omega (arith, idx_at k marks m h, kept_named b k h, (limits b plan.readable.counted.counts).origins_most)
+  pub idx_small : (k : ℕ) (marks : List ℕ) → OptionsIn b marks → k < length (kept_origins b) → get_or marks (2 * links b + destinations b + k) 0 ≤ 1000
+  idx_small k marks m h = omega (arith, m.kept k h, kept_named b k h, (limits b r.counted.counts).origins_most)
 
 -- an origin's links are others than those behind it
 other_links : (b : List ℕ) (idx : ℕ) (idxs : List ℕ) → Other b idx idxs → OtherLinks b (origin_link b idx) idxs
@@ -192,7 +199,7 @@ origin_last : (b : List ℕ) (places : ℕ) (g : Growth) → grow_origins b plac
 unfolding grow_origins
 origin_last b places g = refl
 
-module _ (b : List ℕ) (p : Plan) (joins : List ℕ) (fs₀ : List Float) (us₀ : List ℕ) (reals₀ : List Float) (cells₀ : List ℕ) (g₀ : Rest) (fs : List Float) (us : List ℕ) (reals : List Float) (cells : List ℕ) (g : Rest) (last k : ℕ)
+module _ (b : List ℕ) (p : Plan) (joins : List EstJoinPath) (fs₀ : List Float) (us₀ : List ℕ) (reals₀ : List Float) (cells₀ : List ℕ) (g₀ : Rest) (fs : List Float) (us : List ℕ) (reals : List Float) (cells : List ℕ) (g : Rest) (last k : ℕ)
     (v : OriginLoop b p joins fs₀ us₀ reals₀ cells₀ g₀ fs us reals cells g last k) where
   -- the plan fits still
   pub loop_plan : PlanIn b p (length reals₀) → PlanIn b p (length reals)

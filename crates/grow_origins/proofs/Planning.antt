@@ -6,18 +6,17 @@ use Prim.Native.Nat.{ℕ, ◌+◌, ◌*◌, ◌≤◌}
 use native.Mathlib.Omega.{arith}
 use borrow.Author.Tests.{not-false}
 use lib.Dec.{T}
+use lib.ListN.{length}
 use lib.Ieee.{binary64, of_bits, nan_bits}
 use Rattle.laws.specs.Below.{some_below}
 use Rattle.laws.proofs.Below.{none_left, none_right}
 use Rattle.floats.specs.Floats.{book_float}
-use Rattle.book_format.specs.declared.Sections.{Sections}
 use Rattle.book_format.specs.declared.HeadPatterns.{HeadPatterns}
-use Rattle.book_format.specs.Format.{links, origins, samples, legs, link_length, join_bits, departure_bits, length_bits, head_patterns}
+use Rattle.book_format.specs.Format.{links, origins, samples, legs, link_length, join_bits, departure_bits, length_bits, head_patterns, end_of}
 use Rattle.book_format.specs.Rows.{bad_origin_value, bad_sample, row4, row7}
 use Rattle.book_format.specs.Chains.{Readable}
 use Rattle.book_format.proofs.Floats.{book_no_nan}
 use Rattle.book_format.proofs.Given.{limits, length_float}
-use Rattle.book_format.proofs.Places.{sized_legs, sized_links}
 use Rattle.grow_state.specs.declared.Plan.{Plan}
 use Rattle.grow_state.specs.Held.{PlanIn}
 
@@ -39,7 +38,7 @@ module _ (b : List ℕ) (h : row4 b ≡ false) where
   departure_float : book_float (departure_bits b) ≡ true
   departure_float = not-false (book_float (departure_bits b)) (none_right (not (book_float (join_bits b))) (not (book_float (departure_bits b))) both)
 
-module _ (b : List ℕ) (s : Sections) (v : Readable b s) (head : HeadPatterns) (e : head ≡ head_patterns b) where
+module _ (b : List ℕ) (v : Readable b) (head : HeadPatterns) (e : head ≡ head_patterns b) where
   pub join_number : T (not (nan_bits binary64 head.join))
   unfolding head_patterns
   join_number = subst (λ (x : HeadPatterns). T (not (nan_bits binary64 x.join))) (sym e) (book_no_nan (join_bits b) (join_float b v.floats))
@@ -53,34 +52,32 @@ module _ (b : List ℕ) (s : Sections) (v : Readable b s) (head : HeadPatterns) 
   length_number = subst (λ (x : HeadPatterns). T (not (nan_bits binary64 x.length))) (sym e) (book_no_nan (length_bits b) (length_float b v.floats))
 
   -- the plan, as the code puts it together
-  abbrev plan_of : ℕ → Plan
-  plan_of places = record {
-    s = s;
-    w = record { links_at = (s.legs + 1) * 8 + places * 8; nodes_at = (s.legs + 1) * 8; links = s.links; places = places };
-    r = record { nodes_at = (s.legs + 1) * 8; pairs_at = s.legs + 2; legs = s.legs; places = places };
+  abbrev plan_of : ℕ → ℕ → ℕ → Plan
+  plan_of j l places = record {
+    w = record { links_at = (j + 1) * 8 + places * 8; nodes_at = (j + 1) * 8; links = l; places = places };
+    r = record { nodes_at = (j + 1) * 8; pairs_at = j + 2; legs = j; places = places };
     join = of_bits binary64 head.join;
     departure = of_bits binary64 head.departure;
     length = of_bits binary64 head.length;
   }
 
-  pub plan_holds : row7 b ≡ false → (places reals : ℕ) → legs b * 3 + 4 ≤ reals → PlanIn b (plan_of places) reals
+  pub plan_holds : length b ≡ end_of b → row7 b ≡ false → (j l places reals : ℕ) → j ≡ legs b → l ≡ links b → legs b * 3 + 4 ≤ reals → PlanIn b (plan_of j l places) reals
   unfolding head_patterns
-  plan_holds seven places reals h =
-      let l : s.legs ≡ legs b = sized_legs v.sized in
-      record {
-        readable = v;
-        row7 = seven;
-        join = ap (λ (x : HeadPatterns). of_bits binary64 x.join) e;
-        departs = ap (λ (x : HeadPatterns). of_bits binary64 x.departure) e;
-        train = ap (λ (x : HeadPatterns). of_bits binary64 x.length) e;
-        all_links = sized_links v.sized;
-        all_legs = l;
-        nodes_at = omega (arith, l);
-        same_nodes = refl;
-        same_places = refl;
-        pairs_at = omega (arith, l);
-        pairs = omega (arith, l);
-      }
+  plan_holds whole seven j l places reals many all h = record {
+    whole = whole;
+    readable = v;
+    row7 = seven;
+    join = ap (λ (x : HeadPatterns). of_bits binary64 x.join) e;
+    departs = ap (λ (x : HeadPatterns). of_bits binary64 x.departure) e;
+    train = ap (λ (x : HeadPatterns). of_bits binary64 x.length) e;
+    all_links = all;
+    all_legs = many;
+    nodes_at = omega (arith, many);
+    same_nodes = refl;
+    same_places = refl;
+    pairs_at = omega (arith, many);
+    pairs = omega (arith, many);
+  }
 
-  pub legs_small : s.legs ≤ 65535
-  legs_small = let l : s.legs ≡ legs b = sized_legs v.sized in omega (arith, l, (limits b v.counted.counts).legs_most)
+  pub legs_small : legs b ≤ 65535
+  legs_small = (limits b v.counted.counts).legs_most

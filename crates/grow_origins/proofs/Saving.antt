@@ -13,13 +13,10 @@ use Rattle.laws.specs.Answer.{refused, given, and_then}
 use Rattle.book_format.specs.Format.{legs, leg_parent, leg_link}
 use Rattle.book_format.specs.Chains.{leg_below, Chained}
 use Rattle.book_legs.specs.declared.TakenLeg.{TakenLeg}
-use Rattle.book_legs.specs.declared.Taken.{Taken}
-use Rattle.book_legs.specs.declared.Taken.TheVariants.{Leg}
-use Rattle.book_legs.specs.declared.Taken.TheVariants.{Refused as NoLeg}
 use Rattle.book_legs.specs.Legs.{search_of, leg_search, taken_by, taken_leg}
 use Rattle.net_insertion.specs.declared.Place.{Place}
 use Rattle.net_join_paths.specs.declared.EstJoinPath.{EstJoinPath}
-use Rattle.net_join_paths.specs.Entries.{entries_in, Valid}
+use Rattle.net_join_paths.specs.Entries.{Valid}
 use Rattle.net_event_map.specs.declared.Layout.{Layout}
 use Rattle.grow_path.specs.Path.{legs_to, path_of}
 use Rattle.grow_path.proofs.Legs.{less_one}
@@ -34,7 +31,10 @@ use Rattle.grow_events.specs.declared.Counts.{Counts}
 use Rattle.grow_events.specs.Held.{NetIn, ends_at}
 use Rattle.grow_events.proofs.Kept.{before_kept, unit_kept, net_restart, path_kept, net_same}
 use Rattle.grow_state.specs.declared.Plan.{Plan}
-use Rattle.std.specs.Prelude.{Ok}
+use Rattle.std.specs.Prelude.{Result, Ok, Err}
+use Rattle.refusals.specs.declared.Refusal.{Refusal}
+use Rattle.refusals.specs.declared.Refusal.TheVariants.{MissingLeg}
+use Rattle.refusals.specs.Refusals.{refusal_number}
 use Rattle.grow_state.specs.declared.Rest.{Rest}
 use Rattle.grow_state.specs.Held.{PlanIn, path_before, Prefixes, Separate, SeparateFrom, RunSound, AllSound, SameRuns, WaitIn, DriveIn, idle, lists}
 use Rattle.grow_state.proofs.Keeping.{plan_legs, plan_room, chained_same, wait_same, sound_more}
@@ -48,19 +48,23 @@ record FoundLeg (b : List ℕ) (link : ℕ) (leg : TakenLeg) : Type 0 where
   below : leg_below b (legs b) 0 link ≡ suc idx
   number : leg.number ≡ suc idx
 
-abbrev NotMissing : Taken → Type 0
-NotMissing (Leg t) = Unit
-NotMissing (NoLeg k) = ⊥
+abbrev NotMissing : Result TakenLeg Refusal → Type 0
+NotMissing (Ok t) = Unit
+NotMissing (Err k) = ⊥
 
-abbrev number_in : Taken → ℕ
-number_in (Leg t) = t.number
-number_in (NoLeg k) = 0
+abbrev number_in : Result TakenLeg Refusal → ℕ
+number_in (Ok t) = t.number
+number_in (Err k) = 0
 
-leg_number_lem : (b : List ℕ) (n : ℕ) (leg : TakenLeg) → taken_by b (search_of n) ≡ Leg leg → (0 < n) × (leg.number ≡ n)
+abbrev refusal_in : Refusal → Result TakenLeg Refusal → Refusal
+refusal_in d (Ok t) = d
+refusal_in d (Err k) = k
+
+leg_number_lem : (b : List ℕ) (n : ℕ) (leg : TakenLeg) → taken_by b (search_of n) ≡ Ok leg → (0 < n) × (leg.number ≡ n)
 leg_number_lem b zero leg e = absurd (subst NotMissing (sym e) tt)
 leg_number_lem b (suc n) leg e = (omega arith, ap number_in (sym e))
 
-found_leg : (b : List ℕ) (link : ℕ) (t : Taken) (leg : TakenLeg) → t ≡ taken_leg b 0 link → t ≡ Leg leg → FoundLeg b link leg
+found_leg : (b : List ℕ) (link : ℕ) (t : Result TakenLeg Refusal) (leg : TakenLeg) → t ≡ taken_leg b 0 link → t ≡ Ok leg → FoundLeg b link leg
 unfolding taken_leg leg_search
 found_leg b link t leg e d = go (leg_below b (legs b) 0 link) refl
   where
@@ -69,8 +73,8 @@ found_leg b link t leg e d = go (leg_below b (legs b) 0 link) refl
         let h = leg_number_lem b n leg (ap (λ (x : ℕ). taken_by b (search_of x)) (sym q) ∙ sym e ∙ d) in
         record { idx = n - 1; below = omega (arith, q, h.0); number = omega (arith, h.0, h.1) }
 
-no_leg : (b : List ℕ) (n : ℕ) (k : ℕ) → taken_by b (search_of n) ≡ NoLeg k → n ≡ 0
-no_leg b zero k e = refl
+no_leg : (b : List ℕ) (n : ℕ) (k : Refusal) → taken_by b (search_of n) ≡ Err k → (n ≡ 0) × (MissingLeg ≡ k)
+no_leg b zero k e = (refl, ap (refusal_in k) e)
 no_leg b (suc n) k e = absurd (subst NotMissing e tt)
 
 -- ---- paths of one leg
@@ -132,7 +136,7 @@ module _ {w : Layout} {r : Rooms} {fs : List Float} {us cells : List ℕ} {c : C
 
 -- ---- all that is held, while events are inserted and no run is at the front
 
-module _ {b : List ℕ} {p : Plan} {fs : List Float} {us : List ℕ} {reals : List Float} {cells joins path : List ℕ} {g : Rest} {net : Net} {runs : List Run} {many : ℕ} (plan : PlanIn b p many) (d : DriveIn b p (lists fs us reals cells joins) path (idle g) net runs) where
+module _ {b : List ℕ} {p : Plan} {fs : List Float} {us : List ℕ} {reals : List Float} {cells : List ℕ} {joins : List EstJoinPath} {path : List ℕ} {g : Rest} {net : Net} {runs : List Run} {many : ℕ} (plan : PlanIn b p many) (d : DriveIn b p (lists fs us reals cells joins) path (idle g) net runs) where
   module _ {fs' : List Float} {us' cells' : List ℕ} {c' : Counts} {net' : Net} (v : NetIn p.w cells fs' us' cells' c' net') (more : g.counts.nodes ≤ c'.nodes) (long : length cells' ≡ length cells) where
     chained_grown : Chained b cells'
     chained_grown = chained_same long (λ q h f. before_kept v q (omega (arith, plan.nodes_at))) d.chained
@@ -157,14 +161,16 @@ module _ {b : List ℕ} {p : Plan} {fs : List Float} {us : List ℕ} {reals : Li
 
 -- ---- the run is saved
 
-module _ (b : List ℕ) (p : Plan) (fs : List Float) (us : List ℕ) (reals : List Float) (cells joins idxs : List ℕ) (g : Rest) (place : Place) (link : ℕ) (net : Net) (run : Run) (runs : List Run)
-    (plan : PlanIn b p (length reals)) (v : OriginInserted b p (lists fs us reals cells joins) idxs g place link net run runs) (t : Taken) (told : t ≡ taken_leg b 0 link) where
+module _ (b : List ℕ) (p : Plan) (fs : List Float) (us : List ℕ) (reals : List Float) (cells : List ℕ) (joins : List EstJoinPath) (idxs : List ℕ) (g : Rest) (place : Place) (link : ℕ) (net : Net) (run : Run) (runs : List Run)
+    (plan : PlanIn b p (length reals)) (v : OriginInserted b p (lists fs us reals cells joins) idxs g place link net run runs) (t : Result TakenLeg Refusal) (told : t ≡ taken_leg b 0 link) where
   -- row 10
-  pub origin_no_leg : (k : ℕ) → t ≡ NoLeg k → saved_origin b link net run runs ≡ refused 10
+  pub origin_no_leg : (k : Refusal) → t ≡ Err k → saved_origin b link net run runs ≡ refused (refusal_number k)
   unfolding saved_origin seek_leg taken_leg leg_search
-  origin_no_leg k e = ap (λ (n : ℕ). and_then (takes run n) (λ (r : Run). given (record { net = net; saved = r ∷ runs }))) (no_leg b (leg_below b (legs b) 0 link) k (sym told ∙ e))
+  origin_no_leg k e =
+      let l = no_leg b (leg_below b (legs b) 0 link) k (sym told ∙ e) in
+      ap (λ (n : ℕ). and_then (takes run n) (λ (r : Run). given (record { net = net; saved = r ∷ runs }))) l.0 ∙ ap (λ (y : Refusal). refused (refusal_number y)) l.1
 
-  module _ (leg : TakenLeg) (is : t ≡ Leg leg) where
+  module _ (leg : TakenLeg) (is : t ≡ Ok leg) (none : joins ≡ []) where
     leg_is : FoundLeg b link leg
     leg_is = found_leg b link t leg told is
 
@@ -178,7 +184,7 @@ module _ (b : List ℕ) (p : Plan) (fs : List Float) (us : List ℕ) (reals : Li
     wait = held.waiting
 
     -- what saving asks
-    pub save_asks : (p.r.nodes_at + p.r.places * 8 ≤ length cells) × (((p.r.legs + 1) * 8 ≤ p.r.nodes_at) × ((p.r.pairs_at + p.r.legs * 2 + 2 ≤ length reals) × ((leg.number ≤ p.r.legs) × ((0 < leg.number) × ((p.r.legs ≤ 65535) × ((0 ≤ 65535) × ((g.used + 0 ≤ p.r.places) × ((p.r.places ≤ 65535) × (0 * 2 ≤ length joins)))))))))
+    pub save_asks : (p.r.nodes_at + p.r.places * 8 ≤ length cells) × (((p.r.legs + 1) * 8 ≤ p.r.nodes_at) × ((p.r.pairs_at + p.r.legs * 2 + 2 ≤ length reals) × ((leg.number ≤ p.r.legs) × ((0 < leg.number) × ((p.r.legs ≤ 65535) × ((0 ≤ 65535) × ((g.used + length joins ≤ p.r.places) × (p.r.places ≤ 65535))))))))
     save_asks = (
       omega (arith, held.grown.apart.nodes_inside, plan.same_nodes, plan.same_places),
       (
@@ -191,7 +197,7 @@ module _ (b : List ℕ) (p : Plan) (fs : List Float) (us : List ℕ) (reals : Li
               omega (arith, leg_is.number),
               (
                 omega (arith, plan.all_legs, plan_legs plan),
-                (omega arith, (omega (arith, saved_room cells reals p.r g.top g.used wait.runs wait.kept), (omega (arith, plan.same_places, held.grown.room.most), omega arith))),
+                (omega arith, (omega (arith, ap length none, saved_room cells reals p.r g.top g.used wait.runs wait.kept), omega (arith, plan.same_places, held.grown.room.most))),
               ),
             ),
           ),
@@ -207,7 +213,7 @@ module _ (b : List ℕ) (p : Plan) (fs : List Float) (us : List ℕ) (reals : Li
     answer_is = ap (λ (n : ℕ). and_then (takes run n) (λ (r : Run). given (record { net = net; saved = r ∷ runs }))) leg_is.below
 
     module _ (reals' : List Float) (cells' : List ℕ) (long : length cells' ≡ length cells) (s : SavedElsewhere cells cells' reals reals' p.r)
-        (saved : (ws : List Waiting) → SavedIn cells reals p.r g.top g.used ws → Untaken leg.number ws → SavedIn cells' reals' p.r leg.number (g.used + 0) (waiting_of place leg.number 0 (entries_in joins 0) ∷ ws)) where
+        (saved : (ws : List Waiting) → SavedIn cells reals p.r g.top g.used ws → Untaken leg.number ws → SavedIn cells' reals' p.r leg.number (g.used + length joins) (waiting_of place leg.number 0 joins ∷ ws)) where
       abbrev state : Rest
       state = record { counts = g.counts; top = leg.number; used = g.used }
 
@@ -215,11 +221,11 @@ module _ (b : List ℕ) (p : Plan) (fs : List Float) (us : List ℕ) (reals : Li
       path_none = before_first b (suc leg_is.idx) (ap (leg_parent b) (less_one leg_is.idx) ∙ of.parent)
 
       wait_more : WaitIn b p.r reals' cells' leg.number g.used (then ∷ runs)
-      unfolding waiting_of entries_in then
+      unfolding then
       wait_more = record {
-        runs = waiting_of place leg.number 0 (entries_in joins 0) ∷ wait.runs;
-        kept = subst (λ (n : ℕ). SavedIn cells' reals' p.r leg.number n (waiting_of place leg.number 0 (entries_in joins 0) ∷ wait.runs)) (omega arith) (saved wait.runs wait.kept (subst (λ (j : ℕ). Untaken j wait.runs) (sym leg_is.number) (apart_others b link leg_is.idx of.link wait.runs runs wait.same v.others)));
-        same = (record { place = sym v.stands; leg = leg_is.number; depth = sym (ap length path_none); joins = sym v.no_joins; has_split = refl }, wait.same);
+        runs = waiting_of place leg.number 0 joins ∷ wait.runs;
+        kept = subst (λ (n : ℕ). SavedIn cells' reals' p.r leg.number n (waiting_of place leg.number 0 joins ∷ wait.runs)) (omega (arith, ap length none)) (saved wait.runs wait.kept (subst (λ (j : ℕ). Untaken j wait.runs) (sym leg_is.number) (apart_others b link leg_is.idx of.link wait.runs runs wait.same v.others)));
+        same = (record { place = sym v.stands; leg = leg_is.number; depth = sym (ap length path_none); joins = none ∙ sym v.no_joins; has_split = refl }, wait.same);
       }
 
       run_sound : RunSound b g.counts.nodes then

@@ -15,7 +15,7 @@ use Rattle.net_node.specs.declared.TimedEvent.{TimedEvent}
 use Rattle.net_node.specs.declared.LinkEvent.{LinkEvent}
 use Rattle.net_node.specs.Table.{Indexed, same_event, Table, at, with_next_alt}
 use Rattle.net_insertion.specs.declared.Place.{Place}
-use Rattle.net_insertion.specs.declared.Inserted.TheVariants.{Added}
+use Rattle.net_insertion.specs.declared.Insertion.TheVariants.{Added}
 use Rattle.net_insertion.specs.Insertion.{matches, found, seek, linked_to, split_fake, add_behind, split_at, place_at, added_as, inserted_as, table_as, sought_in, inserted, inserted_table}
 use Rattle.net_insertion.proofs.Seeking.{seek_turn}
 use Rattle.grow_origins.specs.Origins.{OtherLinks, place_on, LeadsFrom, OnlyStart}
