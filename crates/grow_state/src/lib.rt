@@ -1,19 +1,17 @@
 // What growth keeps between two legs. Contracts: specs/Held.antt.
 #![tactic(auto)]
 
-ghost use Rattle.std.specs.Prelude.{◌≤◌, ◌<◌, length};
+ghost use Rattle.std.specs.Prelude.{◌<◌};
 ghost use Rattle.grow_state.specs.Held.{SomeDrive, SameDrive, idle, with_front};
 
-use book_format::Sections;
 use grow_events::{Counts, Mover};
 use grow_waiting::Rooms;
 use net_event_map::Layout;
+use net_join_paths::JoinPaths;
 
-// What growth goes by: where the book's sections stand, where the work space has what, and the three floats at the
-// book's head.
+// What growth goes by: where the work space has what, and the three floats at the book's head.
 #[derive(Clone, Copy)]
 pub struct Plan {
-    pub s: Sections,
     pub w: Layout,
     pub r: Rooms,
     pub join: f64,
@@ -46,11 +44,16 @@ pub struct State {
 }
 
 // Takes up the run that was saved last, where none is at the front: the rest then, and the run.
-pub fn take_up(reals: &[f64], cells: &[u32], joins: &mut [u32], p: Plan, g: Rest) -> (Rest, Front)
-    requires some_drive { SomeDrive p reals.now cells.now joins.old (idle g) }
+pub fn take_up(
+    reals: &[f64],
+    cells: &[u32],
+    joins: &mut JoinPaths,
+    p: Plan,
+    g: Rest,
+) -> (Rest, Front)
+    requires some_drive { SomeDrive p reals.now cells.now joins.old.items (idle g) }
     requires top_nonzero { 0 < g.top }
-    requires in_bounds { 2048 ≤ length joins.old }
-    ensures { SameDrive p reals.now cells.now joins.old joins.new
+    ensures { SameDrive p reals.now cells.now joins.old.items joins.new.items
         (idle g) (with_front result.0 result.1) }
 {
     let popped = grow_waiting::pop(cells, reals, p.r, g.top, g.used, joins);
@@ -58,14 +61,13 @@ pub fn take_up(reals: &[f64], cells: &[u32], joins: &mut [u32], p: Plan, g: Rest
         mover: Mover {
             place: popped.place,
             has_split: false,
-            count: popped.count,
         },
         leg: popped.leg,
         depth: popped.depth,
     };
     let rest = Rest {
         top: popped.below,
-        used: g.used - popped.count,
+        used: g.used - joins.len(),
         ..g
     };
     (rest, front)
