@@ -38,6 +38,8 @@ pub fn plan_of(book: &ReadableBook, places: usize) -> Plan
     ensures links { result.w.links_at ≡ (legs book.now + 1) * 8 + places * 8 }
 {
     let rows = book.book();
+    // The plan says that the bytes are just the book's.
+    let _ = rows.bytes();
     let head = rows.head_patterns();
     let legs = rows.legs();
     let nodes_at = (legs + 1) * 8;
@@ -129,8 +131,9 @@ fn origin_events(
     let w = p.w;
     let run = origin_run(p.departure, last);
     let arrive = origin_event(p.departure, link_idx, EstType::Arrive, 0.0);
-    let (counts, mover) =
-        grow_events::insert_event(floats, numbers, cells, w, p.join, c, run, arrive)?;
+    let (counts, mover) = grow_events::insert_event(
+        floats, numbers, cells, w, p.join, c, run, arrive,
+    )?;
     let clear = origin_event(p.departure, link_idx, EstType::Clear, 0.0 + p.length);
     grow_events::insert_event(floats, numbers, cells, w, p.join, counts, mover, clear)
 }
