@@ -26,7 +26,7 @@ use Rattle.refusals.specs.declared.Refusal.{Refusal}
 use Rattle.refusals.specs.Refusals.{refusal_number}
 use Rattle.grow_events.specs.declared.RunOutcome.{RunOutcome}
 use Rattle.grow_events.specs.declared.RunOutcome.TheVariants.{On}
-use Rattle.grow_events.specs.Held.{NetIn, RunIn, Growing, Moving, LeftAs, OutcomeAs, InsertedAs, counts_joined}
+use Rattle.grow_events.specs.Held.{NetIn, RunIn, Growing, Moving, LeftAs, GoesAs, OutcomeAs, InsertedAs, counts_joined}
 use Rattle.grow_ends.proofs.Kept.{below_more}
 use Rattle.grow_events.proofs.Inserting.{net_indexed, net_mapped}
 use Rattle.net_insertion.specs.Insertion.{table_of}

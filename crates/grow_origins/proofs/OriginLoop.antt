@@ -164,6 +164,12 @@ loop_start b p joins fs us reals cells g s = record {
 pub idx_left : (b : List ℕ) (kept k : ℕ) → kept ≡ length (kept_origins b) → k < kept → k < length (kept_origins b)
 idx_left b kept k e h = omega (arith, e)
 
+-- the row at k, by the counts that the code has
+pub idx_at : (b marks : List ℕ) (l d k : ℕ) → l ≡ links b → d ≡ destinations b → OptionsIn b marks → k < length (kept_origins b) → get_or marks (2 * l + d + k) 0 ≡ get_or (kept_origins b) k 0
+idx_at b marks l d k e f m h =
+    let q : 2 * l + d + k ≡ 2 * links b + destinations b + k = omega (arith, e, f) in
+    ap (λ (i : ℕ). get_or marks i 0) q ∙ m.kept k h
+
 -- where the rows stand
 module _ (b : List ℕ) (r : Readable b) where
   pub links_fit : links b ≤ 65535
@@ -177,9 +183,6 @@ module _ (b : List ℕ) (r : Readable b) where
 
   pub idxs_inside : (k : ℕ) (marks : List ℕ) → search_room b ≤ length marks → k < length (kept_origins b) → 2 * links b + destinations b + k < length marks
   idxs_inside k marks h g = omega (arith, kept_most b)
-
-  pub idx_small : (k : ℕ) (marks : List ℕ) → OptionsIn b marks → k < length (kept_origins b) → get_or marks (2 * links b + destinations b + k) 0 ≤ 1000
-  idx_small k marks m h = omega (arith, m.kept k h, kept_named b k h, (limits b r.counted.counts).origins_most)
 
 -- an origin's links are others than those behind it
 other_links : (b : List ℕ) (idx : ℕ) (idxs : List ℕ) → Other b idx idxs → OtherLinks b (origin_link b idx) idxs

@@ -160,9 +160,9 @@ mover_at time i = record { place = place_on time (of_bits binary64 0) i; has_spl
 abbrev pub InsertsOrigin : Plan → Counts → ℕ → Table → List ℕ → Table → List ℕ
     → Result (Counts × Mover) Refusal → Type 0
 InsertsOrigin p c link t cells t' cells' r =
-    (b : List ℕ) (reals : ℕ) (start : List ℕ) (joins : List EstJoinPath) (net : Net)
+    (b : List ℕ) (reals : ℕ) (start : List ℕ) (net : Net)
     → PlanIn b p reals → NetIn p.w start t.floats t.numbers cells c net
-    → InsertedAs (origin_answer b p.w.places link net) p.w start 0 t'.floats t'.numbers cells' joins r
+    → InsertedAs (origin_answer b p.w.places link net) p.w start 0 t'.floats t'.numbers cells' [] r
 
 -- its run is saved
 abbrev pub SavesOrigin : List ℕ → Plan → Rest → Place → ℕ → Stacks → Stacks → List EstJoinPath → Result Rest Refusal

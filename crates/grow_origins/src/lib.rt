@@ -38,6 +38,8 @@ pub fn plan_of(book: &ReadableBook, places: usize) -> Plan
     ensures links { result.w.links_at ≡ (legs book.now + 1) * 8 + places * 8 }
 {
     let rows = book.book();
+    // The plan says that the bytes are just the book's.
+    let _ = rows.bytes();
     let head = rows.head_patterns();
     let legs = rows.legs();
     let nodes_at = (legs + 1) * 8;
