@@ -21,7 +21,7 @@ pub struct Rooms {
 }
 
 // A run that is taken up again: its place, its leg, how many legs it has taken, how many join entries it has, and the
-// leg of the run saved before it.
+// leg of the run saved before it, 0 for none as the cells hold it.
 #[derive(Clone, Copy)]
 pub struct Popped {
     pub place: Place,
