@@ -28,7 +28,6 @@ use Rattle.grow_events.specs.Held.{NetIn, ends_at}
 use Rattle.grow_state.specs.declared.Plan.{Plan}
 use Rattle.grow_state.specs.declared.Front.{Front}
 use Rattle.grow_state.specs.declared.Rest.{Rest}
-use Rattle.grow_state.specs.declared.State.{State}
 use Rattle.grow_state.specs.Held.{PlanIn, GivesAs, idle, lists}
 use Rattle.grow_state.proofs.Keeping.{plan_room, chained_same, wait_same}
 use Rattle.grow_events.proofs.Kept.{net_anew, counts_with}

@@ -43,7 +43,6 @@ use Rattle.grow_events.specs.Held.{NetIn, RunIn, Moving, Along, SomePath, Outcom
 use Rattle.grow_state.specs.declared.Plan.{Plan}
 use Rattle.grow_state.specs.declared.Front.{Front}
 use Rattle.grow_state.specs.declared.Rest.{Rest}
-use Rattle.grow_state.specs.declared.State.{State}
 use Rattle.grow_state.specs.Held.{PlanIn, DriveIn, Driving, FrontIn, WaitIn, path_before, with_front, lists}
 use Rattle.grow_events.proofs.Kept.{net_same}
 use Rattle.grow_leg.specs.OneLeg.{outcome_as, leg_outcome, WalkedAs}

@@ -239,9 +239,7 @@ fn end_leg(
     if here & (0 < leg.parent) {
         return finish_run(floats, numbers, cells, p, g, front);
     }
-    go_on(
-        book, reals, cells, marks, joins, p, g, front, leg.link_idx,
-    )
+    go_on(book, reals, cells, marks, joins, p, g, front, leg.link_idx)
 }
 
 // The events of the leg of the run at the front, behind its path: one after the other, unless row 11 refuses them.
