@@ -125,7 +125,12 @@ pub fn end_fakes(
 }
 
 // The last node, the end. How many nodes there are then; row 12: it doesn't fit.
-pub fn last_node(floats: &mut [f64], numbers: &mut [u32], n: usize, places: usize) -> Result<usize, Refusal>
+pub fn last_node(
+    floats: &mut [f64],
+    numbers: &mut [u32],
+    n: usize,
+    places: usize,
+) -> Result<usize, Refusal>
     requires room { Room floats.old numbers.old places }
     requires n_nonzero { 0 < n }
     ensures { TailAs (last_node places (record { table = table_at_entry floats numbers; nodes = n }))
