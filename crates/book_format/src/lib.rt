@@ -150,7 +150,7 @@ fn float_of(bits: u64) -> f64
     f64::from_bits(bits)
 }
 
-// The u32 at an offset, as a count.
+// The u32 at an offset, as a count. It stays a function: its bound is what keeps the sums of `measure` in range.
 fn count_at(book: &[u8], at: usize) -> usize
     requires { at + 4 ≤ length book.now }
     ensures value { result ≡ u32_at book.now at }
@@ -159,7 +159,8 @@ fn count_at(book: &[u8], at: usize) -> usize
     fields::u32_at(book, at) as usize
 }
 
-// Where row i of a section stands, whose first row stands at `at`.
+// Where row i of a section stands, whose first row stands at `at`. It stays a place, and no slice of the row: so each
+// field is read at the offset that the definitions have.
 fn row_place(book: &[u8], at: usize, width: usize, i: usize) -> usize
     requires { at + i * width + width ≤ length book.now }
     ensures is { result ≡ at + i * width }

@@ -113,7 +113,8 @@ pub fn link_legs(book: &ReadableBook, cells: &mut [u32]) -> bool
     false
 }
 
-// The leg with this parent and link: a walk along the parent's children.
+// The leg with this parent and link: a walk along the parent's children. The book and its cells stay two parameters, no
+// struct with the fact that they are chained: growth writes in the cells between two searches, and would make it anew.
 pub fn find_leg(book: &Book, cells: &[u32], parent: u32, link_idx: u32) -> Option<u32>
     requires chained { Chained book.now cells.now }
     requires parent_bound { parent ≤ legs book.now }

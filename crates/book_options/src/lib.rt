@@ -13,7 +13,7 @@ ghost use Rattle.book_options.specs.Turns.{AllStacked, AllNumbered, Walking, Sea
 use book_format::{Book, ValidBook};
 use refusals::Refusal;
 
-// How many links stand on the stack, and how many origins are kept.
+// How many links stand on the stack, and how many origins are kept. Both stand in the lent marks, since there is no heap.
 #[derive(Clone, Copy)]
 struct Walk {
     top: usize,
@@ -42,7 +42,7 @@ fn push_destinations(book: &Book, marks: &mut [u32]) -> Result<(), Refusal>
 fn mark_origins(book: &ValidBook, marks: &mut [u32])
     requires counts_passed { bad_count book.now ≡ false }
     requires room { links book.now ≤ length marks.old }
-    requires by_index { (l : ℕ) → l < links book.now → get_or marks.old l 0 ≡ 0 }
+    requires marks_blank { (l : ℕ) → l < links book.now → get_or marks.old l 0 ≡ 0 }
     ensures { AllNumbered book.now marks.old marks.new }
 {
     let rows = book.book();

@@ -7,9 +7,9 @@ use Prim.Native.Nat.{ℕ, zero, suc, ◌-◌, ◌≤◌, ◌<◌}
 use borrow.Author.Tests.{not-false}
 use Rattle.laws.specs.Below.{some_below}
 use Rattle.floats.specs.Floats.{book_float}
-use Rattle.book_format.specs.Format.{links, origins, destinations, legs, samples, rows, join_bits, departure_bits, length_bits, link_length, origin_link, destination_link}
-use Rattle.book_format.specs.Rows.{no_such_link, link_zero, bad_link, bad_origin_value, bad_origin_place, bad_leg_index, bad_leg, bad_sample, row4, row5}
-use Rattle.book_rows.specs.Elements.{lower, lowest_below, first_number, link_number, origin_number, destination_number, leg_number, sample_number, row_number, single_number}
+use Rattle.book_format.specs.Format.{links, origins, destinations, legs, samples, rows, link_length, origin_link, destination_link}
+use Rattle.book_format.specs.Rows.{no_such_link, bad_link, bad_origin_value, bad_origin_place, bad_leg_index, bad_leg, bad_sample, row4, row5}
+use Rattle.book_rows.specs.Elements.{lower, lowest_below, first_number, head_number, link_number, origin_number, destination_number, leg_number, sample_number, row_number, single_number}
 use Rattle.book_rows.proofs.Lowest.{number_join, lowest_tests, splice_low, splice_high, lowest_splice}
 
 -- ---- a pattern n of the book, read as m and tested by t
@@ -88,7 +88,7 @@ module _ (b : List ℕ) where
 
   -- the lowest of the head's, link 0's and all rows' numbers
   pub lowest_all :
-      lower (first_number (not (book_float (join_bits b)) || not (book_float (departure_bits b)) || not (book_float (length_bits b))) (not (link_zero b)) false false) (lowest_below (rows b) (row_number b))
+      lower (head_number b) (lowest_below (rows b) (row_number b))
       ≡ single_number b
-  unfolding row4 row5 single_number
+  unfolding row4 row5 head_number single_number
   lowest_all = rw (sections b, samples_number, links_number, origins_number, destinations_number, legs_number) (tests _ _ _ _ _ _ _ _ _ _ _)

@@ -1,10 +1,10 @@
 -- What a single row of a section says of rows 4 to 7: the lowest number that it gives, and the lowest over all rows of
 -- all sections. A number of 0 is none.
-use Rattle.std.specs.Prelude.{Bool, false, not, cond, List, [], ◌∷◌, ℕ, zero, suc, ◌-◌, min, ltb}
+use Rattle.std.specs.Prelude.{Bool, false, not, ◌||◌, cond, List, [], ◌∷◌, ℕ, zero, suc, ◌-◌, min, ltb}
 use Rattle.laws.specs.Refusals.{Row, row, first_of}
 use Rattle.floats.specs.Floats.{book_float}
-use Rattle.book_format.specs.Format.{links, origins, destinations, samples, link_length, origin_link, destination_link}
-use Rattle.book_format.specs.Rows.{no_such_link, bad_link, bad_origin_value, bad_origin_place, bad_leg_index, bad_leg, bad_sample}
+use Rattle.book_format.specs.Format.{links, origins, destinations, samples, join_bits, departure_bits, length_bits, link_length, origin_link, destination_link}
+use Rattle.book_format.specs.Rows.{no_such_link, link_zero, bad_link, bad_origin_value, bad_origin_place, bad_leg_index, bad_leg, bad_sample}
 use Rattle.book_format.specs.Rows.{row4, row5, some_bad_place, some_bad_leg}
 
 -- the lower of two numbers
@@ -27,6 +27,12 @@ rows4to7 four five six seven = row 4 four ∷ row 5 five ∷ row 6 six ∷ row 7
 -- the number of the first of four tests that holds
 abbrev pub first_number : Bool → Bool → Bool → Bool → ℕ
 first_number four five six seven = first_of (rows4to7 four five six seven)
+
+-- the floats at the head, and link 0
+unfoldable pub head_number : List ℕ → ℕ
+head_number b =
+    first_number (not (book_float (join_bits b)) || not (book_float (departure_bits b)) || not (book_float (length_bits b)))
+    (not (link_zero b)) false false
 
 unfoldable pub link_number : List ℕ → ℕ → ℕ
 link_number b i = first_number (not (book_float (link_length b i))) (bad_link b i) false false

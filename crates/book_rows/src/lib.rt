@@ -10,7 +10,7 @@ ghost use Rattle.refusals.specs.Refusals.{told};
 ghost use Rattle.book_format.specs.Format.{links, origins, destinations, legs, samples, rows};
 ghost use Rattle.book_format.specs.Format.{link_length, leg_samples};
 ghost use Rattle.book_format.specs.Rows.{row3, bad_count, work_bytes, no_such_link, link_zero, bad_link};
-ghost use Rattle.book_rows.specs.Elements.{lower, lowest_below, first_number, row_number, single_number};
+ghost use Rattle.book_rows.specs.Elements.{lower, lowest_below, head_number, row_number, single_number};
 ghost use Rattle.book_rows.specs.Elements.{link_number, origin_number, destination_number, leg_number, sample_number};
 
 use book_format::Book;
@@ -74,23 +74,6 @@ pub fn counts_refused(book: &Book, places: usize, bytes: usize) -> bool
 
 // ---- rows 4 to 7
 
-// The refusal by the first of four tests that holds: those of rows 4 to 7.
-#[tactic(auto, unfolding(laws::specs::Refusals::first_of))]
-fn first_refusal(four: bool, five: bool, six: bool, seven: bool) -> Result<(), Refusal>
-    ensures { number_of (told result) ≡ first_number four five six seven }
-{
-    if four {
-        return Err(Refusal::BadValue);
-    }
-    if five {
-        return Err(Refusal::BadIndex);
-    }
-    if six {
-        return Err(Refusal::BadOrigin);
-    }
-    if seven { Err(Refusal::BadLeg) } else { Ok(()) }
-}
-
 // The one of two answers with the lower number, a refusal before none.
 #[tactic(auto, using(crate::proofs::Lowest::lower_none, crate::proofs::Lowest::lower_min), unfolding(crate::specs::Elements::lower),)]
 fn lower_of(a: Result<(), Refusal>, b: Result<(), Refusal>) -> Result<(), Refusal>
@@ -143,7 +126,10 @@ fn link_row(book: &Book, i: usize) -> Result<(), Refusal>
     if !floats::is_book_float(length) {
         return Err(Refusal::BadValue);
     }
-    first_refusal(false, bad_link(book, i, length), false, false)
+    if bad_link(book, i, length) {
+        return Err(Refusal::BadIndex);
+    }
+    Ok(())
 }
 
 // What an origin is refused for.
@@ -157,26 +143,32 @@ fn origin_row(book: &Book, i: usize) -> Result<(), Refusal>
         return Err(Refusal::BadValue);
     }
     let o = book.origin_at(i);
-    first_refusal(
-        1 < o.is_front_end,
-        no_link(book, o.link_idx),
-        (offset != 0) | (o.is_front_end == 1),
-        false,
-    )
+    if 1 < o.is_front_end {
+        return Err(Refusal::BadValue);
+    }
+    if no_link(book, o.link_idx) {
+        return Err(Refusal::BadIndex);
+    }
+    if (offset != 0) | (o.is_front_end == 1) {
+        return Err(Refusal::BadOrigin);
+    }
+    Ok(())
 }
 
 // What a destination is refused for.
-#[tactic(auto, unfolding(crate::specs::Elements::destination_number))]
+#[tactic(auto, unfolding(crate::specs::Elements::destination_number, laws::specs::Refusals::first_of))]
 fn destination_row(book: &Book, i: usize) -> Result<(), Refusal>
     requires i_lt_destinations { i < destinations book.now }
     ensures { number_of (told result) ≡ destination_number book.now i }
 {
-    let link_idx = book.destination_link(i);
-    first_refusal(false, no_link(book, link_idx), false, false)
+    if no_link(book, book.destination_link(i)) {
+        return Err(Refusal::BadIndex);
+    }
+    Ok(())
 }
 
 // What a leg is refused for.
-#[tactic(auto, unfolding(crate::specs::Elements::leg_number, book_format::specs::Rows::bad_leg_index, book_format::specs::Rows::bad_leg, book_format::specs::Format::leg_at,),)]
+#[tactic(auto, unfolding(crate::specs::Elements::leg_number, laws::specs::Refusals::first_of, book_format::specs::Rows::bad_leg_index, book_format::specs::Rows::bad_leg, book_format::specs::Format::leg_at,),)]
 fn leg_row(book: &Book, i: usize) -> Result<(), Refusal>
     requires i_lt_legs { i < legs book.now }
     ensures { number_of (told result) ≡ leg_number book.now i }
@@ -185,16 +177,17 @@ fn leg_row(book: &Book, i: usize) -> Result<(), Refusal>
     let legs = book.legs();
     let number = i + 1;
     let parent = leg.parent as usize;
-    first_refusal(
-        false,
-        no_link(book, leg.link_idx) | (legs < parent),
-        false,
-        (leg.link_idx == 0) | (number <= parent),
-    )
+    if no_link(book, leg.link_idx) | (legs < parent) {
+        return Err(Refusal::BadIndex);
+    }
+    if (leg.link_idx == 0) | (number <= parent) {
+        return Err(Refusal::BadLeg);
+    }
+    Ok(())
 }
 
 // What a sample is refused for.
-#[tactic(auto, unfolding(crate::specs::Elements::sample_number, book_format::specs::Rows::bad_sample, book_format::specs::Format::sample_patterns, book_format::specs::Format::sample_time, book_format::specs::Format::sample_offset, book_format::specs::Format::sample_speed,),)]
+#[tactic(auto, unfolding(crate::specs::Elements::sample_number, laws::specs::Refusals::first_of, book_format::specs::Rows::bad_sample, book_format::specs::Format::sample_patterns, book_format::specs::Format::sample_time, book_format::specs::Format::sample_offset, book_format::specs::Format::sample_speed,),)]
 fn sample_row(book: &Book, i: usize) -> Result<(), Refusal>
     requires i_lt_samples { i < samples book.now }
     ensures { number_of (told result) ≡ sample_number book.now i }
@@ -203,7 +196,10 @@ fn sample_row(book: &Book, i: usize) -> Result<(), Refusal>
     let bad = !floats::is_book_float(p.time)
         | !floats::is_book_float(p.offset)
         | !floats::is_book_float(p.speed);
-    first_refusal(bad, false, false, false)
+    if bad {
+        return Err(Refusal::BadValue);
+    }
+    Ok(())
 }
 
 // What a row of a section is refused for, all rows in one count.
@@ -258,16 +254,30 @@ fn link_zero(book: &Book) -> bool
     (l.idx_next == 0) & (l.idx_next_alt == 0) & (l.idx_prev == 0) & (l.idx_prev_alt == 0)
 }
 
-// The lowest of rows 4 to 7 that some single row of a section, or a float at the head, is refused for.
-#[tactic(auto, using(crate::proofs::Elements::lowest_all), unfolding(book_format::specs::Format::head_patterns))]
-pub fn lowest_row(book: &Book) -> Result<(), Refusal>
+// What the floats at the head and link 0 are refused for.
+#[tactic(auto, unfolding(crate::specs::Elements::head_number, book_format::specs::Format::head_patterns, laws::specs::Refusals::first_of))]
+fn head_refusal(book: &Book) -> Result<(), Refusal>
     requires links_nonzero { 0 < links book.now }
-    ensures { number_of (told result) ≡ single_number book.now }
+    ensures { number_of (told result) ≡ head_number book.now }
 {
     let head = book.head_patterns();
     let bad = !floats::is_book_float(head.join)
         | !floats::is_book_float(head.departure)
         | !floats::is_book_float(head.length);
-    let first = first_refusal(bad, !link_zero(book), false, false);
-    lower_of(first, lowest_refusal(book))
+    if bad {
+        return Err(Refusal::BadValue);
+    }
+    if !link_zero(book) {
+        return Err(Refusal::BadIndex);
+    }
+    Ok(())
+}
+
+// The lowest of rows 4 to 7 that some single row of a section, or a float at the head, is refused for.
+#[tactic(auto, using(crate::proofs::Elements::lowest_all))]
+pub fn lowest_row(book: &Book) -> Result<(), Refusal>
+    requires links_nonzero { 0 < links book.now }
+    ensures { number_of (told result) ≡ single_number book.now }
+{
+    lower_of(head_refusal(book), lowest_refusal(book))
 }

@@ -19,7 +19,7 @@ use net_stack::Stack;
 use refusals::Refusal;
 
 // What is counted of a network: its nodes, event nodes, split Fakes and joins; and the latest node at which a run has
-// finished, or 0.
+// finished, or 0: so the cells that chain the ends hold it too, and an Option would only be made of it and back.
 #[derive(Clone, Copy)]
 pub struct Counts {
     pub nodes: usize,

@@ -2,7 +2,7 @@
 use mathlib.Core.Path.{◌≡◌, refl, sym, ap, ◌∙◌, subst}
 use mathlib.Core.Bool.{Bool, true, false}
 use mathlib.Core.List.{List}
-use Prim.Native.Nat.{ℕ, ◌+◌, ◌%◌, ◌<◌}
+use Prim.Native.Nat.{ℕ, ◌+◌, ◌%◌, ◌≤◌, ◌<◌}
 use native.Mathlib.Omega.{arith}
 use borrow.Author.Tests.{eq-eqb, ne_eqb}
 use lib.Dec.{eqb}
@@ -12,6 +12,9 @@ use Rattle.laws.specs.Below.{some_below}
 use Rattle.laws.proofs.Below.{some_at, none_more}
 use Rattle.book_format.specs.declared.Link.{Link}
 use Rattle.book_format.specs.Format.{links, destinations, link_at, link_next, link_next_alt, destination_link}
+use Rattle.book_format.specs.Rows.{row5}
+use Rattle.book_format.specs.Chains.{Readable}
+use Rattle.book_legs.proofs.Found.{next_named, next_alt_named}
 use Rattle.book_options.specs.Options.{OptionsIn, in_set}
 use Rattle.grow_rules.specs.Run.{Net, Run}
 use Rattle.grow_rules.specs.Growth.{is_destination, on_over, save_over, on_as}
@@ -46,14 +49,25 @@ module _ (b : List ℕ) (link : ℕ) where
 
 -- ---- the ways behind a link
 
-module _ (b : List ℕ) (l : ℕ) {x : Link} (e : x ≡ link_at b l) where
-  pub next_is : x.idx_next ≡ link_next b l
+-- link l as it was read
+module _ {b b' : List ℕ} (same : b' ≡ b) (readable : Readable b') (l : ℕ) (h : l < links b) {x : Link} (e : x ≡ link_at b' l) where
+  next_is : x.idx_next ≡ link_next b l
   unfolding link_at
-  next_is = ap (λ (y : Link). y.idx_next) e
+  next_is = ap (λ (y : Link). y.idx_next) e ∙ ap (λ (a : List ℕ). link_next a l) same
 
-  pub alt_is : x.idx_next_alt ≡ link_next_alt b l
+  alt_is : x.idx_next_alt ≡ link_next_alt b l
   unfolding link_at
-  alt_is = ap (λ (y : Link). y.idx_next_alt) e
+  alt_is = ap (λ (y : Link). y.idx_next_alt) e ∙ ap (λ (a : List ℕ). link_next_alt a l) same
+
+  indices : row5 b ≡ false
+  indices = (subst Readable same readable).indices
+
+  -- both name links
+  pub next_within : (n : ℕ) → links b ≤ n → x.idx_next < n
+  next_within n g = omega (arith, next_is, next_named b indices l h)
+
+  pub alt_within : (n : ℕ) → links b ≤ n → x.idx_next_alt < n
+  alt_within n g = omega (arith, alt_is, next_alt_named b indices l h)
 
   pub ways_are : (z m a : Bool) → eqb x.idx_next 0 ≡ z → in_set b (link_next b l) ≡ m → in_set b (link_next_alt b l) ≡ a
       → ways_as z m a x.idx_next x.idx_next_alt ≡ ways_as (eqb (link_next b l) 0) (in_set b (link_next b l)) (in_set b (link_next_alt b l)) (link_next b l) (link_next_alt b l)
@@ -66,11 +80,11 @@ module _ (b : List ℕ) (l : ℕ) {x : Link} (e : x ≡ link_at b l) where
 
   -- what a mark says of one of them
   module _ {marks : List ℕ} (k : OptionsIn b marks) where
-    pub next_in : link_next b l < links b → (r : Bool) → r ≡ eqb (get_or marks x.idx_next 0 % 2) 1 → in_set b (link_next b l) ≡ r
-    next_in h r f = sym (f ∙ ap (λ (n : ℕ). eqb (get_or marks n 0 % 2) 1) next_is ∙ k.set (link_next b l) h)
+    pub next_in : (r : Bool) → r ≡ eqb (get_or marks x.idx_next 0 % 2) 1 → in_set b (link_next b l) ≡ r
+    next_in r f = sym (f ∙ ap (λ (n : ℕ). eqb (get_or marks n 0 % 2) 1) next_is ∙ k.set (link_next b l) (next_named b indices l h))
 
-    pub alt_in : link_next_alt b l < links b → (r : Bool) → r ≡ eqb (get_or marks x.idx_next_alt 0 % 2) 1 → in_set b (link_next_alt b l) ≡ r
-    alt_in h r f = sym (f ∙ ap (λ (n : ℕ). eqb (get_or marks n 0 % 2) 1) alt_is ∙ k.set (link_next_alt b l) h)
+    pub alt_in : (r : Bool) → r ≡ eqb (get_or marks x.idx_next_alt 0 % 2) 1 → in_set b (link_next_alt b l) ≡ r
+    alt_in r f = sym (f ∙ ap (λ (n : ℕ). eqb (get_or marks n 0 % 2) 1) alt_is ∙ k.set (link_next_alt b l) (next_alt_named b indices l h))
 
 -- ---- what the run does with them
 

@@ -14,6 +14,7 @@ use Rattle.book_format.specs.Format.{links, legs, leg_at, leg_parent, link_next,
 use Rattle.book_format.specs.Rows.{row5}
 use Rattle.book_format.proofs.Given.{leg_link_lem, leg_parent_lem, leg_named}
 use Rattle.book_options.specs.Options.{in_set}
+use Rattle.net_join_paths.specs.declared.EstJoinPath.{EstJoinPath}
 use Rattle.grow_path.specs.Path.{link_of}
 use Rattle.grow_rules.specs.Run.{Net, Run}
 use Rattle.grow_rules.specs.Growth.{Growth, on_over, save_over, go_on, on_as, is_destination, finishes, finish_as, bad_finish, leg_end_as}
@@ -38,7 +39,7 @@ pub link_named : (b : List ℕ) → row5 b ≡ false → (j : ℕ) → 0 < j →
 unfolding link_of
 link_named b h j o l = leg_named b h (j - 1) (omega arith)
 
-pub front_link : {b : List ℕ} {p : Plan} {fs : List Float} {us : List ℕ} {reals : List Float} {cells joins : List ℕ} {g : Rest} {front : Front} {net : Net} {run : Run} {rest : List Run}
+pub front_link : {b : List ℕ} {p : Plan} {fs : List Float} {us : List ℕ} {reals : List Float} {cells : List ℕ} {joins : List EstJoinPath} {g : Rest} {front : Front} {net : Net} {run : Run} {rest : List Run}
     → PlanIn b p (length reals) → AtEnd b p (lists fs us reals cells joins) g front net run rest → (link : ℕ) → link ≡ link_of b front.leg → link < links b
 front_link {b} {front = front} plan a link e = subst (λ (l : ℕ). l < links b) (sym e) (link_named b plan.readable.indices front.leg (front_some plan a) (front_leg plan a))
 
@@ -48,7 +49,7 @@ plan_same {b} {p} e a = subst (PlanIn b p) (sym e) a
 
 -- ---- going on
 
-module _ {b : List ℕ} {p : Plan} {fs : List Float} {us : List ℕ} {reals : List Float} {cells joins : List ℕ} {g : Rest} {front : Front} {net : Net} {run : Run} {rest : List Run}
+module _ {b : List ℕ} {p : Plan} {fs : List Float} {us : List ℕ} {reals : List Float} {cells : List ℕ} {joins : List EstJoinPath} {g : Rest} {front : Front} {net : Net} {run : Run} {rest : List Run}
     (a : AtEnd b p (lists fs us reals cells joins) g front net run rest) (link : ℕ) (here : link ≡ link_of b front.leg) (w : Result Ways Refusal)
     (told : w ≡ ways_as (eqb (link_next b link) 0) (in_set b (link_next b link)) (in_set b (link_next_alt b link)) (link_next b link) (link_next_alt b link)) where
   go_is : go_on b p.w.places net run rest ≡ on_as (eqb (link_next b link) 0) (in_set b (link_next b link)) (in_set b (link_next_alt b link)) b p.w.places net run (link_next b link) (link_next_alt b link) rest
@@ -96,13 +97,19 @@ module _ {b : List ℕ} {p : Plan} {fs : List Float} {us : List ℕ} {reals : Li
 
 -- ---- the end
 
-module _ {b : List ℕ} {p : Plan} {fs : List Float} {us : List ℕ} {reals : List Float} {cells joins : List ℕ} {g : Rest} {front : Front} {net : Net} {run : Run} {rest : List Run}
-    (a : AtEnd b p (lists fs us reals cells joins) g front net run rest) (leg : Leg) (is : leg ≡ leg_at b (front.leg - 1)) where
+module _ {b : List ℕ} {p : Plan} {fs : List Float} {us : List ℕ} {reals : List Float} {cells : List ℕ} {joins : List EstJoinPath} {g : Rest} {front : Front} {net : Net} {run : Run} {rest : List Run}
+    (a : AtEnd b p (lists fs us reals cells joins) g front net run rest) {b' : List ℕ} (same : b' ≡ b) (leg : Leg) (read : leg ≡ leg_at b' (front.leg - 1)) where
+  is : leg ≡ leg_at b (front.leg - 1)
+  is = read ∙ ap (λ (x : List ℕ). leg_at x (front.leg - 1)) same
+
   pub end_link : leg.link_idx ≡ link_of b front.leg
   unfolding link_of
   end_link = leg_link_lem b (front.leg - 1) leg is
 
-  module _ (there : Bool) (told : there ≡ is_destination b leg.link_idx) where
+  module _ (there : Bool) (sought : there ≡ is_destination b' leg.link_idx) where
+    told : there ≡ is_destination b leg.link_idx
+    told = sought ∙ ap (λ (x : List ℕ). is_destination x leg.link_idx) same
+
     finishes_is : (there && ltb 0 leg.parent) ≡ finishes b run.leg
     unfolding finishes
     finishes_is =

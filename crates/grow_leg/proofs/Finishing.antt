@@ -17,6 +17,7 @@ use Rattle.net_insertion.specs.declared.Place.{Place}
 use Rattle.net_event_map.specs.declared.Layout.{Layout}
 use Rattle.net_event_map.specs.EventMap.{Mapped}
 use Rattle.net_event_map.proofs.Kept.{mapped_else, apart_same}
+use Rattle.net_join_paths.specs.declared.EstJoinPath.{EstJoinPath}
 use Rattle.grow_ends.specs.Ends.{EndsIn, FinishAs, MarkedAs, finish_answer}
 use Rattle.grow_ends.proofs.Kept.{Finished, finished, last_below}
 use Rattle.grow_path.specs.Path.{path_of}
@@ -27,7 +28,6 @@ use Rattle.grow_events.specs.Held.{NetIn, ends_at}
 use Rattle.grow_state.specs.declared.Plan.{Plan}
 use Rattle.grow_state.specs.declared.Front.{Front}
 use Rattle.grow_state.specs.declared.Rest.{Rest}
-use Rattle.grow_state.specs.declared.State.{State}
 use Rattle.grow_state.specs.Held.{PlanIn, GivesAs, idle, lists}
 use Rattle.grow_state.proofs.Keeping.{plan_room, chained_same, wait_same}
 use Rattle.grow_events.proofs.Kept.{net_anew, counts_with}
@@ -94,7 +94,7 @@ module _ {w : Layout} {start : List ℕ} {fs : List Float} {us cells : List ℕ}
 
 -- ---- the whole
 
-module _ {b : List ℕ} {p : Plan} {fs : List Float} {us : List ℕ} {reals : List Float} {cells joins : List ℕ} {g : Rest} {front : Front} {net : Net} {run : Run} {rest : List Run}
+module _ {b : List ℕ} {p : Plan} {fs : List Float} {us : List ℕ} {reals : List Float} {cells : List ℕ} {joins : List EstJoinPath} {g : Rest} {front : Front} {net : Net} {run : Run} {rest : List Run}
     (plan : PlanIn b p (length reals)) (a : AtEnd b p (lists fs us reals cells joins) g front net run rest) where
   same_place : run.place ≡ front.mover.place
   same_place = a.front.moves.place

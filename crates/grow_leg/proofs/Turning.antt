@@ -13,7 +13,6 @@ use Rattle.book_format.specs.Chains.{Chained}
 use Rattle.event_walk.specs.Walk.{row11}
 use Rattle.net_join_paths.specs.declared.EstJoinPath.{EstJoinPath}
 use Rattle.net_join_paths.specs.Entries.{Valid}
-use Rattle.net_join_paths.proofs.Entries.{entries_count}
 use Rattle.net_insertion.specs.declared.Place.{Place}
 use Rattle.grow_path.specs.Path.{path_of, link_of, leg_course}
 use Rattle.grow_path.specs.Kept.{PathIn}
@@ -50,9 +49,9 @@ take_is b places net run saved = go (row11 (leg_course b run.leg))
     go true = refl
     go false = refl
 
-module _ {b : List ℕ} {p : Plan} {fs : List Float} {us : List ℕ} {reals : List Float} {cells joins path : List ℕ} {g : Rest} {front : Front} {net : Net} {run : Run} {saved : List Run}
+module _ {b : List ℕ} {p : Plan} {fs : List Float} {us : List ℕ} {reals : List Float} {cells : List ℕ} {joins : List EstJoinPath} {path : List ℕ} {g : Rest} {front : Front} {net : Net} {run : Run} {saved : List Run}
     (plan : PlanIn b p (length reals)) (d : DriveIn b p (lists fs us reals cells joins) path (with_front g front) net (run ∷ saved))
-    (fs' : List Float) (us' : List ℕ) (reals' : List Float) (cells' joins' : List ℕ) (long : length cells' ≡ length cells) (r : Result RunOutcome Refusal)
+    (fs' : List Float) (us' : List ℕ) (reals' : List Float) (cells' : List ℕ) (joins' : List EstJoinPath) (long : length cells' ≡ length cells) (r : Result RunOutcome Refusal)
     (w : WalkedAs b p run.leg front.depth (leg_outcome b p.w.places net run) reals cells fs' us' reals' cells' joins' r) (more : NotFewer g.counts r) where
   abbrev start : List ℕ
   start = set cells (front.depth * 8 + 3) (link_of b run.leg)
@@ -148,7 +147,7 @@ module _ {b : List ℕ} {p : Plan} {fs : List Float} {us : List ℕ} {reals : Li
         some = omega (arith, leg_same, d.sound.0.some);
         within = omega (arith, leg_same, d.sound.0.within);
         stands = omega (arith, took.run.stands, ap (λ (q : Place). q.idx_prev) took.run.place);
-        few = omega (arith, ap length took.run.joins, entries_count joins' m.count, took.run.few);
+        few = omega (arith, ap length took.run.joins, took.run.few);
         valid = subst (λ (xs : List EstJoinPath). Valid xs c.nodes) (sym took.run.joins) took.run.valid;
       },
       sound_more b g.counts.nodes c.nodes saved grows d.sound.1,

@@ -14,7 +14,7 @@ use Rattle.laws.proofs.Below.{sum_more, sum_part}
 use Rattle.floats.specs.Floats.{book_float}
 use Rattle.book_format.specs.declared.Leg.{Leg}
 use Rattle.book_format.specs.Format.{links, legs, samples, samples_at_of, leg_at, leg_link, leg_samples, first_sample, link_length, length_bits, float_of}
-use Rattle.book_format.proofs.Places.{sized_samples_at, follow}
+use Rattle.book_format.proofs.Places.{follow}
 use Rattle.book_format.proofs.Given.{limits, link_float, leg_named}
 use Rattle.net_event_map.specs.EventMap.{Mapped}
 use Rattle.net_event_map.proofs.Kept.{mapped_before}
@@ -27,6 +27,7 @@ use Rattle.event_walk.specs.declared.PassedPoint.{PassedPoint}
 use Rattle.event_walk.specs.Course.{Course, course_of, Held, Walkable}
 use Rattle.event_walk.specs.Walk.{points_passed, reaches_last, some_bad, row11}
 use Rattle.event_walk.proofs.Alike.{Alike, reaches_alike, passed_alike}
+use Rattle.net_join_paths.specs.declared.EstJoinPath.{EstJoinPath}
 use Rattle.grow_path.specs.Path.{path_of, link_of, point_link, leg_course, events_at, leg_events}
 use Rattle.grow_path.specs.Kept.{PathIn, Sound}
 use Rattle.grow_path.proofs.Extending.{path_begins, path_extends}
@@ -42,7 +43,6 @@ use Rattle.grow_events.specs.Held.{NetIn, RunIn, Moving, Along, SomePath, Outcom
 use Rattle.grow_state.specs.declared.Plan.{Plan}
 use Rattle.grow_state.specs.declared.Front.{Front}
 use Rattle.grow_state.specs.declared.Rest.{Rest}
-use Rattle.grow_state.specs.declared.State.{State}
 use Rattle.grow_state.specs.Held.{PlanIn, DriveIn, Driving, FrontIn, WaitIn, path_before, with_front, lists}
 use Rattle.grow_events.proofs.Kept.{net_same}
 use Rattle.grow_leg.specs.OneLeg.{outcome_as, leg_outcome, WalkedAs}
@@ -73,24 +73,26 @@ pub record Looks (b : List ℕ) (p : Plan) (reals : List Float) (cells : List �
   pub samples : taken ≡ record { number = front.leg; first = get_or cells ((front.leg - 1) * 8 + 2) 0; end = get_or cells (front.leg * 8 + 2) 0 }
   pub reals_then : reals' ≡ set reals (front.depth + 1) (add binary64 (get_or reals front.depth nan) (float_of (link_length b leg.link_idx)))
   pub cells_then : cells' ≡ set cells (front.depth * 8 + 3) leg.link_idx
-  pub moves : v ≡ record { at = p.s.samples_at + taken.first * 24; samples = taken.end - taken.first; points = front.depth + 1 + 1; length = p.length }
+  pub bytes : List ℕ
+  pub same : bytes ≡ b
+  pub moves : v ≡ record { at = samples_at_of b + taken.first * 24; samples = taken.end - taken.first; points = front.depth + 1 + 1; length = p.length }
 
 -- where one moves there is one
-pub record SomeFront (b : List ℕ) (p : Plan) (fs : List Float) (us : List ℕ) (reals : List Float) (cells joins : List ℕ) (g : Rest) (front : Front) : Type 0 where
+pub record SomeFront (b : List ℕ) (p : Plan) (fs : List Float) (us : List ℕ) (reals : List Float) (cells : List ℕ) (joins : List EstJoinPath) (g : Rest) (front : Front) : Type 0 where
   pub path : List ℕ
   pub net : Net
   pub run : Run
   pub saved : List Run
   pub holds : DriveIn b p (lists fs us reals cells joins) path (with_front g front) net (run ∷ saved)
 
-pub some_front : {b : List ℕ} {p : Plan} {fs : List Float} {us : List ℕ} {reals : List Float} {cells joins : List ℕ} {g : Rest} {front : Front} → Driving b p (lists fs us reals cells joins) (with_front g front) → SomeFront b p fs us reals cells joins g front
+pub some_front : {b : List ℕ} {p : Plan} {fs : List Float} {us : List ℕ} {reals : List Float} {cells : List ℕ} {joins : List EstJoinPath} {g : Rest} {front : Front} → Driving b p (lists fs us reals cells joins) (with_front g front) → SomeFront b p fs us reals cells joins g front
 some_front {b} {p} {fs} {us} {reals} {cells} {joins} {g} {front} v = go v.runs v.holds
   where
     go : (runs : List Run) → DriveIn b p (lists fs us reals cells joins) v.path (with_front g front) v.net runs → SomeFront b p fs us reals cells joins g front
     go [] d = absurd d.waiting
     go (run ∷ saved) d = record { path = v.path; net = v.net; run = run; saved = saved; holds = d }
 
-module _ {b : List ℕ} {p : Plan} {fs : List Float} {us : List ℕ} {reals : List Float} {cells joins path : List ℕ} {g : Rest} {front : Front} {net : Net} {run : Run} {saved : List Run}
+module _ {b : List ℕ} {p : Plan} {fs : List Float} {us : List ℕ} {reals : List Float} {cells : List ℕ} {joins : List EstJoinPath} {path : List ℕ} {g : Rest} {front : Front} {net : Net} {run : Run} {saved : List Run}
     (plan : PlanIn b p (length reals)) (d : DriveIn b p (lists fs us reals cells joins) path (with_front g front) net (run ∷ saved)) where
   pub front_in : FrontIn b joins g.counts.nodes front run
   front_in = d.waiting.0
@@ -128,8 +130,8 @@ module _ {b : List ℕ} {p : Plan} {fs : List Float} {us : List ℕ} {reals : Li
 
   -- ---- its samples
 
-  pub section_inside : p.s.samples_at ≤ 4000000
-  section_inside = omega (arith, sized_samples_at plan.readable.sized, follow b, limits b plan.readable.counted.counts)
+  pub section_inside : samples_at_of b ≤ 4000000
+  section_inside = omega (arith, follow b, limits b plan.readable.counted.counts)
 
   module _ (taken : TakenLeg) (samples-are : taken ≡ record { number = front.leg; first = get_or cells ((front.leg - 1) * 8 + 2) 0; end = get_or cells (front.leg * 8 + 2) 0 }) where
     taken_is : taken ≡ record { number = front.leg; first = first_sample b (front.leg - 1); end = first_sample b front.leg }
@@ -210,7 +212,7 @@ module _ {b : List ℕ} {p : Plan} {fs : List Float} {us : List ℕ} {reals : Li
 
     moves_are : v ≡ leg_moves
     moves_are =
-        let x : p.s.samples_at + k.taken.first * 24 ≡ samples_at_of b + first_sample b (run.leg - 1) * 24 = omega (arith, sized_samples_at plan.readable.sized, first_is k.taken k.samples) in
+        let x : samples_at_of b + k.taken.first * 24 ≡ samples_at_of b + first_sample b (run.leg - 1) * 24 = omega (arith, first_is k.taken k.samples) in
         let y : k.taken.end - k.taken.first ≡ leg_samples b (run.leg - 1) = omega (arith, first_is k.taken k.samples, end_is k.taken k.samples) in
         let z : front.depth + 1 + 1 ≡ length (path_of b run.leg) + 1 = omega (arith, path_length) in
         k.moves ∙ (λ i. record { at = x i; samples = y i; points = z i; length = plan.train i })
@@ -218,22 +220,28 @@ module _ {b : List ℕ} {p : Plan} {fs : List Float} {us : List ℕ} {reals : Li
     room : length (path_of b run.leg) + 1 ≤ length reals'
     room = omega (arith, path_length, depth_inside, long_reals, plan.pairs, plan.pairs_at)
 
-    pub walk_held : Held b reals' v
-    walk_held = subst (Held b reals') (sym moves_are) (leg_held b p.s plan.readable (run.leg - 1) row reals' cells' (path_of b run.leg) kept room lengths)
+    held : Held b reals' v
+    held = subst (Held b reals') (sym moves_are) (leg_held b plan.whole plan.readable (run.leg - 1) row reals' cells' (path_of b run.leg) kept room lengths)
 
-    pub walk_sound : Sound (course_of b reals' v)
-    walk_sound = subst (λ (m : Movement). Sound (course_of b reals' m)) (sym moves_are) (leg_sound b p.s plan.readable (run.leg - 1) row reals' cells' (path_of b run.leg) kept room lengths plan.row7)
+    pub walk_held : Held k.bytes reals' v
+    walk_held = subst (λ (x : List ℕ). Held x reals' v) (sym k.same) held
+
+    fine : Sound (course_of b reals' v)
+    fine = subst (λ (m : Movement). Sound (course_of b reals' m)) (sym moves_are) (leg_sound b plan.whole plan.readable (run.leg - 1) row reals' cells' (path_of b run.leg) kept room lengths plan.row7)
+
+    pub walk_sound : Sound (course_of k.bytes reals' v)
+    walk_sound = subst (λ (x : List ℕ). Sound (course_of x reals' v)) (sym k.same) fine
 
     alike : Alike (course_of b reals' v) (leg_course b run.leg)
     alike =
         subst (λ (m : Movement). Alike (course_of b reals' m) (leg_course b run.leg)) (sym moves_are)
         (subst (λ (j : ℕ). Alike (course_of b reals' leg_moves) (leg_course b j)) whole
-        (leg_alike b p.s plan.readable (run.leg - 1) row reals' cells' (path_of b run.leg) kept room lengths (ap (path_of b) (sym whole))))
+        (leg_alike b plan.whole plan.readable (run.leg - 1) row reals' cells' (path_of b run.leg) kept room lengths (ap (path_of b) (sym whole))))
 
     row_is : row11 (course_of b reals' v) ≡ row11 (leg_course b run.leg)
-    row_is = row_alike (course_of b reals' v) (leg_course b run.leg) walk_sound alike
+    row_is = row_alike (course_of b reals' v) (leg_course b run.leg) fine alike
 
-    walked : {answer : Answer Outcome} (fs' : List Float) (us' cells'' joins' : List ℕ) (r : Result RunOutcome Refusal) → OutcomeAs answer p.w cells' run.leg fs' us' cells'' joins' r → WalkedAs b p run.leg front.depth answer reals cells fs' us' reals' cells'' joins' r
+    walked : {answer : Answer Outcome} (fs' : List Float) (us' cells'' : List ℕ) (joins' : List EstJoinPath) (r : Result RunOutcome Refusal) → OutcomeAs answer p.w cells' run.leg fs' us' cells'' joins' r → WalkedAs b p run.leg front.depth answer reals cells fs' us' reals' cells'' joins' r
     walked {answer} fs' us' cells'' joins' r o = record {
       kept = subst (λ (xs : List ℕ). PathIn b reals' xs (path_of b run.leg)) cells_are kept;
       reals_left = reals_else;
@@ -241,14 +249,23 @@ module _ {b : List ℕ} {p : Plan} {fs : List Float} {us : List ℕ} {reals : Li
     }
 
     -- a sample reaches the last point
-    pub walk_refused : (t : Bool) → t ≡ reaches_last (course_of b reals' v) → t ≡ true → (fs' : List Float) (us' joins' : List ℕ) → WalkedAs b p run.leg front.depth (leg_outcome b p.w.places net run) reals cells fs' us' reals' cells' joins' (Err BadEvent)
+    tests : (t : Bool) → t ≡ reaches_last (course_of k.bytes reals' v) → t ≡ reaches_last (course_of b reals' v)
+    tests t e = e ∙ ap (λ (x : List ℕ). reaches_last (course_of x reals' v)) k.same
+
+    pub walk_refused : (t : Bool) → t ≡ reaches_last (course_of k.bytes reals' v) → t ≡ true → (fs' : List Float) (us' : List ℕ) (joins' : List EstJoinPath) → WalkedAs b p run.leg front.depth (leg_outcome b p.w.places net run) reals cells fs' us' reals' cells' joins' (Err BadEvent)
     unfolding leg_outcome
-    walk_refused t e f fs' us' joins' = walked fs' us' cells' joins' (Err BadEvent) (ap (λ (s : Bool). outcome_as s b p.w.places net run) (sym row_is ∙ sym (reaches (course_of b reals' v) (sym f ∙ e))))
+    walk_refused t e f fs' us' joins' = walked fs' us' cells' joins' (Err BadEvent) (ap (λ (s : Bool). outcome_as s b p.w.places net run) (sym row_is ∙ sym (reaches (course_of b reals' v) (sym f ∙ tests t e))))
 
     -- or none does
-    module _ (t : Bool) (tested : t ≡ reaches_last (course_of b reals' v)) (free : t ≡ false) where
-      pub walk_walkable : Walkable (course_of b reals' v)
-      walk_walkable = walkable (course_of b reals' v) walk_sound (sym free ∙ tested)
+    module _ (t : Bool) (test : t ≡ reaches_last (course_of k.bytes reals' v)) (free : t ≡ false) where
+      tested : t ≡ reaches_last (course_of b reals' v)
+      tested = tests t test
+
+      goes_through : Walkable (course_of b reals' v)
+      goes_through = walkable (course_of b reals' v) fine (sym free ∙ tested)
+
+      pub walk_walkable : Walkable (course_of k.bytes reals' v)
+      walk_walkable = subst (λ (x : List ℕ). Walkable (course_of x reals' v)) (sym k.same) goes_through
 
       along : Along b reals' cells' p.w v.points (path_of b run.leg)
       along = record {
@@ -258,8 +275,11 @@ module _ {b : List ℕ} {p : Plan} {fs : List Float} {us : List ℕ} {reals : Li
         before = omega (arith, path_length, depth_inside, plan.nodes_at);
       }
 
-      pub walk_path : SomePath b reals' cells' p.w v.points
-      walk_path = record { path = path_of b run.leg; along = along }
+      along_bytes : Along k.bytes reals' cells' p.w v.points (path_of b run.leg)
+      along_bytes = subst (λ (x : List ℕ). Along x reals' cells' p.w v.points (path_of b run.leg)) (sym k.same) along
+
+      pub walk_path : SomePath k.bytes reals' cells' p.w v.points
+      walk_path = record { path = path_of b run.leg; along = along_bytes }
 
       runs : RunIn g.counts.nodes run.leg joins front.mover run
       runs = subst (λ (j : ℕ). RunIn g.counts.nodes j joins front.mover run) (sym same_leg) front_in.moves
@@ -269,9 +289,12 @@ module _ {b : List ℕ} {p : Plan} {fs : List Float} {us : List ℕ} {reals : Li
 
       events_are : events_at b (path_of b run.leg) (points_passed (course_of b reals' v)) ≡ leg_events b run.leg
       unfolding leg_events
-      events_are = ap (events_at b (path_of b run.leg)) (passed_alike alike walk_walkable)
+      events_are = ap (events_at b (path_of b run.leg)) (passed_alike alike goes_through)
 
-      outcome_is : unless_bad (some_bad (points_passed (course_of b reals' v))) (run_events p.w.places p.join (events_at b (path_of b run.leg) (points_passed (course_of b reals' v))) (record { net = net; run = run })) ≡ leg_outcome b p.w.places net run
+      abbrev told : List ℕ → Answer Outcome
+      told x = unless_bad (some_bad (points_passed (course_of x reals' v))) (run_events p.w.places p.join (events_at x (path_of b run.leg) (points_passed (course_of x reals' v))) (record { net = net; run = run }))
+
+      outcome_is : told b ≡ leg_outcome b p.w.places net run
       unfolding leg_outcome
       outcome_is =
           ap (λ (x : Float). unless_bad (some_bad (points_passed (course_of b reals' v))) (run_events p.w.places x (events_at b (path_of b run.leg) (points_passed (course_of b reals' v))) (record { net = net; run = run }))) plan.join
@@ -283,9 +306,9 @@ module _ {b : List ℕ} {p : Plan} {fs : List Float} {us : List ℕ} {reals : Li
           as-tested true = refl
           as-tested false = refl
 
-      pub walk_goes : (fs' : List Float) (us' cells'' joins' : List ℕ) (r : Result RunOutcome Refusal)
-          → ((start path : List ℕ) (leg : ℕ) (net : Net) (run : Run) → NetIn p.w start fs us cells' g.counts net → RunIn g.counts.nodes leg joins front.mover run → Along b reals' cells' p.w v.points path
-          → OutcomeAs (unless_bad (some_bad (points_passed (course_of b reals' v))) (run_events p.w.places p.join (events_at b path (points_passed (course_of b reals' v))) (record { net = net; run = run }))) p.w start leg fs' us' cells'' joins' r)
+      pub walk_goes : (fs' : List Float) (us' cells'' : List ℕ) (joins' : List EstJoinPath) (r : Result RunOutcome Refusal)
+          → ((start path : List ℕ) (leg : ℕ) (net : Net) (run : Run) → NetIn p.w start fs us cells' g.counts net → RunIn g.counts.nodes leg joins front.mover run → Along k.bytes reals' cells' p.w v.points path
+          → OutcomeAs (unless_bad (some_bad (points_passed (course_of k.bytes reals' v))) (run_events p.w.places p.join (events_at k.bytes path (points_passed (course_of k.bytes reals' v))) (record { net = net; run = run }))) p.w start leg fs' us' cells'' joins' r)
           → WalkedAs b p run.leg front.depth (leg_outcome b p.w.places net run) reals cells fs' us' reals' cells'' joins' r
       walk_goes fs' us' cells'' joins' r f =
-          walked fs' us' cells'' joins' r (subst (λ (y : Answer Outcome). OutcomeAs y p.w cells' run.leg fs' us' cells'' joins' r) outcome_is (f cells' (path_of b run.leg) run.leg net run grown runs along))
+          walked fs' us' cells'' joins' r (subst (λ (y : Answer Outcome). OutcomeAs y p.w cells' run.leg fs' us' cells'' joins' r) (ap told k.same ∙ outcome_is) (f cells' (path_of b run.leg) run.leg net run grown runs along_bytes))

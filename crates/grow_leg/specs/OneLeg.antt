@@ -5,6 +5,8 @@ use Rattle.laws.specs.Answer.{Answer, refused, given}
 use Rattle.book_format.specs.Format.{legs, leg_parent, leg_link, link_next, link_next_alt}
 use Rattle.book_format.specs.Chains.{Chained}
 use Rattle.event_walk.specs.Walk.{row11}
+use Rattle.net_join_paths.specs.declared.EstJoinPath.{EstJoinPath}
+use Rattle.arrayvec.specs.ArrayVec.{ArrayVec}
 use Rattle.grow_path.specs.Path.{path_of, link_of, leg_course, leg_events}
 use Rattle.grow_path.specs.Kept.{PathIn}
 use Rattle.grow_rules.specs.Run.{Net, Run, Outcome, run_events}
@@ -43,7 +45,7 @@ leg_outcome b places net run = outcome_as (row11 (leg_course b run.leg)) b place
 -- What the walk of a leg leaves, whose number is j and behind whose path's first `depth` legs it is put: the path of
 -- the leg, and what it made of the network. All else in reals and cells is as it was.
 pub record WalkedAs (b : List ℕ) (p : Plan) (j depth : ℕ) (answer : Answer Outcome) (reals : List Float)
-    (cells : List ℕ) (fs : List Float) (us : List ℕ) (reals' : List Float) (cells' joins : List ℕ)
+    (cells : List ℕ) (fs : List Float) (us : List ℕ) (reals' : List Float) (cells' : List ℕ) (joins : List EstJoinPath)
     (r : Result RunOutcome Refusal) : Type 0 where
   pub kept : PathIn b reals' (set cells (depth * 8 + 3) (link_of b j)) (path_of b j)
   pub reals_left : (q : ℕ) → q ≢ depth + 1 → get_or reals' q nan ≡ get_or reals q nan
@@ -72,7 +74,7 @@ pub record SomeEnd (b : List ℕ) (p : Plan) (s : Lists) (g : Rest) (f : Front) 
   pub ends : AtEnd b p s g f net run rest
 
 -- the same, of what a part doesn't look at
-pub record SomeEnding (b : List ℕ) (p : Plan) (reals : List Float) (cells joins : List ℕ) (g : Rest) (f : Front) : Type 0 where
+pub record SomeEnding (b : List ℕ) (p : Plan) (reals : List Float) (cells : List ℕ) (joins : List EstJoinPath) (g : Rest) (f : Front) : Type 0 where
   pub fs : List Float
   pub us : List ℕ
   pub ends : SomeEnd b p (lists fs us reals cells joins) g f
@@ -80,7 +82,7 @@ pub record SomeEnding (b : List ℕ) (p : Plan) (reals : List Float) (cells join
 -- whatever the table, the reals and the join entries are
 pub record SomeLeg (b cells : List ℕ) (p : Plan) (g : Rest) (f : Front) : Type 0 where
   pub reals : List Float
-  pub joins : List ℕ
+  pub joins : List EstJoinPath
   pub plan : PlanIn b p (length reals)
   pub ends : SomeEnding b p reals cells joins g f
 
@@ -88,7 +90,7 @@ pub record SomeLeg (b cells : List ℕ) (p : Plan) (g : Rest) (f : Front) : Type
 pub record SomeFinish (p : Plan) (fs : List Float) (us cells : List ℕ) (g : Rest) (f : Front) : Type 0 where
   pub b : List ℕ
   pub reals : List Float
-  pub joins : List ℕ
+  pub joins : List EstJoinPath
   pub plan : PlanIn b p (length reals)
   pub ends : SomeEnd b p (lists fs us reals cells joins) g f
 
@@ -105,7 +107,7 @@ pub record SomeWay (b : List ℕ) (p : Plan) (s : Lists) (g : Rest) (f : Front) 
   pub free : (l : ℕ) → Free b run rest l
 
 -- whatever the table is
-pub record SomeGoing (b : List ℕ) (p : Plan) (reals : List Float) (cells joins : List ℕ) (g : Rest) (f : Front) : Type 0 where
+pub record SomeGoing (b : List ℕ) (p : Plan) (reals : List Float) (cells : List ℕ) (joins : List EstJoinPath) (g : Rest) (f : Front) : Type 0 where
   pub fs : List Float
   pub us : List ℕ
   pub way : SomeWay b p (lists fs us reals cells joins) g f
@@ -142,19 +144,19 @@ ways_behind b l =
 -- the run at the front finishes, in these cells
 abbrev pub FinishesRun : Plan → Rest → Front → Table → List ℕ → List ℕ → Result State Refusal → Type 0
 FinishesRun p g f t cells cells' r =
-    (b : List ℕ) (reals : List Float) (joins : List ℕ) (net : Net) (run : Run) (rest : List Run)
+    (b : List ℕ) (reals : List Float) (joins : List EstJoinPath) (net : Net) (run : Run) (rest : List Run)
     → PlanIn b p (length reals) → AtEnd b p (lists t.floats t.numbers reals cells joins) g f net run rest
     → TurnedAs (finish_as (bad_finish net run) net run rest) b p (lists t.floats t.numbers reals cells' joins) r
 
 -- it goes on over a link, where nothing is written
 abbrev pub GoesOver : List ℕ → Plan → Rest → Front → List ℕ → ℕ → Result State Refusal → Type 0
 GoesOver b p g f cells link r =
-    (fs : List Float) (us : List ℕ) (reals : List Float) (joins : List ℕ) (net : Net) (run : Run) (rest : List Run)
+    (fs : List Float) (us : List ℕ) (reals : List Float) (joins : List EstJoinPath) (net : Net) (run : Run) (rest : List Run)
     → PlanIn b p (length reals) → AtEnd b p (lists fs us reals cells joins) g f net run rest → Free b run rest link
     → TurnedAs (on_over b net run link rest) b p (lists fs us reals cells joins) r
 
 -- a copy of it is saved to go on over a link
-abbrev pub SavesOver : List ℕ → Plan → Rest → Front → ℕ → Stacks → Stacks → List ℕ → Result Rest Refusal → Type 0
+abbrev pub SavesOver : List ℕ → Plan → Rest → Front → ℕ → Stacks → Stacks → List EstJoinPath → Result Rest Refusal → Type 0
 SavesOver b p g f link s s' joins r =
     (fs : List Float) (us : List ℕ) (net : Net) (run : Run) (rest : List Run)
     → AtEnd b p (lists fs us s.reals s.cells joins) g f net run rest → Free b run rest link
@@ -162,7 +164,7 @@ SavesOver b p g f link s s' joins r =
     link f r
 
 -- it goes on behind its leg
-abbrev pub GoesBehind : List ℕ → Plan → Rest → Front → Stacks → Stacks → List ℕ → Result State Refusal → Type 0
+abbrev pub GoesBehind : List ℕ → Plan → Rest → Front → Stacks → Stacks → List EstJoinPath → Result State Refusal → Type 0
 GoesBehind b p g f s s' joins r =
     (fs : List Float) (us : List ℕ) (net : Net) (run : Run) (rest : List Run)
     → AtEnd b p (lists fs us s.reals s.cells joins) g f net run rest → ((l : ℕ) → Free b run rest l)
@@ -188,6 +190,6 @@ TakesLeg b p g f s s' r =
     → TurnedAs (take_leg b p.w.places net run saved) b p s' r
 
 -- what the slices hold at exit, where the table and the join entries are only read
-abbrev pub lists_saved : Seen (List Float) → Seen (List ℕ) → Lent (List Float) → Lent (List ℕ) → Seen (List ℕ) → Lists
+abbrev pub lists_saved : Seen (List Float) → Seen (List ℕ) → Lent (List Float) → Lent (List ℕ) → Seen (ArrayVec EstJoinPath) → Lists
 lists_saved floats numbers reals cells joins =
-    lists floats.entry.now numbers.entry.now reals.exit.now cells.exit.now joins.entry.now
+    lists floats.entry.now numbers.entry.now reals.exit.now cells.exit.now joins.entry.now.items

@@ -3,25 +3,25 @@
 #![tactic(auto)]
 
 ghost use Rattle.std.specs.Prelude.{◌≡◌, ℕ, ◌%◌, ◌≤◌, ◌<◌, ◌+◌, eqb, length, get_or};
-ghost use Rattle.book_format.specs.Format.{Sized, links};
-ghost use Rattle.book_format.specs.Chains.{Readable};
+ghost use Rattle.book_format.specs.Format.{links};
 ghost use Rattle.book_options.specs.Options.{OptionsIn};
 ghost use Rattle.grow_path.specs.Path.{link_of};
 ghost use Rattle.grow_rules.specs.Growth.{is_destination};
 ghost use Rattle.grow_events.specs.Held.{NotFewer};
 ghost use Rattle.grow_state.specs.Held.{PlanIn, Driving, lists_at_entry, lists_at_exit, lists, with_front};
 ghost use Rattle.net_node.specs.Lent.{table_seen};
-ghost use Rattle.net_stack.specs.Openings.{stack_length};
 ghost use Rattle.grow_waiting.specs.Steps.{stacks_at_entry, stacks_at_exit};
 ghost use Rattle.grow_leg.specs.OneLeg.{SomeFinish, SomeLeg, SomeEnding, SomeWay, SomeGoing, ways_behind};
 ghost use Rattle.grow_leg.specs.OneLeg.{lists_saved};
 ghost use Rattle.grow_leg.specs.OneLeg.{FinishesRun, GoesOver, SavesOver, GoesBehind, EndsLeg};
 ghost use Rattle.grow_leg.specs.OneLeg.{WalksLeg, TakesLeg};
 
-use book_format::Sections;
-use book_legs::Taken;
+use book_format::{Book, ReadableBook};
+use event_walk::Course;
 use grow_events::{Counts, RunOutcome};
 use grow_state::{Front, Plan, Rest, State};
+use net_join_paths::JoinPaths;
+use net_stack::Stack;
 use refusals::Refusal;
 
 // The links over which a run can go on. Of two the alternative is saved.
@@ -32,12 +32,11 @@ pub enum Ways {
 }
 
 // Whether a link is a destination.
-fn is_destination(book: &[u8], s: Sections, link_idx: u32) -> bool
-    requires { Sized book.now s }
+fn is_destination(book: &Book, link_idx: u32) -> bool
     ensures { result ≡ is_destination book.now link_idx }
 {
-    for i in 0..s.destinations {
-        if book_format::destination_link(book, s, i) == link_idx {
+    for i in 0..book.destinations() {
+        if book.destination_link(i) == link_idx {
             return true;
         }
     }
@@ -53,14 +52,13 @@ fn leads_on(marks: &[u32], link_idx: u32) -> bool
 }
 
 // The links over which a run goes on behind a link. Row 9: there are none.
-fn ways_behind(book: &[u8], s: Sections, marks: &[u32], link_idx: u32) -> Result<Ways, Refusal>
-    requires readable { Readable book.now s }
+fn ways_behind(book: &ReadableBook, marks: &[u32], link_idx: u32) -> Result<Ways, Refusal>
     requires options_in { OptionsIn book.now marks.now }
     requires book_in_bounds { links book.now ≤ length marks.now }
     requires link_idx_bound { link_idx < links book.now }
     ensures { result ≡ ways_behind book.now link_idx }
 {
-    let link = book_format::link_at(book, s, link_idx as usize);
+    let link = book.valid().link_at(link_idx as usize);
     if link.idx_next == 0 {
         return Err(Refusal::NoWayOn);
     }
@@ -112,7 +110,7 @@ fn finish_run(
 
 // The run at the front goes on over a link: "The leg is found or the book is refused with 10".
 fn on_over(
-    book: &[u8],
+    book: &ReadableBook,
     cells: &[u32],
     p: Plan,
     g: Rest,
@@ -122,10 +120,7 @@ fn on_over(
     requires { SomeLeg book.now cells.now p g front }
     ensures { GoesOver book.now p g front cells.now link_idx result }
 {
-    let taken = book_legs::take_leg(book, p.s, cells, front.leg, link_idx);
-    let Taken::Leg(leg) = taken else {
-        return Err(Refusal::MissingLeg);
-    };
+    let leg = book_legs::take_leg(book.book(), cells, front.leg, link_idx)?;
     let on = Front {
         leg: leg.number,
         depth: front.depth + 1,
@@ -149,28 +144,23 @@ fn waiting_entries(used: usize, count: usize) -> usize
 // The run at the front goes on over one link, and a copy of it, which has not added, is saved to go on over another.
 // Row 12: the entries of all runs that wait.
 fn save_over(
-    book: &[u8],
+    book: &ReadableBook,
     reals: &mut [f64],
     cells: &mut [u32],
-    joins: &[u32],
+    joins: &JoinPaths,
     p: Plan,
     g: Rest,
     front: Front,
     link_idx: u32,
 ) -> Result<Rest, Refusal>
     requires plan_in { PlanIn book.now p (length reals.old) }
-    requires some_ending { SomeEnding book.now p reals.old cells.old joins.now g front }
-    requires in_bounds { 2048 ≤ length joins.now }
+    requires some_ending { SomeEnding book.now p reals.old cells.old joins.now.items g front }
     ensures { SavesOver book.now p g front link_idx (stacks_at_entry cells reals)
-        (stacks_at_exit cells reals) joins.now result }
+        (stacks_at_exit cells reals) joins.now.items result }
 {
     let r = p.r;
-    let mover = front.mover;
-    let taken = book_legs::take_leg(book, p.s, cells, front.leg, link_idx);
-    let Taken::Leg(leg) = taken else {
-        return Err(Refusal::MissingLeg);
-    };
-    let used = waiting_entries(g.used, mover.count);
+    let leg = book_legs::take_leg(book.book(), cells, front.leg, link_idx)?;
+    let used = waiting_entries(g.used, joins.len());
     if r.places < used {
         return Err(Refusal::NoPlace);
     }
@@ -180,11 +170,10 @@ fn save_over(
         r,
         g.top,
         g.used,
-        mover.place,
+        front.mover.place,
         leg.number,
         front.depth + 1,
         joins,
-        mover.count,
     );
     Ok(Rest {
         top: leg.number,
@@ -195,11 +184,11 @@ fn save_over(
 
 // The run at the front has done its leg and goes on.
 fn go_on(
-    book: &[u8],
+    book: &ReadableBook,
     reals: &mut [f64],
     cells: &mut [u32],
     marks: &[u32],
-    joins: &[u32],
+    joins: &JoinPaths,
     p: Plan,
     g: Rest,
     front: Front,
@@ -208,13 +197,12 @@ fn go_on(
     requires plan_in { PlanIn book.now p (length reals.old) }
     requires options_in { OptionsIn book.now marks.now }
     requires book_in_bounds { links book.now ≤ length marks.now }
-    requires some_going { SomeGoing book.now p reals.old cells.old joins.now g front }
+    requires some_going { SomeGoing book.now p reals.old cells.old joins.now.items g front }
     requires link_idx_value { link_idx ≡ link_of book.now front.leg }
-    requires in_bounds { 2048 ≤ length joins.now }
     ensures { GoesBehind book.now p g front (stacks_at_entry cells reals) (stacks_at_exit cells reals)
-        joins.now result }
+        joins.now.items result }
 {
-    let ways = ways_behind(book, p.s, marks, link_idx)?;
+    let ways = ways_behind(book, marks, link_idx)?;
     match ways {
         Ways::One(next) => on_over(book, cells, p, g, front, next),
         Ways::Both(next, alt) => {
@@ -227,13 +215,13 @@ fn go_on(
 // What becomes of the run at the front, which has done its leg: "A run finishes in the leg whose link is a destination,
 // never in its first leg."
 fn end_leg(
-    book: &[u8],
+    book: &ReadableBook,
     floats: &[f64],
     numbers: &[u32],
     reals: &mut [f64],
     cells: &mut [u32],
     marks: &[u32],
-    joins: &[u32],
+    joins: &JoinPaths,
     p: Plan,
     g: Rest,
     front: Front,
@@ -241,57 +229,56 @@ fn end_leg(
     requires plan_in { PlanIn book.now p (length reals.old) }
     requires options_in { OptionsIn book.now marks.now }
     requires book_in_bounds { links book.now ≤ length marks.now }
-    requires some_way { SomeWay book.now p (lists floats.now numbers.now reals.old cells.old joins.now) g front }
-    requires in_bounds { 2048 ≤ length joins.now }
-    ensures { EndsLeg book.now p g front (lists floats.now numbers.now reals.old cells.old joins.now)
+    requires some_way { SomeWay book.now p (lists floats.now numbers.now reals.old cells.old joins.now.items) g front }
+    ensures { EndsLeg book.now p g front (lists floats.now numbers.now reals.old cells.old joins.now.items)
         (lists_saved floats numbers reals cells joins) result }
 {
-    let s = p.s;
-    let leg = book_format::leg_at(book, s, front.leg as usize - 1);
-    let here = is_destination(book, s, leg.link_idx);
+    let rows = book.book();
+    let leg = rows.leg_at(front.leg as usize - 1);
+    let here = is_destination(rows, leg.link_idx);
     if here & (0 < leg.parent) {
         return finish_run(floats, numbers, cells, p, g, front);
     }
-    go_on(
-        book, reals, cells, marks, joins, p, g, front, leg.link_idx,
-    )
+    go_on(book, reals, cells, marks, joins, p, g, front, leg.link_idx)
 }
 
 // The events of the leg of the run at the front, behind its path: one after the other, unless row 11 refuses them.
 fn walk_leg(
-    book: &[u8],
+    book: &ReadableBook,
     floats: &mut [f64],
     numbers: &mut [u32],
     reals: &mut [f64],
     cells: &mut [u32],
-    joins: &mut [u32],
-    scratch: &mut [u32],
-    stack: &mut [u32],
+    joins: &mut JoinPaths,
+    scratch: &mut JoinPaths,
+    stack: &mut Stack,
     p: Plan,
     g: Rest,
     front: Front,
 ) -> Result<RunOutcome, Refusal>
     requires plan_in { PlanIn book.now p (length reals.old) }
-    requires driving { Driving book.now p (lists floats.old numbers.old reals.old cells.old joins.old)
+    requires driving { Driving book.now p (lists floats.old numbers.old reals.old cells.old joins.old.items)
         (with_front g front) }
-    requires in_bounds { 2048 ≤ length joins.old }
-    requires in_bounds_2 { 2048 ≤ length scratch.old }
-    requires stack_length_in_bounds { stack_length ≤ length stack.old }
     ensures walked { WalksLeg book.now p g front (lists_at_entry floats numbers reals cells joins)
         (lists_at_exit floats numbers reals cells joins) result }
     ensures more { NotFewer g.counts result }
 {
-    let s = p.s;
-    let leg = book_format::leg_at(book, s, front.leg as usize - 1);
+    let rows = book.book();
+    let leg = rows.leg_at(front.leg as usize - 1);
     let taken = book_legs::leg_samples(cells, front.leg);
-    grow_path::extend_path(book, s, reals, cells, front.depth, leg.link_idx);
-    let v = grow_path::movement_of(s, taken, front.depth + 1, p.length);
-    if event_walk::reaches_last(book, reals, v) {
+    grow_path::extend_path(book, reals, cells, front.depth, leg.link_idx);
+    let samples = rows.bytes();
+    let movement = grow_path::movement_of(rows, taken, front.depth + 1, p.length);
+    if event_walk::reaches_last(samples, reals, movement) {
         return Err(Refusal::BadEvent);
     }
+    let course = Course {
+        samples,
+        offsets: reals,
+        movement,
+    };
     grow_events::run_events(
-        book,
-        reals,
+        &course,
         floats,
         numbers,
         cells,
@@ -300,7 +287,6 @@ fn walk_leg(
         joins,
         scratch,
         stack,
-        v,
         g.counts,
         front.mover,
     )
@@ -308,15 +294,15 @@ fn walk_leg(
 
 // The run at the front takes its leg.
 pub fn turn(
-    book: &[u8],
+    book: &ReadableBook,
     floats: &mut [f64],
     numbers: &mut [u32],
     reals: &mut [f64],
     cells: &mut [u32],
     marks: &[u32],
-    joins: &mut [u32],
-    scratch: &mut [u32],
-    stack: &mut [u32],
+    joins: &mut JoinPaths,
+    scratch: &mut JoinPaths,
+    stack: &mut Stack,
     p: Plan,
     g: Rest,
     front: Front,
@@ -324,11 +310,8 @@ pub fn turn(
     requires plan_in { PlanIn book.now p (length reals.old) }
     requires options_in { OptionsIn book.now marks.now }
     requires book_in_bounds { links book.now ≤ length marks.now }
-    requires driving { Driving book.now p (lists floats.old numbers.old reals.old cells.old joins.old)
+    requires driving { Driving book.now p (lists floats.old numbers.old reals.old cells.old joins.old.items)
         (with_front g front) }
-    requires in_bounds { 2048 ≤ length joins.old }
-    requires in_bounds_2 { 2048 ≤ length scratch.old }
-    requires stack_length_in_bounds { stack_length ≤ length stack.old }
     ensures { TakesLeg book.now p g front (lists_at_entry floats numbers reals cells joins)
         (lists_at_exit floats numbers reals cells joins) result }
 {

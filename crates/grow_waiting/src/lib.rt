@@ -20,7 +20,8 @@ pub struct Rooms {
     pub places: usize,
 }
 
-// A run that is taken up again: its place, its leg, how many legs it has taken, and the leg of the run saved before it.
+// A run that is taken up again: its place, its leg, how many legs it has taken, and the leg of the run saved before it, 0
+// for none as the cells hold it.
 #[derive(Clone, Copy)]
 pub struct Popped {
     pub place: Place,

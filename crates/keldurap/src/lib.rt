@@ -9,73 +9,32 @@ ghost use Rattle.report.specs.Numbers.{report_in};
 ghost use Rattle.root.specs.Root.{sqrt};
 ghost use Rattle.space.specs.Lent.{work_at_entry, work_at_exit};
 ghost use Rattle.net_node.specs.Lent.{lent_at_entry, lent_at_exit, table_seen};
-ghost use Rattle.book_reader.specs.Reader.{Checked};
-ghost use Rattle.event_maker.specs.Maker.{lent_leg, list_at_entry, list_at_exit, made_number, made_count};
-ghost use Rattle.pass_table.specs.TableEntry.{table_number, table_nodes};
-ghost use Rattle.listing.specs.Listing.{sheet_in, listed_number, listed_length};
-ghost use Rattle.keldurap.specs.Entries.{EventsGiven, TimesGiven, NetworkGiven, SheetGiven, ListingGiven};
+ghost use Rattle.refusals.specs.Refusals.{told};
+ghost use Rattle.event_maker.specs.Maker.{lent_leg, list_at_entry, list_at_exit};
+ghost use Rattle.listing.specs.Listing.{sheet_in, listed_number};
+ghost use Rattle.keldurap.specs.Entries.{count_told, BookChecked, EventsGiven, TimesGiven, NetworkGiven, SheetGiven, ListingGiven};
 
-use event_maker::Made;
-use listing::Listed;
-use pass_table::TimedTable;
+use listing::ListingError;
+use refusals::Refusal;
+use report::Report;
 
 // ---- an answer's number, and what is told beside it
 
-fn made_number(answer: Made) -> u32
-    ensures { result ≡ made_number answer }
+// How many events or nodes an answer has, none for a refusal.
+fn told_count(answer: Result<usize, Refusal>) -> u32
+    requires { count_told (told answer) ≤ 4294967295 }
+    ensures { result ≡ count_told (told answer) }
 {
-    match answer {
-        Made::Listed(_) => 0,
-        Made::Refused(k) => k,
-    }
+    answer.unwrap_or(0) as u32
 }
 
-fn made_count(answer: Made) -> u32
-    requires { made_count answer ≤ 4294967295 }
-    ensures { result ≡ made_count answer }
-{
-    match answer {
-        Made::Listed(n) => n as u32,
-        Made::Refused(_) => 0,
-    }
-}
-
-fn timed_number(answer: TimedTable) -> u32
-    ensures { result ≡ table_number answer }
-{
-    match answer {
-        TimedTable::Whole(_) => 0,
-        TimedTable::Refused(k) => k,
-    }
-}
-
-fn timed_nodes(answer: TimedTable) -> u32
-    requires { table_nodes answer ≤ 4294967295 }
-    ensures { result ≡ table_nodes answer }
-{
-    match answer {
-        TimedTable::Whole(n) => n as u32,
-        TimedTable::Refused(_) => 0,
-    }
-}
-
-fn listed_number(answer: Listed) -> u32
+// The number of a listing's answer: 0 where there is one.
+fn listed_number(answer: Result<usize, ListingError>) -> u32
     ensures { result ≡ listed_number answer }
 {
     match answer {
-        Listed::Bytes(_) => 0,
-        Listed::Short => 101,
-        Listed::Unfilled => 102,
-    }
-}
-
-fn listed_length(answer: Listed) -> usize
-    ensures { result ≡ listed_length answer }
-{
-    match answer {
-        Listed::Bytes(n) => n,
-        Listed::Short => 0,
-        Listed::Unfilled => 0,
+        Ok(_) => 0,
+        Err(error) => error.into(),
     }
 }
 
@@ -98,10 +57,10 @@ pub extern "C" fn keldurap_raw_check_book(
     cells: &mut [u32],
     marks: &mut [u32],
 ) -> u32
-    ensures { Checked book.now places (work_at_entry reals cells marks)
+    ensures { BookChecked book.now places (work_at_entry reals cells marks)
         (work_at_exit reals cells marks) result }
 {
-    book_reader::check_book(book, places, reals, cells, marks)
+    refusals::number_of(book_reader::check_book(book, places, reals, cells, marks))
 }
 
 // The events of one leg, into a list that is lent in two slices: 0 and how many there are, or the number of a refusal.
@@ -119,8 +78,8 @@ pub extern "C" fn keldurap_raw_make_events(
         (list_at_entry floats numbers) (list_at_exit floats numbers) count.new result }
 {
     let made = event_maker::make_events(train_length, samples, offsets, links, floats, numbers);
-    *count = made_count(made);
-    made_number(made)
+    *count = told_count(made);
+    refusals::number_of(made)
 }
 
 // Checks and times a lent node table of as many nodes as both slices fill: 0 and how many there are, or the number of a
@@ -140,8 +99,8 @@ pub extern "C" fn keldurap_raw_update_times(
         (lent_at_exit floats numbers reals cells marks) departure nodes.new result }
 {
     let timed = pass_table::update_times(floats, numbers, departure, reals, cells, marks);
-    *nodes = timed_nodes(timed);
-    timed_number(timed)
+    *nodes = told_count(timed);
+    refusals::number_of(timed)
 }
 
 // The network of a book before its times are known, for tests: 0 and the report's five numbers, or the number of a
@@ -160,7 +119,7 @@ pub extern "C" fn keldurap_raw_grow_network(
         (lent_at_exit floats numbers reals cells marks) report.new result }
 {
     let grown = grow_for_tests::grow_network(book, floats, numbers, reals, cells, marks);
-    report::write_report(grown.unwrap_or(report::no_report()), report);
+    *report = grown.unwrap_or_default().into();
     refusals::number_of(grown)
 }
 
@@ -180,7 +139,7 @@ pub extern "C" fn keldurap_raw_make_est_times(
         (lent_at_exit floats numbers reals cells marks) report.new result }
 {
     let sheet = est_times::make_est_times(book, floats, numbers, reals, cells, marks);
-    report::write_report(sheet.unwrap_or(report::no_report()), report);
+    *report = sheet.unwrap_or_default().into();
     refusals::number_of(sheet)
 }
 
@@ -197,7 +156,7 @@ pub extern "C" fn keldurap_raw_list_sheet(
     ensures { ListingGiven (sheet_in (report_in report.now) (table_seen floats numbers))
         out.old out.new text_length.new result }
 {
-    let listed = listing::list_sheet(floats, numbers, report::read_report(report), out);
-    *text_length = listed_length(listed);
+    let listed = listing::list_sheet(floats, numbers, Report::from(*report), out);
+    *text_length = listed.unwrap_or(0);
     listed_number(listed)
 }

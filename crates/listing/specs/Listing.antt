@@ -148,10 +148,13 @@ pub record TextListed (text : Option (List ℕ)) (lent left : List ℕ) (r : Res
 
 -- what a function for other languages says of an answer: a number, 0 where the text stands in the slice, else one that
 -- no refusal has (those of documents 01 and 02 end at 24)
+abbrev pub error_number : ListingError → ℕ
+error_number Short = 101
+error_number Unfilled = 102
+
 abbrev pub listed_number : Result ℕ ListingError → ℕ
 listed_number (Ok n) = 0
-listed_number (Err Short) = 101
-listed_number (Err Unfilled) = 102
+listed_number (Err e) = error_number e
 
 -- and the text's length
 abbrev pub listed_length : Result ℕ ListingError → ℕ

@@ -26,6 +26,21 @@ pub enum ListingError {
     Unfilled,
 }
 
+// What functions for other languages tell of it: a number that no refusal has.
+impl From<ListingError> for u32 {
+    ghost use Rattle.std.specs.Prelude.{◌≡◌};
+    ghost use Rattle.listing.specs.Listing.{error_number};
+
+    ghost from_gives = { λ e n. n ≡ error_number e };
+
+    fn from(error: ListingError) -> u32 {
+        match error {
+            ListingError::Short => 101,
+            ListingError::Unfilled => 102,
+        }
+    }
+}
+
 // Where the next byte of a text goes; `None` where the text has not fitted. `write!` would tell nothing of when it fails,
 // and a listing's promise says exactly when, so fields are put by hand.
 type Place = Option<usize>;

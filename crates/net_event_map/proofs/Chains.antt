@@ -40,7 +40,7 @@ unfolding clear_at
 clear_real l = tt
 
 -- a Fake isn't one
-pub fake_real : {A : Type 0} (k : EstType) → k ≡ Fake → RealKind k → A
+fake_real : {A : Type 0} (k : EstType) → k ≡ Fake → RealKind k → A
 fake_real k e r = absurd (subst RealKind e r)
 
 -- ---- all nodes of an event, and whether there is one
@@ -328,14 +328,6 @@ module _ {c : List ℕ} {w : Layout} {node : ℕ → EstTime} {i : ℕ} (l to : 
       go : (get_or c at 0 ≡ 0) ⊎ (get_or c at 0 ≡ 0 → ⊥) → Mapped d w node (i + 1)
       go (inl z) = arrived_first z (f z)
       go (inr z) = let h : 0 < get_or c at 0 = omega arith in arrived_behind h (g h)
-
-pub open_inside : {c : List ℕ} {w : Layout} (l to : ℕ) → CellsApart c w → l < w.links → get_or c (w.links_at + l * 8 + 1) 0 < w.places → (get_or c (w.links_at + l * 8) 0 ≡ 0 → to ≡ w.links_at + l * 8)
-    → (0 < get_or c (w.links_at + l * 8) 0 → to ≡ w.nodes_at + get_or c (w.links_at + l * 8 + 1) 0 * 8) → to < length c
-open_inside {c} {w} l to p b m f g = go (equal_or_not (get_or c (w.links_at + l * 8) 0) 0)
-  where
-    go : (get_or c (w.links_at + l * 8) 0 ≡ 0) ⊎ (get_or c (w.links_at + l * 8) 0 ≡ 0 → ⊥) → to < length c
-    go (inl z) = omega (arith, f z, p.links_inside)
-    go (inr z) = let h : 0 < get_or c (w.links_at + l * 8) 0 = omega arith in omega (arith, g h, p.nodes_inside)
 
 -- ---- the other cells
 

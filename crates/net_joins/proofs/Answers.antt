@@ -20,7 +20,6 @@ use Rattle.net_node.specs.Table.{Indexed}
 use Rattle.net_event_map.specs.declared.Layout.{Layout}
 use Rattle.net_event_map.specs.EventMap.{seen_in, event_nodes, arrive_at, CellsApart, Mapped}
 use Rattle.net_event_map.proofs.Chains.{arrive_is}
-use Rattle.net_event_map.proofs.Kept.{apart_same}
 use Rattle.net_join_paths.specs.declared.EstJoinPath.{EstJoinPath}
 use Rattle.net_join_paths.specs.Entries.{EntriesAs, Valid}
 use Rattle.net_stack.specs.Stack.{is_arrive}
@@ -30,16 +29,13 @@ use Rattle.net_joins.specs.declared.SpeedJoin.{SpeedJoin}
 use Rattle.net_joins.specs.declared.Step.{Step}
 use Rattle.net_joins.specs.Joins.{closest, appended_all, appended, rebuilt, JoinStep, Beyond, step_with, joins_if, chosen_as, chosen, join_step, StepAs}
 use Rattle.net_joins.specs.Marks.{marks, NamesMarked, Chain, Ending, MapWalkable}
-use Rattle.net_joins.proofs.Marking.{length_marks, next_stays, first_stays, marked_all, marks_back}
+use Rattle.net_joins.proofs.Marking.{next_stays, first_stays, marked_all, marks_back}
 use Rattle.net_joins.proofs.Appending.{map_chain}
 
 -- ---- the append
 
 -- the cells while the nodes of a list are marked
 module _ {c : List ℕ} {w : Layout} {es : List EstJoinPath} (p : CellsApart c w) (v : Valid es w.places) (d : List ℕ) (e : d ≡ marks w.nodes_at 1 es c) where
-  pub while_apart : CellsApart d w
-  while_apart = subst (λ (q : List ℕ). CellsApart q w) (sym e) (apart_same (length_marks w.nodes_at 1 es c) p)
-
   pub while_chain : (node : ℕ → EstTime) (n l : ℕ) → n ≤ w.places → Mapped c w node n → l < w.links → Chain d w (get_or d (w.links_at + l * 8) 0) (event_nodes node (arrive_at l) n)
   while_chain node n l m x b =
       subst (λ (q : List ℕ). Chain q w (get_or q (w.links_at + l * 8) 0) (event_nodes node (arrive_at l) n)) (sym e)

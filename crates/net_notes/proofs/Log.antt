@@ -279,15 +279,6 @@ module _ {w : Layout} {entry cells : List ℕ} {count k : ℕ} (apart : CellsApa
           ∙ sym (ap (λ (p : ℕ). get_or cells₀ p 0) (e ∙ head w) ∙ u.name 0 (omega (arith, log.fits)))
       go q (inr n) = get_or-set_other cells (w.nodes_at + 1) q 0 0 n ∙ f.back cells₀ u t q (record { head = λ e. n (e ∙ sym (head w)); names = λ j a b. absurd (omega (arith, h, a, b)); notes = λ j a b. absurd (omega (arith, h, a, b)) })
 
--- ---- at the start nothing is noted
-
-pub touched_none : {cells : List ℕ} {w : Layout} → 0 < w.places → Ungiven cells w → Touched w cells cells
-touched_none {cells} {w} h u =
-    let z : get_or cells (w.nodes_at + 0 * 8 + 1) 0 ≡ 0 = u.name 0 h in record {
-      log = record { fits = omega (arith, z); names = λ k a b. absurd (omega (arith, z)) };
-      elsewhere = λ q f g. refl;
-    }
-
 -- ---- what a cell says that is not 0
 
 -- what a cell says holds of the span that it has

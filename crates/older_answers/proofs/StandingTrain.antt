@@ -25,7 +25,6 @@ use Rattle.event_walk.specs.declared.Heads.{Heads}
 use Rattle.event_walk.specs.declared.PassedPoint.{PassedPoint}
 use Rattle.event_walk.specs.Course.{Course}
 use Rattle.event_walk.specs.Walk.{start, offset_next, clears_next, emits, turn, passed_as, passed_next, walk, passed_from, turns_left, points_passed, reaches_last, bad_point, some_bad, row11}
-use Rattle.event_maker.specs.declared.Made.{Made}
 use Rattle.event_maker.specs.Maker.{bad_counts, bad_floats, falling, rows_to11, maker_rows, short_number, answered, answer_of}
 use Rattle.net_node.specs.declared.TimedEvent.{TimedEvent}
 use Rattle.net_node.specs.Table.{Table}
@@ -98,7 +97,7 @@ pub maker_kept : (c : Course) (samples : List ℕ) (places : ℕ) → KeptMade (
 unfolding older_made answer_of maker_rows first_of
 maker_kept c samples places = ⊎_elim bad good (true_or_false (older_row11 c))
   where
-    made : Bool → List PassedPoint → Made
+    made : Bool → List PassedPoint → Answer ℕ
     made eleven ps = answered (first_of (rows_to11 (bad_counts c) (bad_floats c samples) (falling c) eleven ++ row short_number (ltb places (length ps)) ∷ [])) (length ps)
 
     -- a number that comes before 11 comes before it still

@@ -14,8 +14,6 @@ use Rattle.event_walk.specs.declared.PassedPoint.{PassedPoint}
 use Rattle.event_walk.specs.Course.{Course}
 use Rattle.event_walk.specs.Walk.{start, offset_next, clears_next, emits, turn, passed_as, turns_left}
 use Rattle.event_walk.specs.Walk.{reaches_last, some_bad, bad_leg_number}
-use Rattle.event_maker.specs.declared.Made.{Made}
-use Rattle.event_maker.specs.declared.Made.TheVariants.{Refused}
 use Rattle.event_maker.specs.Maker.{bad_counts, bad_floats, falling, rows_to11, short_number, answered}
 use Rattle.net_node.specs.declared.TimedEvent.{TimedEvent}
 use Rattle.net_node.specs.Table.{Table}
@@ -63,7 +61,7 @@ unfolding older_points reaches_last some_bad
 older_row11 c = reaches_last c || some_bad (older_points c)
 
 -- what the event maker answers
-unfoldable pub older_made : Course → List ℕ → ℕ → Made
+unfoldable pub older_made : Course → List ℕ → ℕ → Answer ℕ
 unfolding older_row11 bad_counts bad_floats falling first_of
 older_made c samples places =
     answered (first_of (rows_to11 (bad_counts c) (bad_floats c samples) (falling c) (older_row11 c)
@@ -122,5 +120,5 @@ abbrev pub Kept : {A : Type 0} → Answer A → Answer A → Type 0
 Kept older newer = KeptBut (refused bad_leg_number) older newer
 
 -- of an event list
-abbrev pub KeptMade : Made → Made → Type 0
-KeptMade older newer = KeptBut (Refused bad_leg_number) older newer
+abbrev pub KeptMade : Answer ℕ → Answer ℕ → Type 0
+KeptMade older newer = KeptBut (refused bad_leg_number) older newer

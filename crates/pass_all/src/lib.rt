@@ -64,13 +64,15 @@ pub fn run_passes(
         return Err(Refusal::BadLinks);
     }
     let (timed, passed) = cells[..n * 2].split_at_mut(n);
-    pass_forward::update_times_forward(floats, numbers, n, departure, timed, reals, marks)
-        .ok_or(Refusal::NotTimed)?;
+    pass_forward::update_times_forward(floats, numbers, n, departure, timed, reals, marks).ok_or(
+        Refusal::NotTimed,
+    )?;
     if some_left(timed) {
         return Err(Refusal::NotTimed);
     }
-    pass_backward::update_times_backward(floats, numbers, n, passed, reals, marks)
-        .ok_or(Refusal::NotTimed)?;
+    pass_backward::update_times_backward(floats, numbers, n, passed, reals, marks).ok_or(
+        Refusal::NotTimed,
+    )?;
     if some_left(passed) {
         return Err(Refusal::NotTimed);
     }

@@ -32,14 +32,7 @@ pub trait Links: Order {
         ensures { result ≡ end_of Self.backward n };
 
     // A node exchanges links with the base of the join or split that is reached.
-    fn swap(
-        floats: &mut [f64],
-        numbers: &mut [u32],
-        n: usize,
-        curr: u32,
-        save: u32,
-        found: u32,
-    )
+    fn swap(floats: &mut [f64], numbers: &mut [u32], n: usize, curr: u32, save: u32, found: u32)
         requires room { Room floats.old numbers.old n }
         requires inside { Inside (node_at floats.old numbers.old) n }
         requires curr_lt_n { curr < n }
@@ -67,14 +60,7 @@ impl Links for Forward {
     }
 
     // The node and the base of the join exchange their nexts.
-    fn swap(
-        floats: &mut [f64],
-        numbers: &mut [u32],
-        _n: usize,
-        curr: u32,
-        save: u32,
-        found: u32,
-    ) {
+    fn swap(floats: &mut [f64], numbers: &mut [u32], _n: usize, curr: u32, save: u32, found: u32) {
         let base = net_node::load(floats, numbers, found as usize).idx_prev;
         net_node::set_next(floats, numbers, curr as usize, found);
         net_node::set_next(floats, numbers, base as usize, save);
@@ -101,14 +87,7 @@ impl Links for Backward {
     }
 
     // The node and the base of the split exchange their previous, and time and distance to next go along.
-    fn swap(
-        floats: &mut [f64],
-        numbers: &mut [u32],
-        _n: usize,
-        curr: u32,
-        save: u32,
-        found: u32,
-    ) {
+    fn swap(floats: &mut [f64], numbers: &mut [u32], _n: usize, curr: u32, save: u32, found: u32) {
         let base = net_node::load(floats, numbers, found as usize).idx_next;
         net_node::set_prev(floats, numbers, curr as usize, found);
         net_node::set_prev(floats, numbers, base as usize, save);
@@ -133,7 +112,7 @@ impl Links for Backward {
     }
 }
 
-// The checks of a node by itself.
+// The checks of a node by itself. `&` and `|` here and below, not `&&` and `||`: no branch for a test.
 #[tactic(auto, using(crate::proofs::Held::differ_is), unfolding(crate::specs::Checks::prev_holds, crate::specs::Checks::next_holds, crate::specs::Checks::fake_holds))]
 fn own_links_hold(here: EstTime, n: usize, i: usize) -> bool
     requires { i < n }
@@ -209,13 +188,7 @@ pub fn checks_fail(floats: &[f64], numbers: &[u32], n: usize) -> bool
 
 // Whether a node is a Fake that leads to a node which is neither done nor the walk's end. A node is done (timed
 // forward, passed backward) whose flag is set.
-fn is_passable<L: Links>(
-    floats: &[f64],
-    numbers: &[u32],
-    flags: &[u32],
-    n: usize,
-    i: u32,
-) -> bool
+fn is_passable<L: Links>(floats: &[f64], numbers: &[u32], flags: &[u32], n: usize, i: u32) -> bool
     requires room { Room floats.now numbers.now n }
     requires inside { Inside (node_at floats.now numbers.now) n }
     requires n_in_bounds { n ≤ length flags.now }

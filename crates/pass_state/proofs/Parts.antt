@@ -1,5 +1,5 @@
 -- A turn of either pass out of its parts: a relink, a strand, and what becomes of the node that it ends on.
-use mathlib.Core.Path.{◌≡◌, refl, ap, ◌∙◌, subst}
+use mathlib.Core.Path.{◌≡◌, refl, ap, ◌∙◌}
 use mathlib.Core.Bool.{Bool, true, false}
 use mathlib.Core.List.{List}
 use Prim.Native.Nat.{ℕ, ◌+◌, ◌-◌, ◌<◌}
@@ -9,7 +9,7 @@ use Rattle.std.specs.Prelude.{Option, Some, None}
 use Rattle.laws.specs.Answer.{Answer, refused, given, and_then}
 use Rattle.pass_rules.specs.Net.{asserting, Pass}
 use Rattle.pass_state.specs.declared.Stand.{Stand}
-use Rattle.pass_state.specs.Held.{PassSlices, slices, left, PassIn, Working, Standing, Gives, PassAs, StandsBy, StandsAs, FindsBy}
+use Rattle.pass_state.specs.Held.{PassSlices, slices, left, PassIn, Working, Standing, Gives, PassAs, StandsAs, FindsBy}
 use Rattle.pass_state.proofs.Kept.{works, pass_after}
 
 pub record Parts : Type 1 where
@@ -23,12 +23,12 @@ pub record Parts : Type 1 where
 
 module _ (w : Parts) {backward : Bool} {n : ℕ} {held : PassSlices} {count : ℕ} (o : Working backward n held count (n - 2)) (curr : ℕ) {gs : List Float} {vs : List ℕ} where
   -- the relink fails
-  pub turn_endless : 
+  pub turn_endless :
       ((p : Pass) (qs : List Float) (ms : List ℕ) (count most : ℕ) → PassIn backward n (slices held.floats held.numbers held.flags qs ms) count most p
       → FindsBy (w.relink p) (w.form curr) backward n (slices gs vs held.flags qs ms) count most (left p.done n + 1) None) → (p : Pass) → PassIn backward n held count (n - 2) p → PassAs (w.turn p) backward n (slices gs vs held.flags held.times held.nodes) (n - 1) (left p.done n) None
   turn_endless a p v = record { told = w.is p ∙ ap (λ (x : Answer w.A). and_then x (λ (b : w.A). and_then (w.strand b) w.settle)) (a p held.times held.nodes count (n - 2) v) }
 
-  module _ {found : ℕ} 
+  module _ {found : ℕ}
       (a : (p : Pass) (qs : List Float) (ms : List ℕ) (count most : ℕ) → PassIn backward n (slices held.floats held.numbers held.flags qs ms) count most p
       → FindsBy (w.relink p) (w.form curr) backward n (slices gs vs held.flags qs ms) count most (left p.done n + 1) (Some found)) where
     found_by : (p : Pass) → PassIn backward n held count (n - 2) p
@@ -43,12 +43,12 @@ module _ (w : Parts) {backward : Bool} {n : ℕ} {held : PassSlices} {count : �
 
     module _ {held₁ : PassSlices} where
       -- the strand fails
-      pub turn_falls : 
+      pub turn_falls :
           ((p : Pass) → PassIn backward n (slices gs vs held.flags held.times held.nodes) count (n - 2) p
           → StandsAs (w.strand (w.form curr found p)) w.form backward n held₁ (n - 2) (left p.done n) None) → (p : Pass) → PassIn backward n held count (n - 2) p → PassAs (w.turn p) backward n held₁ (n - 1) (left p.done n) None
       turn_falls b p v = let g = (found_by p v).0 in record { told = turn_then p v ∙ ap (λ (x : Answer w.A). and_then x w.settle) (b g.pass g.holds).told }
 
-      module _ {at : Stand} 
+      module _ {at : Stand}
           (b : (p : Pass) → PassIn backward n (slices gs vs held.flags held.times held.nodes) count (n - 2) p
           → StandsAs (w.strand (w.form curr found p)) w.form backward n held₁ (n - 2) (left p.done n) (Some at)) where
         pub stood : Standing backward n held₁ at

@@ -35,13 +35,7 @@ fn is_done(flags: &[u32], i: u32) -> bool
 }
 
 // A node is done, at this time.
-pub fn set_done(
-    floats: &mut [f64],
-    numbers: &mut [u32],
-    flags: &mut [u32],
-    i: u32,
-    time: f64,
-)
+pub fn set_done(floats: &mut [f64], numbers: &mut [u32], flags: &mut [u32], i: u32, time: f64)
     requires float_width_in_bounds { i * float_width + float_width ≤ length floats.old }
     requires number_width_in_bounds { i * number_width + number_width ≤ length numbers.old }
     requires i_in_bounds { i < length flags.old }
@@ -89,13 +83,7 @@ pub trait TimePass: Links {
         ensures { result ≡ end_entry Self.backward node ahead i less };
 
     // Node i, before which the network ends, is done at this time.
-    fn finish(
-        floats: &mut [f64],
-        numbers: &mut [u32],
-        flags: &mut [u32],
-        i: u32,
-        time: f64,
-    )
+    fn finish(floats: &mut [f64], numbers: &mut [u32], flags: &mut [u32], i: u32, time: f64)
         requires float_width_in_bounds { i * float_width + float_width ≤ length floats.old }
         requires number_width_in_bounds { i * number_width + number_width ≤ length numbers.old }
         requires i_in_bounds { i < length flags.old }
@@ -126,13 +114,7 @@ impl TimePass for Forward {
         }
     }
 
-    fn finish(
-        floats: &mut [f64],
-        numbers: &mut [u32],
-        flags: &mut [u32],
-        i: u32,
-        time: f64,
-    ) {
+    fn finish(floats: &mut [f64], numbers: &mut [u32], flags: &mut [u32], i: u32, time: f64) {
         set_done(floats, numbers, flags, i, time);
     }
 }
@@ -160,13 +142,7 @@ impl TimePass for Backward {
     }
 
     // The first node too.
-    fn finish(
-        floats: &mut [f64],
-        numbers: &mut [u32],
-        flags: &mut [u32],
-        i: u32,
-        time: f64,
-    ) {
+    fn finish(floats: &mut [f64], numbers: &mut [u32], flags: &mut [u32], i: u32, time: f64) {
         set_done(floats, numbers, flags, i, time);
         set_done(floats, numbers, flags, 0, time);
     }
@@ -244,9 +220,7 @@ fn step<P: TimePass>(
     ensures { StandsTo (lent floats numbers flags times nodes) P.backward n at.count
         (stepping P.backward less at.curr at.ahead) (standing P.backward less) result }
 {
-    let count = alternate::<P>(
-        floats, numbers, n, flags, times, nodes, at.count, at.curr,
-    )?;
+    let count = alternate::<P>(floats, numbers, n, flags, times, nodes, at.count, at.curr)?;
     if is_done(flags, at.ahead) {
         return None;
     }
@@ -375,16 +349,7 @@ pub fn turns<P: TimePass>(
     let mut queued = count;
     while 0 < queued {
         let e = pass_queue::pop::<P>(times, nodes, queued);
-        queued = turn::<P>(
-            floats,
-            numbers,
-            n,
-            flags,
-            times,
-            nodes,
-            queued - 1,
-            e,
-        )?;
+        queued = turn::<P>(floats, numbers, n, flags, times, nodes, queued - 1, e)?;
     }
     Some(())
 }

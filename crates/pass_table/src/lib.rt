@@ -28,7 +28,7 @@ fn size_refused(n: usize, units: usize) -> bool
     units < 576 + n
 }
 
-// Row 4: whether a node has a float that a table may not hold, or an unknown kind.
+// Row 4: whether a node has a float that a table may not hold, or an unknown kind. `|`, not `||`: no branch for a test.
 #[tactic(auto, unfolding(crate::specs::TableEntry::bad_floats))]
 fn is_bad_node(node: EstTime, kind: u32) -> bool
     ensures { result ≡ (bad_floats node || ltb 2 kind) }

@@ -11,20 +11,20 @@ use Rattle.laws.specs.Answer.{Answer}
 use Rattle.refusals.specs.declared.Refusal.{Refusal}
 use Rattle.refusals.specs.Refusals.{refusal_number, told}
 use Rattle.est_times.specs.Sheet.{job, answered, SheetMade}
-use Rattle.listing.specs.declared.Listed.{Listed}
+use Rattle.listing.specs.declared.ListingError.{ListingError}
 use Rattle.listing.specs.Listing.{refused_text, sheet_in, TextListed}
 use Rattle.sheets.specs.Sheets.{text_of, table_left, book_text, program_sizes, BookListed}
 
-module _ {b : List ℕ} {lent left : Slices} {out listing : List ℕ} {r : Listed} {sheet : Result Report Refusal} (made : SheetMade b lent left sheet) where
+module _ {b : List ℕ} {lent left : Slices} {out listing : List ℕ} {r : Result ℕ ListingError} {sheet : Result Report Refusal} (made : SheetMade b lent left sheet) where
   pub made_listed : {report : Report} → sheet ≡ Ok report → TextListed (sheet_in report left.table) out listing r → BookListed b lent left out listing r
   made_listed e l = record { sheet = sheet; made = made; written = subst (λ (s : Result Report Refusal). TextListed (text_of (told s) left.table) out listing r) (sym e) l }
 
-  pub refused_listed : {k : Refusal} {n : ℕ} → sheet ≡ Err k → n ≡ refusal_number k → TextListed (some (refused_text n)) out listing r → BookListed b lent left out listing r
-  refused_listed e q l = record { sheet = sheet; made = made; written = subst (λ (s : Result Report Refusal). TextListed (text_of (told s) left.table) out listing r) (sym e) (subst (λ (x : ℕ). TextListed (some (refused_text x)) out listing r) q l) }
+  pub refused_listed : {k : Refusal} → sheet ≡ Err k → TextListed (some (refused_text (refusal_number k))) out listing r → BookListed b lent left out listing r
+  refused_listed e l = record { sheet = sheet; made = made; written = subst (λ (s : Result Report Refusal). TextListed (text_of (told s) left.table) out listing r) (sym e) l }
 
 -- ---- a book's text, by the sizes alone
 
-module _ {b : List ℕ} {lent left : Slices} {out listing : List ℕ} {r : Listed} (l : BookListed b lent left out listing r) where
+module _ {b : List ℕ} {lent left : Slices} {out listing : List ℕ} {r : Result ℕ ListingError} (l : BookListed b lent left out listing r) where
   left_is : left.table ≡ table_left b (sizes_of lent)
   left_is = λ i. record { floats = l.made.floats i; numbers = l.made.numbers i }
 

@@ -9,6 +9,8 @@ use native.Mathlib.Omega.{arith}
 use borrow.Author.Tests.{le-leb}
 use lib.Dec.{leb}
 use lib.ListN.{length}
+use Rattle.std.specs.Prelude.{Result, Ok}
+use Rattle.std.specs.Result.{result_unwrap_or}
 use Rattle.laws.specs.Answer.{Answer, refused, given}
 use Rattle.report.specs.declared.Report.{Report}
 use Rattle.space.specs.Space.{zeros}
@@ -19,9 +21,8 @@ use Rattle.refusals.specs.Refusals.{told}
 use Rattle.est_times.specs.Sheet.{Finished, job, report_of, answered}
 use Rattle.est_times.proofs.Networks.{sound}
 use Rattle.est_times.proofs.Finished.{job_finished}
-use Rattle.listing.specs.declared.Listed.{Listed}
-use Rattle.listing.specs.declared.Listed.TheVariants.{Bytes, Short, Unfilled}
-use Rattle.listing.specs.Listing.{sheet_text, refused_text, sheet_in, fitted, bytes_as, listed_length, listed_number, TextListed}
+use Rattle.listing.specs.declared.ListingError.{ListingError}
+use Rattle.listing.specs.Listing.{sheet_text, refused_text, sheet_in, fitted, bytes_as, listed_length, TextListed}
 use Rattle.listing.proofs.Lengths.{sheet_most, refused_most}
 use Rattle.sheets.specs.Sheets.{text_of, book_text, program_sizes, BookListed, SheetText}
 use Rattle.sheets.proofs.Lists.{text_is}
@@ -63,7 +64,7 @@ program_places = refl
 
 -- ---- listed into an array of 65,536 bytes, on tables of the program's sizes
 
-module _ {b : List ℕ} {lent left : Slices} {out array : List ℕ} {r : Listed} (l : BookListed b lent left out array r) (sizes : sizes_of lent ≡ program_sizes) (floats : length left.table.floats ≡ program_sizes.floats)
+module _ {b : List ℕ} {lent left : Slices} {out array : List ℕ} {r : Result ℕ ListingError} (l : BookListed b lent left out array r) (sizes : sizes_of lent ≡ program_sizes) (floats : length left.table.floats ≡ program_sizes.floats)
     (numbers : length left.table.numbers ≡ program_sizes.numbers) (room : length out ≡ 65536) where
   fitting : Fitting (text_of (told l.sheet) left.table)
   fitting =
@@ -77,13 +78,13 @@ module _ {b : List ℕ} {lent left : Slices} {out array : List ℕ} {r : Listed}
   enough : leb (length fitting.bytes) (length out) ≡ true
   enough = le-leb (length fitting.bytes) (length out) (let h = fitting.fits in omega (arith, room))
 
-  answer_is : r ≡ Bytes (length fitting.bytes)
+  answer_is : r ≡ Ok (length fitting.bytes)
   answer_is = text_listed.answer ∙ ap (λ (t : Bool). fitted t fitting.bytes) enough
 
   array_is : array ≡ fitting.bytes ++ zeros (65536 - length fitting.bytes)
   array_is = text_listed.bytes ∙ ap (λ (t : Bool). bytes_as t fitting.bytes (length out)) enough ∙ ap (λ (n : ℕ). fitting.bytes ++ zeros (n - length fitting.bytes)) room
 
-  pub whole_text : (n : ℕ) → r ≡ Bytes n → SheetText b array n
+  pub whole_text : (n : ℕ) → r ≡ Ok n → SheetText b array n
   whole_text n e =
       let s : n ≡ length fitting.bytes = ap listed_length (sym e ∙ answer_is) in
       record {
@@ -93,8 +94,6 @@ module _ {b : List ℕ} {lent left : Slices} {out array : List ℕ} {r : Listed}
         bytes = array_is ∙ ap (λ (k : ℕ). fitting.bytes ++ zeros (65536 - k)) (sym s);
       }
 
-  pub never_short : {n : ℕ} → r ≡ Short → SheetText b array n
-  never_short e = let d : ◌≡◌ {A = ℕ} 0 101 = ap listed_number (sym answer_is ∙ e) in absurd (omega arith)
-
-  pub never_unfilled : {n : ℕ} → r ≡ Unfilled → SheetText b array n
-  never_unfilled e = let d : ◌≡◌ {A = ℕ} 0 102 = ap listed_number (sym answer_is ∙ e) in absurd (omega arith)
+  -- there always is one
+  pub text_told : {n : ℕ} → n ≡ result_unwrap_or r 0 → SheetText b array n
+  text_told {n} e = subst (SheetText b array) (ap (λ (x : Result ℕ ListingError). result_unwrap_or x 0) (sym answer_is) ∙ sym e) (whole_text (length fitting.bytes) answer_is)

@@ -5,8 +5,9 @@ ghost use Rattle.std.specs.Prelude.{OnOk};
 ghost use Rattle.net_node.specs.Lent.{lent_at_entry, lent_at_exit};
 ghost use Rattle.sheets.specs.Sheets.{BookListed, SheetPrinted, SheetText};
 
-use listing::Listed;
-use std::io::{Result, Write};
+use listing::ListingError;
+use std::io;
+use std::io::Write;
 
 // The floats and numbers of 192 nodes.
 const FLOATS: usize = 192 * net_node::FLOAT_WIDTH;
@@ -23,14 +24,14 @@ pub fn list_book(
     cells: &mut [u32],
     marks: &mut [u32],
     out: &mut [u8],
-) -> Listed
+) -> Result<usize, ListingError>
     ensures { BookListed book.now (lent_at_entry floats numbers reals cells marks)
         (lent_at_exit floats numbers reals cells marks) out.old out.new result }
 {
     let sheet = est_times::make_est_times(book, floats, numbers, reals, cells, marks);
     match sheet {
         Ok(report) => listing::list_sheet(floats, numbers, report, out),
-        Err(refusal) => listing::list_refused(refusal.into(), out),
+        Err(refusal) => listing::list_refused(refusal, out),
     }
 }
 
@@ -53,16 +54,12 @@ pub fn sheet_text(book: &[u8], text: &mut [u8; 65536]) -> usize
         &mut marks,
         text,
     );
-    match listed {
-        Listed::Bytes(n) => n,
-        // proved: never the answer here
-        Listed::Short => 0,
-        Listed::Unfilled => 0,
-    }
+    // proved: there always is one
+    listed.unwrap_or(0)
 }
 
 // Prints the listing of a book's sheet, or of its refusal: the bytes of `sheet_text`.
-pub fn print_sheet<W: Write>(book: &[u8], to: &mut W) -> Result<()>
+pub fn print_sheet<W: Write>(book: &[u8], to: &mut W) -> io::Result<()>
     ensures { OnOk result (SheetPrinted book.now (W.contents to.old) (W.contents to.new)) }
 {
     let mut text = [0u8; 65536];

@@ -6,7 +6,7 @@ use Rattle.book_options.proofs.Starts.{numbered_none, numbered_more}
 use Rattle.book_options.proofs.mark_origins.Goals as goal
 
 pub loop-i-init : goal.loop-i-init
-loop-i-init c = numbered_none _ _ c.requires.by_index
+loop-i-init c = numbered_none _ _ c.requires.marks_blank
 
 pub overflow_cast-marks : goal.overflow_cast-marks
 overflow_cast-marks c = omega (arith, limits _ c.requires.counts_passed, ap origins c.book-rows.ensures.is)

@@ -9,7 +9,6 @@ use Rattle.grow_leg.proofs.go_on.Goals as goal
 pub ways_behind-requires : goal.ways_behind-requires
 ways_behind-requires c = let s = c.requires in
     record {
-      readable = s.plan_in.readable;
       options_in = s.options_in;
       book_in_bounds = s.book_in_bounds;
       link_idx_bound = front_link s.plan_in s.some_going.way.ends _ s.link_idx_value;
@@ -23,7 +22,6 @@ save_over-requires c = let s = c.requires in let y = s.some_going in
     record {
       plan_in = s.plan_in;
       some_ending = record { fs = y.fs; us = y.us; ends = record { net = _; run = _; rest = _; ends = y.way.ends } };
-      in_bounds = s.in_bounds;
     }
 
 pub on_over-requires-in-Both : goal.on_over-requires-in-Both

@@ -1,21 +1,29 @@
 -- `grow_leg::on_over` meets its contract.
+use mathlib.Core.Path.{sym, ap, subst}
+use mathlib.Core.List.{List}
+use Prim.Native.Nat.{ℕ}
 use native.Mathlib.Omega.{arith}
+use Rattle.book_format.specs.Format.{legs}
+use Rattle.book_format.specs.Chains.{Chained}
+use Rattle.grow_state.proofs.Keeping.{turned_refused}
 use Rattle.grow_leg.proofs.GoingOn.{front_leg, front_depth, on_refused, on_gives}
 use Rattle.grow_leg.proofs.on_over.Goals as goal
 
-pub take_leg-taken-requires : goal.take_leg-taken-requires
-take_leg-taken-requires c = let s = c.requires in let a = s.ends.ends.ends in
+pub take_leg-requires : goal.take_leg-requires
+take_leg-requires c =
+    let s = c.requires in
+    let e = c.book.ensures.is in
     record {
-      sized = s.plan.readable.sized;
-      chained = a.chained;
-      parent_bound = front_leg s.plan a;
+      chained = subst (λ (b : List ℕ). Chained b c.args.cells.now) (sym e) s.ends.ends.ends.chained;
+      parent_bound = omega (arith, ap legs e, front_leg s.plan s.ends.ends.ends);
     }
 
 pub overflow_add-on : goal.overflow_add-on
 overflow_add-on c = let s = c.requires in omega (arith, front_depth s.plan s.ends.ends.ends)
 
-pub returns-in_default : goal.returns-in_default
-returns-in_default c = λ fs us reals joins net run rest plan a f. on_refused plan a _ c.take_leg-taken.result c.take_leg-taken.ensures _ c.in_default.is
+pub returns-in_err-leg : goal.returns-in_err-leg
+returns-in_err-leg c = λ fs us reals joins net run rest plan a f.
+    turned_refused _ _ _ _ c.from_residual.result _ c.from_residual.ensures.1 (on_refused plan a _ c.book.ensures.is c.take_leg.result c.take_leg.ensures _ c.in_err-leg.was)
 
 pub returns : goal.returns
-returns c = λ fs us reals joins net run rest plan a f. on_gives plan a _ c.take_leg-taken.result c.take_leg-taken.ensures _ c.in-Leg.is f
+returns c = λ fs us reals joins net run rest plan a f. on_gives plan a _ c.book.ensures.is c.take_leg.result c.take_leg.ensures _ c.in_ok-leg.was f

@@ -10,26 +10,18 @@ use Rattle.grow_leg.proofs.turn.Goals as goal
 
 pub walk_leg-requires : goal.walk_leg-requires
 walk_leg-requires c = let s = c.requires in
-    record {
-      plan_in = s.plan_in;
-      driving = s.driving;
-      in_bounds = s.in_bounds;
-      in_bounds_2 = s.in_bounds_2;
-      stack_length_in_bounds = s.stack_length_in_bounds;
-    }
+    record { plan_in = s.plan_in; driving = s.driving }
 
 pub end_leg-requires : goal.end_leg-requires
 end_leg-requires c =
     let s = c.requires in
-    let q = s in
     let v = c.walk_leg in
-    let d = (some_front q.driving).holds in
+    let d = (some_front s.driving).holds in
     record {
       plan_in = plan_same (omega (arith, v.auto)) s.plan_in;
       options_in = s.options_in;
       book_in_bounds = s.book_in_bounds;
       some_way = took_way s.plan_in d _ _ _ _ _ (omega (arith, v.auto)) v.result (v.ensures.walked _ _ _ _ d) v.ensures.more _ _ (c.in_ok-became.was ∙ ap Ok c.in-On.is);
-      in_bounds = omega (arith, v.auto, q.in_bounds);
     }
 
 pub returns-in_err-became : goal.returns-in_err-became
@@ -43,14 +35,12 @@ returns-in_err-became c =
 pub returns-in-Ended : goal.returns-in-Ended
 returns-in-Ended c =
     let s = c.requires in
-    let q = s in
     let v = c.walk_leg in
     λ path net run saved d. take_ended s.plan_in d _ _ _ _ _ (omega (arith, v.auto)) v.result (v.ensures.walked path net run saved d) v.ensures.more _ (c.in_ok-became.was ∙ ap Ok c.in-Ended.is)
 
 pub returns-in-On : goal.returns-in-On
 returns-in-On c =
     let s = c.requires in
-    let q = s in
     let v = c.walk_leg in
     let e = c.end_leg in
     λ path net run saved d.

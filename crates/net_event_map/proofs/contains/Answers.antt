@@ -1,15 +1,9 @@
 -- `net_event_map::contains` meets its contract.
-use Rattle.net_event_map.proofs.Chains.{arrive_seen, clear_seen, fake_real}
+use Rattle.net_event_map.proofs.Chains.{arrive_seen, clear_seen}
 use Rattle.net_event_map.proofs.contains.Goals as goal
 
 pub returns-in-Arrive : goal.returns-in-Arrive
-returns-in-Arrive c =
-    λ node n v. arrive_seen v c.args.event c.in-Arrive.is c.requires.real.1
+returns-in-Arrive c = λ node n v. arrive_seen v c.args.event c.in-Arrive.is c.requires.real.1
 
 pub returns-in-Clear : goal.returns-in-Clear
-returns-in-Clear c =
-    λ node n v. clear_seen v c.args.event c.in-Clear.is c.requires.real.1
-
-pub returns-in-Fake : goal.returns-in-Fake
-returns-in-Fake c =
-    λ node n v. fake_real c.args.event.est_type c.in-Fake.is c.requires.real.0
+returns-in-Clear c = λ node n v. clear_seen v c.args.event c.in-Clear.is c.requires.real.1

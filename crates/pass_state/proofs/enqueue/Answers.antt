@@ -8,7 +8,7 @@ use Rattle.pass_state.proofs.enqueue.Goals as goal
 pub returns-then-is_nan : goal.returns-then-is_nan
 returns-then-is_nan g c =
     elim c.then-is_nan.branch [
-      then-is_nan-via-then-is_nan w ↦ record { told = time_no_number c.args.e (sym c.is_nan.ensures.value ∙ w.if-is_nan.true) }
+      | then-is_nan-via-then-is_nan w ↦ record { told = time_no_number c.args.e (sym c.is_nan.ensures.value ∙ w.if-is_nan.true) }
       | then-is_nan-via-else-is_nan+then-is_nan-2 w ↦ record { told = sub_no_number c.args.e (sym w.is_nan-else-is_nan.ensures.value ∙ w.if-is_nan-2.true) }
     ]
 

@@ -8,7 +8,7 @@ pub returns-then-not-is_done : goal.returns-then-not-is_done
 returns-then-not-is_done g c =
     λ less p ts ns count most v.
     elim c.then-not-is_done.branch [
-      then-not-is_done-via-then-not-is_done w ↦ relink_undone (relinker g.P.Order.backward c.args.n less) v _ _ c.load.ensures _ c.ahead-next.ensures _ c.is_done.ensures w.if-not-is_done.true
+      | then-not-is_done-via-then-not-is_done w ↦ relink_undone (relinker g.P.Order.backward c.args.n less) v _ _ c.load.ensures _ c.ahead-next.ensures _ c.is_done.ensures w.if-not-is_done.true
       | then-not-is_done-via-else-not-is_done+then-is_done w ↦
           relink_done (relinker g.P.Order.backward c.args.n less) v _ _ c.load.ensures _ c.ahead-next.ensures _ c.is_done.ensures w.if-not-is_done.false _ w.is_done-else-not-is_done.ensures w.if-is_done.true
     ]
