@@ -64,26 +64,26 @@ module _ (b : List ℕ) (p : Plan) (fs : List Float) (us : List ℕ) (reals : Li
   pub all_some : AtStart b p (lists fs us reals cells joins) → SomeOrigins b p (lists fs us reals cells joins) (kept_origins b) g
   all_some s = subst (SomeOrigins b p (lists fs us reals cells joins) (kept_origins b)) (sym first) (record { net = first_nodes b s.table; runs = []; origins = s.origins })
 
-  module _ (fs' : List Float) (us' : List ℕ) (reals' : List Float) (cells' : List ℕ) (t : Result Rest Refusal)
-      (told : GrowsOrigins b p g (lists fs us reals cells joins) (lists fs' us' reals' cells' joins) t) where
-    with_origins_lem : GrowsOrigins b p start_state (lists fs us reals cells joins) (lists fs' us' reals' cells' joins) t
+  module _ (fs' : List Float) (us' : List ℕ) (reals' : List Float) (cells' : List ℕ) (joins' : List EstJoinPath) (t : Result Rest Refusal)
+      (told : GrowsOrigins b p g (lists fs us reals cells joins) (lists fs' us' reals' cells' joins') t) where
+    with_origins_lem : GrowsOrigins b p start_state (lists fs us reals cells joins) (lists fs' us' reals' cells' joins') t
     with_origins_lem net runs o = told net runs (subst (λ (x : Rest). OriginsIn b p (lists fs us reals cells joins) (kept_origins b) x net runs) (sym first) o)
 
     pub all_stopped : (k : Refusal) → t ≡ Err k → (net : Net) → OriginsIn b p (lists fs us reals cells joins) (kept_origins b) start_state net [] → grown_from b p.w.places net ≡ refused (refusal_number k)
-    all_stopped k e net o = from_is b p.w.places net ∙ ap (λ (a : Answer Growth). and_then a (driven_from b p.w.places)) (subst (OriginsAs (grow_origins b p.w.places (kept_origins b) (record { net = net; saved = [] })) b p (lists fs' us' reals' cells' joins) []) e (with_origins_lem net [] o))
+    all_stopped k e net o = from_is b p.w.places net ∙ ap (λ (a : Answer Growth). and_then a (driven_from b p.w.places)) (subst (OriginsAs (grow_origins b p.w.places (kept_origins b) (record { net = net; saved = [] })) b p (lists fs' us' reals' cells' joins') []) e (with_origins_lem net [] o))
 
     module _ (s : Rest) (e : t ≡ Ok s) where
-      as_origins : (net : Net) (runs : List Run) → OriginsIn b p (lists fs us reals cells joins) (kept_origins b) start_state net runs → OriginsGiven (grow_origins b p.w.places (kept_origins b) (record { net = net; saved = runs })) b p (lists fs' us' reals' cells' joins) [] s
-      as_origins net runs o = subst (OriginsAs (grow_origins b p.w.places (kept_origins b) (record { net = net; saved = runs })) b p (lists fs' us' reals' cells' joins) []) e (with_origins_lem net runs o)
+      as_origins : (net : Net) (runs : List Run) → OriginsIn b p (lists fs us reals cells joins) (kept_origins b) start_state net runs → OriginsGiven (grow_origins b p.w.places (kept_origins b) (record { net = net; saved = runs })) b p (lists fs' us' reals' cells' joins') [] s
+      as_origins net runs o = subst (OriginsAs (grow_origins b p.w.places (kept_origins b) (record { net = net; saved = runs })) b p (lists fs' us' reals' cells' joins') []) e (with_origins_lem net runs o)
 
-      pub all_from : AtStart b p (lists fs us reals cells joins) → FromOrigins b p (lists fs' us' reals' cells' joins) s
+      pub all_from : AtStart b p (lists fs us reals cells joins) → FromOrigins b p (lists fs' us' reals' cells' joins') s
       all_from q =
           let x = as_origins (first_nodes b q.table) [] q.origins in
           record { read = q.read; table = q.table; room = q.room; more = q.more; growth = x.growth; grown = x.is; path = []; holds = x.origins.holds }
 
       module _ (fs'' : List Float) (us'' cells'' : List ℕ) (d : Result Counts Refusal)
-          (drove : (path : List ℕ) (net : Net) (runs : List Run) → DriveIn b p (lists fs' us' reals' cells' joins) path (idle s) net runs → DriveAs (drive (legs b) b p.w.places net runs) p fs'' us'' cells'' d) where
-        from-driven : (net : Net) (runs : List Run) (x : OriginsGiven (grow_origins b p.w.places (kept_origins b) (record { net = net; saved = [] })) b p (lists fs' us' reals' cells' joins) [] s)
+          (drove : (path : List ℕ) (net : Net) (runs : List Run) → DriveIn b p (lists fs' us' reals' cells' joins') path (idle s) net runs → DriveAs (drive (legs b) b p.w.places net runs) p fs'' us'' cells'' d) where
+        from-driven : (net : Net) (runs : List Run) (x : OriginsGiven (grow_origins b p.w.places (kept_origins b) (record { net = net; saved = [] })) b p (lists fs' us' reals' cells' joins') [] s)
             → grown_from b p.w.places net ≡ and_then (drive (legs b) b p.w.places x.growth.net x.growth.saved) (closing p.w.places)
         from-driven net runs x = from_is b p.w.places net ∙ ap (λ (a : Answer Growth). and_then a (driven_from b p.w.places)) x.is ∙ driven_is b p.w.places x.growth
 
@@ -93,7 +93,7 @@ module _ (b : List ℕ) (p : Plan) (fs : List Float) (us : List ℕ) (reals : Li
             from-driven net [] x ∙ ap (λ (a : Answer Net). and_then a (closing p.w.places)) (subst (DriveAs (drive (legs b) b p.w.places x.growth.net x.growth.saved) p fs'' us'' cells'') q (drove [] x.growth.net x.growth.saved x.origins.holds))
 
         module _ (z : Counts) (q : d ≡ Ok z) where
-          as-driven : (net : Net) (runs : List Run) → DriveIn b p (lists fs' us' reals' cells' joins) [] (idle s) net runs → DrivenAs (drive (legs b) b p.w.places net runs) p fs'' us'' cells'' z
+          as-driven : (net : Net) (runs : List Run) → DriveIn b p (lists fs' us' reals' cells' joins') [] (idle s) net runs → DrivenAs (drive (legs b) b p.w.places net runs) p fs'' us'' cells'' z
           as-driven net runs h = subst (DriveAs (drive (legs b) b p.w.places net runs) p fs'' us'' cells'') q (drove [] net runs h)
 
           pub all-closing : AtStart b p (lists fs us reals cells joins) → SomeClosing p.w fs'' us'' cells'' z
