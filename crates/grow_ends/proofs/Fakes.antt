@@ -15,7 +15,7 @@ use Rattle.net_event_map.specs.EventMap.{head_of}
 use Rattle.grow_rules.specs.Growth.{fake_node, leads_to_end, room_for, end_fakes, last_node}
 use Rattle.net_node.specs.Left.{Network}
 use Rattle.net_insertion.specs.Insertion.{table_of}
-use Rattle.grow_ends.specs.Ends.{EndsIn, Below, SomeEnds}
+use Rattle.grow_ends.specs.Ends.{EndsIn, Below}
 
 abbrev network_of : Table → ℕ → Network
 network_of t k = record { table = t; nodes = k }
@@ -133,20 +133,6 @@ pub record Faking (cells : List ℕ) (base last n places : ℕ) (t s : Table) (i
   pub chained : EndsIn cells base i rest
   pub below : Below n rest
   pub same : end_fakes places all 0 (network_of t n) ≡ end_fakes places rest alt (network_of s k)
-
-pub faking_start : (cells : List ℕ) (base last n places : ℕ) (t : Table) → SomeEnds cells base last n → n ≤ places → Faking cells base last n places t t last 0 n
-faking_start cells base last n places t e h = record {
-  floats_kept_lem = refl;
-  numbers_kept_lem = refl;
-  counted = omega arith;
-  within = h;
-  all = e.ends;
-  all_chained = e.chained;
-  rest = e.ends;
-  chained = e.chained;
-  below = e.below;
-  same = refl;
-}
 
 module _ {cells : List ℕ} {base last n places : ℕ} {t s : Table} {i alt k : ℕ} (v : Faking cells base last n places t s i alt k) where
   -- any list of the ends is the loop's

@@ -21,7 +21,7 @@ use Rattle.net_insertion.proofs.Answers.{flagged_set, flagged_clear}
 use Rattle.net_event_map.specs.EventMap.{head_of}
 use Rattle.laws.proofs.Below.{or_right}
 use Rattle.grow_rules.specs.Run.{Net, Run, member_of}
-use Rattle.grow_rules.specs.Growth.{fake_node, bad_finish, leads_to_end, room_for, end_fakes, last_node}
+use Rattle.grow_rules.specs.Growth.{fake_node, bad_finish, leads_to_end, room_for, end_fakes}
 use Rattle.net_node.specs.Left.{Network}
 use Rattle.std.specs.Prelude.{Ok}
 use Rattle.grow_ends.specs.Ends.{EndsIn, Below, SomeEnds, TailAs, MarkedAs}
@@ -84,9 +84,6 @@ module _ (cells : List ℕ) (base : ℕ) where
       go : (member_of js i ≡ true → (0 < i) × (0 < get_or cells (base + i * 8) 0)) → (eqb j i ≡ true) ⊎ (eqb j i ≡ false) → (0 < i) × (0 < get_or cells (base + i * 8) 0)
       go r (inl d) = let s : j ≡ i = eqb-true j i d in (subst (λ (k : ℕ). 0 < k) s e.1.0, subst (λ (k : ℕ). 0 < get_or cells (base + k * 8) 0) s (omega (arith, e.1.1.0)))
       go r (inr d) = r (sym (ap (λ (x : Bool). x || member_of js i) d) ∙ t)
-
-  pub ends_flagged : (last : ℕ) (is : List ℕ) → EndsIn cells base last is → (i : ℕ) → member_of is i ≡ true → flagged cells base i ≡ true
-  ends_flagged last is e i t = flagged_set cells base i (ends_real last is e i t).1
 
   -- cells that say the same of each end
   pub ends_members : (cells' : List ℕ) (last : ℕ) (is : List ℕ) → ((i : ℕ) → member_of is i ≡ true → get_or cells' (base + i * 8) 0 ≡ get_or cells (base + i * 8) 0) → EndsIn cells base last is → EndsIn cells' base last is
@@ -226,15 +223,3 @@ counted_fakes places (i ∷ is) alt t h = go (ltb t.nodes places) refl (counted_
 pub fakes_counted : (places n k : ℕ) (is : List ℕ) (t : Table) (fs : List Float) (us : List ℕ) → n ≤ places → TailAs (end_fakes places is 0 (record { table = t; nodes = n })) fs us (Ok k)
     → (k ≡ n + length is) × (k ≤ places)
 fakes_counted places n k is t fs us h e = subst (Counted (n + length is) places) e (counted_fakes places is 0 (record { table = t; nodes = n }) h)
-
--- and of `last_node`
-pub last_counted : (places n k : ℕ) (t : Table) (fs : List Float) (us : List ℕ) → TailAs (last_node places (record { table = t; nodes = n })) fs us (Ok k) → (k ≡ suc n) × (k ≤ places)
-unfolding last_node
-last_counted places n k t fs us e = subst (Counted (suc n) places) e (go (ltb n places) refl)
-  where
-    last : Network
-    last = record { table = put t n (fake_node 0 (n - 1) 0 (of_bits binary64 0)); nodes = suc n }
-
-    go : (b : Bool) → ltb n places ≡ b → Counted (suc n) places (room_for b last)
-    go true q = (refl, ltb-true n places q)
-    go false q = tt

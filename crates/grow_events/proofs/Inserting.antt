@@ -10,7 +10,6 @@ use lib.Ieee.{Float}
 use lib.ListN.{length, get_or}
 use Rattle.laws.proofs.Truth.{equal_or_not}
 use Rattle.net_node.proofs.Tables.{RoomIn}
-use Rattle.laws.specs.Answer.{refused}
 use Rattle.net_node.specs.declared.EstType.TheVariants.{Fake}
 use Rattle.net_node.specs.declared.EstTime.{EstTime}
 use Rattle.net_node.specs.declared.TimedEvent.{TimedEvent}
@@ -18,7 +17,6 @@ use Rattle.net_node.specs.Table.{node_at, Indexed, Table, at}
 use Rattle.net_insertion.specs.declared.Place.{Place}
 use Rattle.std.specs.Prelude.{Result, Ok, Err}
 use Rattle.refusals.specs.declared.Refusal.{Refusal}
-use Rattle.refusals.specs.Refusals.{refusal_number}
 use Rattle.net_insertion.specs.declared.Insertion.{Insertion}
 use Rattle.net_insertion.specs.declared.Insertion.TheVariants.{Added, Moved}
 use Rattle.net_join_paths.specs.declared.EstJoinPath.{EstJoinPath}
@@ -58,13 +56,6 @@ module _ {w : Layout} {start : List ℕ} {fs : List Float} {us cells : List ℕ}
   pub net_mapped : Mapped cells w (at (table_of fs us)) c.nodes
   unfolding at
   net_mapped = v.mapped
-
-  -- what the code asks of the ends' cells
-  pub ends_inside : w.nodes_at + 2 + c.nodes * 8 ≤ length cells + 7
-  ends_inside = omega (arith, v.within, v.apart.nodes_inside)
-
-  pub counts_small : (c.added < 65535) × ((c.splits < 65535) × ((c.joined < 65535) × (c.nodes ≤ 65535)))
-  counts_small = let m : c.nodes ≤ 65535 = omega (arith, v.within, v.room.most) in (omega (arith, v.sum), (omega (arith, v.sum), (omega (arith, v.sum), m)))
 
   -- ---- a node that is added
 

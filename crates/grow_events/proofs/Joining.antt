@@ -26,13 +26,10 @@ use Rattle.refusals.specs.declared.Refusal.{Refusal}
 use Rattle.refusals.specs.Refusals.{refusal_number}
 use Rattle.grow_events.specs.declared.RunOutcome.{RunOutcome}
 use Rattle.grow_events.specs.declared.RunOutcome.TheVariants.{On}
-use Rattle.grow_events.specs.Held.{NetIn, RunIn, Growing, Moving, LeftAs, GoesAs, OutcomeAs, InsertedAs, counts_joined}
+use Rattle.grow_events.specs.Held.{NetIn, RunIn, LeftAs, OutcomeAs, InsertedAs, counts_joined}
 use Rattle.grow_ends.proofs.Kept.{below_more}
 use Rattle.grow_events.proofs.Inserting.{net_indexed, net_mapped}
 use Rattle.net_insertion.specs.Insertion.{table_of}
-
-pub moving_grows : {w : Layout} {fs : List Float} {us cells : List ℕ} {joins : List EstJoinPath} {c : Counts} {m : Mover} → Moving w fs us cells joins c m → Growing w fs us cells c
-moving_grows v = record { start = v.start; net = v.net; holds = v.holds }
 
 -- what an insertion gives is what the event gives
 abbrev pub as_outcome : Result (Counts × Mover) Refusal → Result RunOutcome Refusal

@@ -201,18 +201,6 @@ module _ (b : List ℕ) (reals : List Float) (v : Movement) (w : Layout) (join :
               go true = refl
               go false = stays i start path leg net run n u a
 
-          pub stop-more : (r' : Result RunOutcome Refusal) → r' ≡ stopped_as (some_bad later) r → NotFewer c₀ r'
-          stop-more r' q = subst (NotFewer c₀) (sym q) (either (some_bad later))
-            where
-              go : (r : Result RunOutcome Refusal) → NotFewer c r → NotFewer c₀ r
-              go (Ok (On d n)) i = omega (arith, s.more)
-              go (Ok (Ended d)) i = omega (arith, s.more)
-              go (Err n) i = tt
-
-              either : (t : Bool) → NotFewer c₀ (stopped_as t r)
-              either true = tt
-              either false = go r k
-
           pub going_on : (d : Counts) (n : Mover) → r ≡ Ok (On d n) → Going fs' us' cells' joins' later d n
           going_on d n i = record {
             ahead = next-all.1;

@@ -8,7 +8,6 @@ use native.Mathlib.Omega.{arith}
 use lib.Ieee.{Float, binary64, add, of_bits}
 use Rattle.net_node.specs.Table.{Table}
 use Rattle.laws.specs.Answer.{Answer, refused, given, and_then}
-use Rattle.net_node.specs.declared.EstType.{EstType}
 use Rattle.net_node.specs.declared.EstType.TheVariants.{Arrive, Clear}
 use Rattle.net_node.specs.declared.TimedEvent.{TimedEvent}
 use Rattle.net_insertion.specs.declared.Insertion.{Insertion}
@@ -16,7 +15,6 @@ use Rattle.net_insertion.specs.declared.Insertion.TheVariants.{Added, Moved}
 use Rattle.net_insertion.specs.Insertion.{inserted, inserted_table, table_of}
 use Rattle.net_join_paths.specs.declared.EstJoinPath.{EstJoinPath}
 use Rattle.net_event_map.specs.declared.Layout.{Layout}
-use Rattle.net_event_map.specs.EventMap.{RealKind, Real}
 use Rattle.grow_rules.specs.Run.{Arc, Net, Run, After, arc_to, added_to, moved_to, inserted_run, insert_event, goes_on, member_of}
 use Rattle.grow_rules.specs.Run.{Outcome, Ended as Left, On as Goes}
 use Rattle.grow_rules.specs.Growth.{join_gap, departure, origin_event, origin_run, seek_leg, grow_origin, origin_clear, origin_arrive}
@@ -37,9 +35,6 @@ use Rattle.grow_origins.specs.Origins.{origin_answer, place_on, LeadsFrom, saved
 abbrev run_at : Float → ℕ → Run
 run_at time i = record { place = place_on time (of_bits binary64 0) i; leg = 0; has_split = false; joins = []; nodes = [] }
 
-pub real_event : (e : TimedEvent) (time : Float) (link : ℕ) (kind : EstType) (offset : Float) (links : ℕ) → e ≡ event_at_rest time link kind offset → RealKind kind → link < links → Real e.link_event links
-real_event e time link kind offset links d k h = subst (λ (x : TimedEvent). Real x.link_event links) (sym d) (k, h)
-
 run_there : (n : ℕ) (time : Float) (i : ℕ) (m : Mover) → m ≡ mover_at time i → i < n → RunIn n 0 [] m (run_at time i)
 run_there n time i m e h = subst (λ (x : Mover). RunIn n 0 [] x (run_at time i)) (sym e) (record {
   place = refl;
@@ -51,15 +46,7 @@ run_there n time i m e h = subst (λ (x : Mover). RunIn n 0 [] x (run_at time i)
   stands = h;
 })
 
--- it stands on a node
-pub first_there : (time : Float) (i : ℕ) (m : Mover) → m ≡ mover_at time i → (n : ℕ) → i < n → m.place.idx_prev < n
-first_there time i m e n h = subst (λ (x : Mover). x.place.idx_prev < n) (sym e) h
-
 -- ---- how many nodes there are
-
-pub fewer_more : (c d : Counts) (r : Result (Counts × Mover) Refusal) → c.nodes ≤ d.nodes → IfOk r (λ x. d.nodes ≤ x.0.nodes) → IfOk r (λ x. c.nodes ≤ x.0.nodes)
-fewer_more c d (Ok x) h g = omega (arith, g)
-fewer_more c d (Err k) h g = tt
 
 pub fewer_as : (c d : Counts) (m : Mover) (r : Result (Counts × Mover) Refusal) → r ≡ Ok (d, m) → IfOk r (λ x. c.nodes ≤ x.0.nodes) → c.nodes ≤ d.nodes
 fewer_as c d m r e h = subst (λ (y : Result (Counts × Mover) Refusal). IfOk y (λ x. c.nodes ≤ x.0.nodes)) e h

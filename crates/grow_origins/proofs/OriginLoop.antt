@@ -204,10 +204,6 @@ origin_last b places g = refl
 
 module _ (b : List ℕ) (p : Plan) (joins : List EstJoinPath) (fs₀ : List Float) (us₀ : List ℕ) (reals₀ : List Float) (cells₀ : List ℕ) (g₀ : Rest) (fs : List Float) (us : List ℕ) (reals : List Float) (cells : List ℕ) (g : Rest) (last k : ℕ)
     (v : OriginLoop b p joins fs₀ us₀ reals₀ cells₀ g₀ fs us reals cells g last k) where
-  -- the plan fits still
-  pub loop_plan : PlanIn b p (length reals₀) → PlanIn b p (length reals)
-  loop_plan plan = subst (PlanIn b p) (sym v.reals_long) plan
-
   pub loop_small : SomeOrigins b p (lists fs₀ us₀ reals₀ cells₀ joins) (kept_origins b) g₀ → g.counts.nodes ≤ 65535
   loop_small s = let x = v.so_far s.net s.runs s.origins in omega (arith, x.origins.holds.grown.within, x.origins.holds.grown.room.most)
 
