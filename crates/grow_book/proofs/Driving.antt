@@ -14,7 +14,6 @@ use Rattle.laws.proofs.Answers.{holds_given}
 use Rattle.laws.proofs.Members.{All}
 use Rattle.book_format.specs.Format.{legs}
 use Rattle.book_format.proofs.Given.{limits}
-use Rattle.book_format.proofs.Places.{sized_legs}
 use Rattle.book_options.specs.Options.{kept_origins}
 use Rattle.grow_waiting.specs.declared.Rooms.{Rooms}
 use Rattle.grow_waiting.specs.Held.{Waiting, SavedIn}
