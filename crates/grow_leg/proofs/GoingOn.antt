@@ -1,6 +1,6 @@
 -- A run goes on over a link: the leg behind its own is found, or row 10 refuses it. A copy of it is saved to go on over another, or row 12 refuses that.
 use mathlib.Core.Path.{◌≡◌, refl, sym, ap, ◌∙◌, subst}
-use mathlib.Core.Bool.{Bool, true, false}
+use mathlib.Core.Bool.{Bool, false}
 use mathlib.Core.List.{List, [], ◌∷◌, append-nil}
 use Prim.Native.Nat.{ℕ, zero, suc, ◌+◌, ◌*◌, ◌≤◌, ◌<◌}
 use native.Mathlib.Omega.{arith}
@@ -28,7 +28,6 @@ use Rattle.grow_events.specs.Held.{ends_at}
 use Rattle.grow_state.specs.declared.Plan.{Plan}
 use Rattle.grow_state.specs.declared.Front.{Front}
 use Rattle.grow_state.specs.declared.Rest.{Rest}
-use Rattle.grow_state.specs.declared.State.{State}
 use Rattle.grow_state.specs.Held.{PlanIn, GivesAs, RunSound, Begins, Prefixes, Lists, path_before, with_front, lists}
 use Rattle.grow_state.proofs.Keeping.{plan_legs, plan_room}
 use Rattle.grow_events.proofs.Kept.{net_same}

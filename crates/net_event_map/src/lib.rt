@@ -8,7 +8,8 @@ ghost use Rattle.net_event_map.specs.EventMap.{first_at, next_at, MapsNode, Maps
 
 use net_node::{EstType, LinkEvent};
 
-// Where the cells of links and of nodes stand, and how many links and places there are.
+// Where the cells of links and of nodes stand, and how many links and places there are. It goes beside `cells`, and
+// not with them in one struct: a struct that holds a `&mut` owes each caller a clause on its ghost name, no plainer.
 #[derive(Clone, Copy)]
 pub struct Layout {
     pub links_at: usize,

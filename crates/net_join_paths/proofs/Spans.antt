@@ -12,7 +12,7 @@ use lib.Dec.{ltb}
 use lib.ListN.{length, get_or, length-append}
 use Rattle.net_join_paths.specs.declared.EstJoinPath.{EstJoinPath}
 use Rattle.net_join_paths.specs.Entries.{entry, node_of, pushed_as, push, and_then}
-use Rattle.net_join_paths.specs.Spans.{pushed_all, nodes_in, SameNodes, Pushed}
+use Rattle.net_join_paths.specs.Spans.{pushed_all, nodes_in}
 use Rattle.net_join_paths.proofs.Entries.{node_front, node_last}
 
 -- ---- a list with nodes behind it
@@ -65,6 +65,11 @@ unfolding pushed_all entry
 one_appended x es r h = all_appended x.link_idx_match (x.est_idx_next ∷ []) es r (ap (λ (a : Option (List EstJoinPath)). and_then a some) h)
 
 -- ---- the nodes of a list
+
+-- a list names the same nodes in another, which may have more
+pub record SameNodes (list list' : List EstJoinPath) : Type 0 where
+  pub node : (k : ℕ) → k < length list → node_of list' k ≡ node_of list k
+  pub grows : length list ≤ length list'
 
 pub same_nodes : (list : List EstJoinPath) → SameNodes list list
 same_nodes list = record { node = λ k h. refl; grows = omega arith }
@@ -164,6 +169,11 @@ pushed_append m (i ∷ is) js es = go (push es (entry m i)) (pushed_append m is 
     go : (a : Option (List EstJoinPath)) → ((fs : List EstJoinPath) → pushed_all m (is ++ js) fs ≡ and_then (pushed_all m is fs) (pushed_all m js)) → and_then a (pushed_all m (is ++ js)) ≡ and_then (and_then a (pushed_all m is)) (pushed_all m js)
     go none ih = refl
     go (some fs) ih = ih fs
+
+-- The nodes of the entries behind a list, put behind it as it was, are the entries as they are.
+pub record Pushed (m : ℕ) (list₀ list : List EstJoinPath) : Type 0 where
+  pub answer : pushed_all m (nodes_in list (length list₀) (length list - length list₀)) list₀ ≡ some list
+  pub same : SameNodes list₀ list
 
 pub pushed_start : (m : ℕ) (list : List EstJoinPath) → Pushed m list list
 unfolding pushed_all nodes_in

@@ -148,7 +148,7 @@ fn perform_speed_join(
     join_at(floats, numbers, n as u32, end, est_time_add);
 }
 
-// Sets the mark of each node that a list names.
+// Sets the mark of each node that a list names. The mark is a number, as the cells hold it and `marks` says it.
 fn set_marks(cells: &mut [u32], w: Layout, list: &[EstJoinPath], mark: u32)
     requires cells_apart { CellsApart cells.old w }
     requires valid { Valid list.now w.places }

@@ -21,8 +21,7 @@ use Rattle.net_notes.proofs.Log.{says_span, span_said}
 use Rattle.net_join_paths.specs.declared.EstJoinPath.{EstJoinPath}
 use Rattle.net_join_paths.specs.Entries.{push, EntriesAs}
 use Rattle.net_join_paths.specs.Spans.{pushed_all, nodes_in}
-use Rattle.net_join_paths.specs.Spans.{SameNodes}
-use Rattle.net_join_paths.proofs.Spans.{Appended, all_appended, one_appended, nodes_stay, nodes_behind, nodes_kept}
+use Rattle.net_join_paths.proofs.Spans.{SameNodes, Appended, all_appended, one_appended, nodes_stay, nodes_behind, nodes_kept}
 use Rattle.net_strands.specs.Space.{alternatives}
 use Rattle.net_strands.specs.Walks.{popped_to, walked, spend}
 use Rattle.net_strands.specs.Given.{SpanGives, WalkGives, Given, GivenThen, Extends}

@@ -11,17 +11,26 @@ use Rattle.net_node.specs.declared.EstTime.{EstTime}
 use Rattle.net_join_paths.specs.declared.EstJoinPath.{EstJoinPath}
 use Rattle.net_join_paths.specs.Entries.{and_then}
 use Rattle.net_join_paths.specs.Spans.{pushed_all, nodes_in}
-use Rattle.net_join_paths.specs.Spans.{SameNodes, Pushed}
-use Rattle.net_join_paths.proofs.Spans.{nodes_kept, nodes_split, pushed_append}
+use Rattle.net_join_paths.proofs.Spans.{SameNodes, nodes_kept, nodes_split, pushed_append, Pushed}
 use Rattle.net_stack.specs.Stack.{alternative_stacked}
 use Rattle.net_stack.specs.Openings.{opening_of, opened_if}
 use Rattle.net_strands.specs.Space.{strand_from, strands}
-use Rattle.net_strands.specs.Strands.{Item, Alternative, Open, numbers_of, Rest, Closes, Opened}
 use Rattle.net_strands.specs.Walks.{with_nodes, walked, spend}
 use Rattle.net_strands.proofs.Targets.{pushed_each, pushed_walk}
 use Rattle.net_strands.proofs.Spending.{nodes_empty, spend_same, spend_then, spend_enough}
 
 -- ---- the stack
+
+-- an alternative; or a node, and how many entries the new list had and how many nexts were left when the walk came there
+pub data Item : Type 0 where
+  Alternative : ℕ → Item
+  Open : ℕ → ℕ → ℕ → Item
+
+-- the numbers on the stack
+abbrev pub numbers_of : List Item → List ℕ
+numbers_of [] = []
+numbers_of (Alternative i ∷ xs) = i ∷ numbers_of xs
+numbers_of (Open i begin opened ∷ xs) = opening_of begin opened ∷ i ∷ numbers_of xs
 
 -- its alternatives alone, above others
 abbrev pub stack_of : List Item → List ℕ → List ℕ
@@ -46,6 +55,10 @@ pub stacked_numbers : (alt : ℕ) (xs : List Item) → alternative_stacked alt (
 stacked_numbers zero xs = refl
 stacked_numbers (suc alt) xs = refl
 
+-- how a walk goes on: by the nexts that it may read, and what is stacked
+abbrev pub Rest : Type 0
+Rest = ℕ → List ℕ → Option (List ℕ)
+
 -- q nexts are read, which give the nodes js, and these are put behind the list
 pub record Reads (list : List EstJoinPath) (left : ℕ) (list' : List EstJoinPath) (left' q : ℕ) (js : List ℕ) : Type 0 where
   pub same : SameNodes list list'
@@ -53,8 +66,17 @@ pub record Reads (list : List EstJoinPath) (left : ℕ) (list' : List EstJoinPat
   pub reads : left ≡ left' + q
 
 module _ (node : ℕ → EstTime) (nodes : ℕ) (e : LinkEvent) where
+  -- Since the walk came to node i, with so many entries and nexts, it has read some and given the nodes of the entries behind; it goes on as `rest` says.
+  pub record Closes (list : List EstJoinPath) (left i begin opened : ℕ) (rest : Rest) : Type 0 where
+    pub named : i < nodes
+    pub inside : begin ≤ length list
+    pub spent : left ≤ opened
+    pub least : 1 ≤ opened
+    pub most : opened ≤ 4096
+    pub gives : (k : ℕ) (s : List ℕ) → walked k node e i s ≡ spend (opened - left) (nodes_in list begin (length list - begin)) (λ j. rest j s) k
+
   -- where the walk comes to a node
-  pub closes_begun : (list : List EstJoinPath) (left i : ℕ) → i < nodes → 1 ≤ left → left ≤ 4096 → Closes node nodes e list left i (length list) left (λ k s. walked k node e i s)
+  pub closes_begun : (list : List EstJoinPath) (left i : ℕ) → i < nodes → 1 ≤ left → left ≤ 4096 → Closes list left i (length list) left (λ k s. walked k node e i s)
   unfolding spend nodes_in
   closes_begun list left i h a b = record {
     named = h;
@@ -72,7 +94,7 @@ module _ (node : ℕ → EstTime) (nodes : ℕ) (e : LinkEvent) where
 
   -- nexts are read
   module _ {list list' : List EstJoinPath} {left left' q : ℕ} {js : List ℕ} (r : Reads list left list' left' q js) where
-    closes_on : {i begin opened : ℕ} {rest rest' : Rest} → ((k : ℕ) (s : List ℕ) → rest k s ≡ spend q js (λ j. rest' j s) k) → Closes node nodes e list left i begin opened rest → Closes node nodes e list' left' i begin opened rest'
+    closes_on : {i begin opened : ℕ} {rest rest' : Rest} → ((k : ℕ) (s : List ℕ) → rest k s ≡ spend q js (λ j. rest' j s) k) → Closes list left i begin opened rest → Closes list' left' i begin opened rest'
     closes_on {i} {begin} {opened} {rest} {rest'} h v = record {
       named = v.named;
       inside = omega (arith, v.inside, r.same.grows);
@@ -99,24 +121,30 @@ module _ (node : ℕ → EstTime) (nodes : ℕ) (e : LinkEvent) where
             ∙ ap (nodes_in list' begin) b
 
   module _ (start n : ℕ) where
-    pub opened_on_lem : {list list' : List EstJoinPath} {left left' q : ℕ} {js : List ℕ} → Reads list left list' left' q js → (xs : List Item) (rest rest' : Rest) → ((k : ℕ) (s : List ℕ) → rest k s ≡ spend q js (λ j. rest' j s) k) → Opened node nodes e start n list left xs rest → Opened node nodes e start n list' left' xs rest'
+    -- The same of each node to be closed, and of the start; an alternative below is what comes after that.
+    abbrev pub Opened : (list : List EstJoinPath) (left : ℕ) → List Item → Rest → Type 0
+    Opened list left [] rest = Closes list left start n 4096 rest
+    Opened list left (Alternative i ∷ xs) rest = (i < nodes) × Opened list left xs (λ k s. rest k (i ∷ s))
+    Opened list left (Open i begin opened ∷ xs) rest = Closes list left i begin opened rest × Opened list left xs rest
+
+    pub opened_on_lem : {list list' : List EstJoinPath} {left left' q : ℕ} {js : List ℕ} → Reads list left list' left' q js → (xs : List Item) (rest rest' : Rest) → ((k : ℕ) (s : List ℕ) → rest k s ≡ spend q js (λ j. rest' j s) k) → Opened list left xs rest → Opened list' left' xs rest'
     opened_on_lem r [] rest rest' h v = closes_on r h v
     opened_on_lem r (Alternative i ∷ xs) rest rest' h v = (v.0, opened_on_lem r xs (λ k s. rest k (i ∷ s)) (λ k s. rest' k (i ∷ s)) (λ k s. h k (i ∷ s)) v.1)
     opened_on_lem r (Open i begin opened ∷ xs) rest rest' h v = (closes_on r h v.0, opened_on_lem r xs rest rest' h v.1)
 
     -- what the start gives goes on through all alternatives
-    opened_start : (list : List EstJoinPath) (left : ℕ) (xs : List Item) (rest : Rest) → Opened node nodes e start n list left xs rest → Closes node nodes e list left start n 4096 (λ k s. rest k (stack_of xs s))
+    opened_start : (list : List EstJoinPath) (left : ℕ) (xs : List Item) (rest : Rest) → Opened list left xs rest → Closes list left start n 4096 (λ k s. rest k (stack_of xs s))
     opened_start list left [] rest v = v
     opened_start list left (Alternative i ∷ xs) rest v = opened_start list left xs (λ k s. rest k (i ∷ s)) v.1
     opened_start list left (Open i begin opened ∷ xs) rest v = opened_start list left xs rest v.1
 
     -- a node is opened where the walk stands
-    pub opened_more : (b : Bool) (list : List EstJoinPath) (left i : ℕ) (xs : List Item) → i < nodes → 1 ≤ left → left ≤ 4096 → Opened node nodes e start n list left xs (λ k s. walked k node e i s) → Opened node nodes e start n list left (opened_on b i (length list) left xs) (λ k s. walked k node e i s)
+    pub opened_more : (b : Bool) (list : List EstJoinPath) (left i : ℕ) (xs : List Item) → i < nodes → 1 ≤ left → left ≤ 4096 → Opened list left xs (λ k s. walked k node e i s) → Opened list left (opened_on b i (length list) left xs) (λ k s. walked k node e i s)
     opened_more true list left i xs h a c v = (closes_begun list left i h a c, v)
     opened_more false list left i xs h a c v = v
 
     -- its alternative is stacked
-    pub opened_stacked : (alt : ℕ) (list : List EstJoinPath) (left : ℕ) (xs : List Item) (rest : Rest) → alt < nodes → Opened node nodes e start n list left xs (λ k s. rest k (alternative_stacked alt s)) → Opened node nodes e start n list left (stacked_on alt xs) rest
+    pub opened_stacked : (alt : ℕ) (list : List EstJoinPath) (left : ℕ) (xs : List Item) (rest : Rest) → alt < nodes → Opened list left xs (λ k s. rest k (alternative_stacked alt s)) → Opened list left (stacked_on alt xs) rest
     opened_stacked zero list left xs rest h v = v
     opened_stacked (suc alt) list left xs rest h v = (h, v)
 

@@ -8,9 +8,7 @@ use Prim.{Unit, tt}
 use Prim.Native.Nat.{ℕ, ◌+◌, ◌-◌, ◌*◌, ◌≤◌, ◌<◌}
 use native.Mathlib.Omega.{arith}
 use lib.ListN.{length, length-append}
-use Rattle.std.specs.Prelude.{reverse, Some, Result, Ok, Err, IsErr, IsErrAnd}
-use Rattle.refusals.specs.declared.Refusal.{Refusal}
-use Rattle.refusals.specs.declared.Refusal.TheVariants.{NoPlace}
+use Rattle.std.specs.Prelude.{reverse, Some}
 use Rattle.net_node.specs.declared.LinkEvent.{LinkEvent}
 use Rattle.net_node.specs.declared.EstTime.{EstTime}
 use Rattle.net_node.specs.Table.{same_event, Indexed}
@@ -23,8 +21,7 @@ use Rattle.net_join_paths.specs.declared.EstJoinPath.{EstJoinPath}
 use Rattle.net_join_paths.specs.Entries.{entry, push, pushed_if}
 use Rattle.net_join_paths.specs.Spans.{pushed_all, nodes_in}
 use Rattle.net_join_paths.proofs.Entries.{and_then_some}
-use Rattle.net_join_paths.specs.Spans.{Pushed}
-use Rattle.net_join_paths.proofs.Spans.{pushed_start, pushed_more}
+use Rattle.net_join_paths.proofs.Spans.{Pushed, pushed_more}
 use Rattle.net_stack.specs.Stack.{alternative_stacked}
 use Rattle.net_stack.specs.Openings.{stack_length, ends_strand, opening_of, opening_at, opening_left, opened_if}
 use Rattle.net_stack.proofs.Stacks.{stack_push}
@@ -34,8 +31,7 @@ use Rattle.net_strands.specs.Given.{WalkGives, Given}
 use Rattle.net_strands.proofs.Targets.{cons_if, pushed_each}
 use Rattle.net_strands.proofs.Spending.{spend_short, walk_none, walk_met, walk_ends, walk_on}
 use Rattle.net_strands.proofs.Given.{Walks, walks_by}
-use Rattle.net_strands.specs.Strands.{Item, Alternative, Open, numbers_of, Rest, pops, Closes, Opened, Popping, Standing, StrandLeft}
-use Rattle.net_strands.proofs.Opened.{stack_of, opened_on, stacked_on, opened_numbers, stacked_numbers, Reads, closes_begun, opened_on_lem, opened_more, opened_stacked, each_over, answer_is}
+use Rattle.net_strands.proofs.Opened.{Item, Alternative, Open, numbers_of, stack_of, opened_on, stacked_on, opened_numbers, stacked_numbers, Rest, Reads, Closes, closes_begun, Opened, opened_on_lem, opened_more, opened_stacked, each_over, answer_is}
 
 -- the next, if it is to be pushed, is a list of nodes
 pushed_one : (m : ℕ) (b : Bool) (i : ℕ) (es : List EstJoinPath) → pushed_if b es (entry m i) ≡ pushed_all m (cons_if b i []) es
@@ -74,6 +70,10 @@ nothing_left (i ∷ s) h = absurd (true≢false (sym (h (omega arith))))
 shorter : (s s' : List ℕ) (x : ℕ) → s ≡ s' ++ (x ∷ []) → length s ≡ length s' + 1
 shorter s s' x h = ap length h ∙ length-append s' (x ∷ [])
 
+-- the walk goes on by popping
+abbrev pub pops : (ℕ → EstTime) → LinkEvent → Rest
+pops node e k s = popped_to s (walked k node e)
+
 module _ (node : ℕ → EstTime) (nodes : ℕ) (e : LinkEvent) where
   -- what a node gives that is closed
   closes_gives : {list : List EstJoinPath} {left i begin opened : ℕ} → Closes node nodes e list left i begin opened (pops node e) → WalkGives node e list i begin (length list) (opened - left)
@@ -88,13 +88,30 @@ module _ (node : ℕ → EstTime) (nodes : ℕ) (e : LinkEvent) where
   known_gives {cells} {list} {w} {here} v h s k nexts g = span_said (λ b t. WalkGives node e list here b t nexts) (note_in cells w here strands_column) s k (walks_by node e list here refl g (v.strands here h))
 
 module _ (node : ℕ → EstTime) (nodes : ℕ) (e : LinkEvent) (start : ℕ) (list₀ : List EstJoinPath) where
+  -- A strand is left, and the stack's next is to be walked or closed.
+  pub record Popping (stack : List ℕ) (list : List EstJoinPath) (left : ℕ) : Type 0 where
+    pub items : List Item
+    pub holds : reverse stack ≡ numbers_of items
+    pub opened : Opened node nodes e start (length list₀) list left items (pops node e)
+    pub most : left ≤ 4096
+    pub room : length stack + left ≤ stack_length
+
+  -- The walk stands on a node.
+  pub record Standing (stack : List ℕ) (list : List EstJoinPath) (left here : ℕ) : Type 0 where
+    pub items : List Item
+    pub holds : reverse stack ≡ numbers_of items
+    pub opened : Opened node nodes e start (length list₀) list left items (λ k s. walked k node e here s)
+    pub within : here < nodes
+    pub most : left ≤ 4096
+    pub room : length stack + left ≤ stack_length
+
   -- A node is to be closed: its opening was on top, and the node is below it.
   pub record Closing (stack : List ℕ) (list : List EstJoinPath) (left opening : ℕ) : Type 0 where
     pub below : stack ≢ []
     pub closes : (stack' : List ℕ) (i : ℕ) → stack ≡ stack' ++ (i ∷ []) → Closes node nodes e list left i (opening_at opening) (opening_left opening) (pops node e)
-    pub popping : (stack' : List ℕ) (i : ℕ) → stack ≡ stack' ++ (i ∷ []) → Popping node nodes e start list₀ stack' list left
+    pub popping : (stack' : List ℕ) (i : ℕ) → stack ≡ stack' ++ (i ∷ []) → Popping stack' list left
 
-  pub popping_start : (stack : List ℕ) → stack ≡ start ∷ [] → start < nodes → Popping node nodes e start list₀ stack list₀ 4096
+  pub popping_start : (stack : List ℕ) → stack ≡ start ∷ [] → start < nodes → Popping stack list₀ 4096
   popping_start stack s h = record {
     items = Alternative start ∷ [];
     holds = ap reverse s;
@@ -103,7 +120,7 @@ module _ (node : ℕ → EstTime) (nodes : ℕ) (e : LinkEvent) (start : ℕ) (l
     room = let l : length stack ≡ 1 = ap length s in omega arith;
   }
 
-  module _ {stack : List ℕ} {list : List EstJoinPath} {left : ℕ} (v : Popping node nodes e start list₀ stack list left) where
+  module _ {stack : List ℕ} {list : List EstJoinPath} {left : ℕ} (v : Popping stack list left) where
     -- nothing is stacked: the walk has ended
     pub popping_last : (m : ℕ) → Pushed m list₀ list → stack ≡ [] → strands 4096 node e m (strand_from start list₀) ≡ some list
     unfolding pushed_all
@@ -116,10 +133,10 @@ module _ (node : ℕ → EstTime) (nodes : ℕ) (e : LinkEvent) (start : ℕ) (l
 
     module _ (stack' : List ℕ) (top : ℕ) (p : stack ≡ stack' ++ (top ∷ [])) (most : nodes ≤ 65535) where
       -- an alternative is on top: it is walked
-      pub popping_on : top < 65536 → Standing node nodes e start list₀ stack' list left top
+      pub popping_on : top < 65536 → Standing stack' list left top
       popping_on l = go v.items v.holds v.opened
         where
-          go : (xs : List Item) → reverse stack ≡ numbers_of xs → Opened node nodes e start (length list₀) list left xs (pops node e) → Standing node nodes e start list₀ stack' list left top
+          go : (xs : List Item) → reverse stack ≡ numbers_of xs → Opened node nodes e start (length list₀) list left xs (pops node e) → Standing stack' list left top
           go [] h o = not_none stack stack' top p h
           go (Alternative i ∷ xs) h o =
               let a = on_top stack stack' top i (numbers_of xs) p h in record {
@@ -155,12 +172,12 @@ module _ (node : ℕ → EstTime) (nodes : ℕ) (e : LinkEvent) (start : ℕ) (l
   -- A next was read: where the strand is left, and where it goes on.
   pub record Turned (m : ℕ) (list : List EstJoinPath) (left next : ℕ) (stack₂ : List ℕ) (y : EstTime) (met : Bool) (list' : List EstJoinPath) : Type 0 where
     pub pushed : Pushed m list list'
-    pub leaves : (ends : Bool) → ends_strand y ≡ ends → (met || ends) ≡ true → Popping node nodes e start list₀ stack₂ list' (left - 1)
-    pub goes : (ends : Bool) → ends_strand y ≡ ends → (met || ends) ≡ false → Standing node nodes e start list₀ stack₂ list' (left - 1) next
+    pub leaves : (ends : Bool) → ends_strand y ≡ ends → (met || ends) ≡ true → Popping stack₂ list' (left - 1)
+    pub goes : (ends : Bool) → ends_strand y ≡ ends → (met || ends) ≡ false → Standing stack₂ list' (left - 1) next
 
   -- ---- where the walk stands
 
-  module _ {stack : List ℕ} {list : List EstJoinPath} {left here : ℕ} (v : Standing node nodes e start list₀ stack list left here) where
+  module _ {stack : List ℕ} {list : List EstJoinPath} {left here : ℕ} (v : Standing stack list left here) where
     -- no next may be read
     pub standing_over : (m : ℕ) → Pushed m list₀ list → left ≡ 0 → strands 4096 node e m (strand_from start list₀) ≡ none
     standing_over m p z =
@@ -187,7 +204,7 @@ module _ (node : ℕ → EstTime) (nodes : ℕ) (e : LinkEvent) (start : ℕ) (l
       known_over p h = known_is p ∙ each_over m list (nodes_in list begin (end - begin)) h nexts rest left
 
       -- it is pushed
-      pub known_pushed : (list' : List EstJoinPath) → pushed_all m (nodes_in list begin (end - begin)) list ≡ some list' → nexts ≤ left → Popping node nodes e start list₀ stack list' (left - nexts) × Pushed m list list'
+      pub known_pushed : (list' : List EstJoinPath) → pushed_all m (nodes_in list begin (end - begin)) list ≡ some list' → nexts ≤ left → Popping stack list' (left - nexts) × Pushed m list list'
       known_pushed list' h l =
           let p = pushed_more m (nodes_in list begin (end - begin)) list list' h in
           let q : Reads list left list' (left - nexts) nexts (nodes_in list begin (end - begin)) = record { same = p.1.same; behind = p.0; reads = omega arith } in (
@@ -267,7 +284,7 @@ module _ (node : ℕ → EstTime) (nodes : ℕ) (e : LinkEvent) (start : ℕ) (l
               (opened_on_lem node nodes e start (length list₀) reads xs (λ k s. walked k node e here s) (λ k s. rest k (alternative_stacked x.idx_next_alt s)) h stands)
 
           -- the strand is left
-          turned-leaves : (ends : Bool) → ends_strand y ≡ ends → (met || ends) ≡ true → Popping node nodes e start list₀ stack₂ list' (left - 1)
+          turned-leaves : (ends : Bool) → ends_strand y ≡ ends → (met || ends) ≡ true → Popping stack₂ list' (left - 1)
           turned-leaves ends q t = record {
             items = stacked_on x.idx_next_alt xs;
             holds = holds₂;
@@ -282,7 +299,7 @@ module _ (node : ℕ → EstTime) (nodes : ℕ) (e : LinkEvent) (start : ℕ) (l
               go false false p q t = absurd (true≢false (sym t))
 
           -- it goes on at the next
-          turned-goes : (ends : Bool) → ends_strand y ≡ ends → (met || ends) ≡ false → Standing node nodes e start list₀ stack₂ list' (left - 1) x.idx_next
+          turned-goes : (ends : Bool) → ends_strand y ≡ ends → (met || ends) ≡ false → Standing stack₂ list' (left - 1) x.idx_next
           turned-goes ends q t = record {
             items = stacked_on x.idx_next_alt xs;
             holds = holds₂;
@@ -299,31 +316,3 @@ module _ (node : ℕ → EstTime) (nodes : ℕ) (e : LinkEvent) (start : ℕ) (l
 
           pub standing-turned : Turned m list left x.idx_next stack₂ y met list'
           standing-turned = record { pushed = got.1; leaves = turned-leaves; goes = turned-goes }
-
--- ---- the loop along one strand
-
--- the next of a node
-pub next_named : {node : ℕ → EstTime} {nodes here : ℕ} → Indexed node nodes → here < nodes → (x : EstTime) → x ≡ node here → x.idx_next < nodes
-next_named {nodes = nodes} {here = here} ix h x l = subst (λ (z : EstTime). z.idx_next < nodes) (sym l) (ix.next here h)
-
--- it is pushed if it has the event
-pub next_pushed : (m i : ℕ) (met : Bool) (list list' : List EstJoinPath) → pushed_if met list (entry m i) ≡ some list' → Pushed m list list'
-next_pushed m i met list list' a = (pushed_more m (cons_if met i []) list list' (sym (pushed_one m met i list) ∙ a)).1
-
--- a refusal that is passed on by `?`
-pub strand_over : {node : ℕ → EstTime} {nodes : ℕ} {e : LinkEvent} {m : ℕ} {stack : List ℕ} {list : List EstJoinPath} {left here : ℕ} {x : Refusal} (stack' : List ℕ) (list' : List EstJoinPath) (r : Result ℕ Refusal) → IsErr r × IsErrAnd r (λ y. y ≡ x)
-    → ((start : ℕ) (list₀ : List EstJoinPath) → Standing node nodes e start list₀ stack list left here → Pushed m list₀ list → strands 4096 node e m (strand_from start list₀) ≡ none) → x ≡ NoPlace → StrandLeft node nodes e m stack list left here stack' list' r
-strand_over stack' list' (Ok k) g h n = absurd g.1
-strand_over stack' list' (Err y) g h n = (h, g.1 ∙ n)
-
--- Wherever the walk stood, it stands at the node, with so many nexts left and these entries pushed.
-pub record Going (node : ℕ → EstTime) (nodes : ℕ) (e : LinkEvent) (m : ℕ) (stack₀ : List ℕ) (list₁ : List EstJoinPath) (left₀ here₀ : ℕ) (stack : List ℕ) (list : List EstJoinPath) (left here : ℕ) : Type 0 where
-  pub stands : (start : ℕ) (list₀ : List EstJoinPath) → Standing node nodes e start list₀ stack₀ list₁ left₀ here₀ → Standing node nodes e start list₀ stack list left here
-  pub within : here < nodes
-  pub most : left ≤ 4096
-  pub room : length stack + left ≤ stack_length
-  pub reads : left * 4 + length stack ≤ left₀ * 4 + length stack₀
-  pub pushed : Pushed m list₁ list
-
-pub going_start : (node : ℕ → EstTime) (nodes : ℕ) (e : LinkEvent) (m : ℕ) (stack : List ℕ) (list : List EstJoinPath) (left here : ℕ) → here < nodes → left ≤ 4096 → length stack + left ≤ stack_length → Going node nodes e m stack list left here stack list left here
-going_start node nodes e m stack list left here h a r = record { stands = λ start list₀ v. v; within = h; most = a; room = r; reads = omega arith; pushed = pushed_start m list }

@@ -2,4 +2,3 @@ pub mod Space
 pub mod Steps
 pub mod Walks
 pub mod Given
-pub mod Strands

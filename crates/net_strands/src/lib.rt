@@ -2,14 +2,11 @@
 // Contracts: specs/Space.antt; of the inner functions specs/Steps.antt, specs/Walks.antt, specs/Given.antt.
 #![tactic(auto)]
 
-ghost use Rattle.std.specs.Prelude.{◌≡◌, [], ◌+◌, ◌≤◌, ◌<◌};
-ghost use Rattle.arrayvec.specs.ArrayVec.{array_vec_len};
+ghost use Rattle.std.specs.Prelude.{◌≡◌, [], ◌≤◌, ◌<◌};
 ghost use Rattle.net_node.specs.Table.{node_at, Room, Indexed};
 ghost use Rattle.net_event_map.specs.EventMap.{CellsApart};
 ghost use Rattle.net_notes.specs.Log.{Touched, Ungiven};
 ghost use Rattle.net_join_paths.specs.Entries.{EntriesAs, Valid, ListBecomes};
-ghost use Rattle.net_stack.specs.Openings.{stack_length};
-ghost use Rattle.net_strands.specs.Strands.{StrandLeft};
 ghost use Rattle.net_strands.specs.Space.{alternatives, strand_from, strands, followed, extended};
 ghost use Rattle.net_strands.specs.Space.{extended_all};
 ghost use Rattle.net_strands.specs.Steps.{new_match, nodes_at_entry, WalkRoom};
@@ -100,69 +97,9 @@ fn follow_matched(
     Ok(())
 }
 
-// One strand, from a node on: along nexts, with alternatives stacked, up to the event, an Arrive, an end, or a node of
-// which it is noted what strands from it give. Of `left` nexts that may be read so many are left then.
-fn follow_strand(
-    floats: &[f64],
-    numbers: &[u32],
-    nodes: usize,
-    event: LinkEvent,
-    link_idx_match: u32,
-    start: u32,
-    several: bool,
-    cells: &[u32],
-    w: Layout,
-    stack: &mut Stack,
-    list: &mut JoinPaths,
-    left: u32,
-) -> Result<u32, Refusal>
-    requires walk_room { WalkRoom floats.now numbers.now cells.now nodes w }
-    requires start_lt_nodes { start < nodes }
-    requires given { Given cells.now w (node_at floats.now numbers.now) nodes event list.old.items }
-    requires left_bound { array_vec_len stack.old + left ≤ stack_length }
-    requires left_bound_2 { left ≤ 4096 }
-    ensures { StrandLeft (nodes_at_entry floats numbers) nodes event link_idx_match stack.old.items
-        list.old.items left start stack.new.items list.new.items result }
-{
-    let mut here = start;
-    let mut left = left;
-    while left > 0 {
-        let node = net_node::load(floats, numbers, here as usize);
-        let may_meet = several & ((node.idx_prev_alt != 0) | (left == 4096));
-        if may_meet {
-            if let Some(span) = net_notes::noted_span(cells, w, here, Column::Strands) {
-                let nexts = net_notes::noted(cells, w, here, Column::Nexts);
-                if left < nexts {
-                    return Err(Refusal::NoPlace);
-                }
-                push_span(list, link_idx_match, span)?;
-                left -= nexts;
-                return Ok(left);
-            }
-        }
-        net_stack::stack_node(may_meet, stack, here, list.len(), left, node.idx_next_alt);
-        left -= 1;
-        let next = node.idx_next;
-        let there = net_node::load(floats, numbers, next as usize);
-        let has_event = there.link_event == event;
-        if has_event {
-            let x = EstJoinPath {
-                link_idx_match,
-                est_idx_next: next,
-            };
-            push_entry(list, x)?;
-        }
-        if has_event | net_stack::ends_strand(there) {
-            return Ok(left);
-        }
-        here = next;
-    }
-    Err(Refusal::NoPlace)
-}
-
-// An entry that does not match yet: one strand after the other, each stacked alternative and the start. With several
-// entries in the list it is noted what the start gives, and what nodes give where strands can meet: those with a
-// previous alternative.
+// An entry that does not match yet: strands along nexts, with alternatives stacked, each up to the event, an Arrive, an
+// end, or a node of which it is noted what strands from it give. With several entries in the list that is noted of the
+// start, and of nodes where strands can meet: those with a previous alternative.
 fn follow_strands(
     floats: &[f64],
     numbers: &[u32],
@@ -184,31 +121,51 @@ fn follow_strands(
         (nodes_at_entry floats numbers) nodes event cells.old list.old.items
         cells.new list.new.items result }
 {
-    // What is on the stack is still to be walked or closed, from the last down; `left` nexts may be read.
+    // What is on the stack is still to be walked or closed, from the last down; `left` nexts may be read. Both loops
+    // stand in one function: document 01 names the form (docs/DECISIONS.md).
     let mut left: u32 = 4096;
     stack.clear();
     stack.push(start);
-    while let Some(top) = stack.pop() {
+    'strands: while let Some(top) = stack.pop() {
         if top >= 65536 {
             if let Some(i) = stack.pop() {
                 net_stack::close_node(cells, w, i, top, list.len(), left);
             }
-            continue;
+            continue 'strands;
         }
-        left = follow_strand(
-            floats,
-            numbers,
-            nodes,
-            event,
-            link_idx_match,
-            top,
-            several,
-            cells,
-            w,
-            stack,
-            list,
-            left,
-        )?;
+        let mut here = top;
+        while left > 0 {
+            let node = net_node::load(floats, numbers, here as usize);
+            let may_meet = several & ((node.idx_prev_alt != 0) | (left == 4096));
+            if may_meet {
+                if let Some(span) = net_notes::noted_span(cells, w, here, Column::Strands) {
+                    let nexts = net_notes::noted(cells, w, here, Column::Nexts);
+                    if left < nexts {
+                        return Err(Refusal::NoPlace);
+                    }
+                    push_span(list, link_idx_match, span)?;
+                    left -= nexts;
+                    continue 'strands;
+                }
+            }
+            net_stack::stack_node(may_meet, stack, here, list.len(), left, node.idx_next_alt);
+            left -= 1;
+            let next = node.idx_next;
+            let there = net_node::load(floats, numbers, next as usize);
+            let has_event = there.link_event == event;
+            if has_event {
+                let x = EstJoinPath {
+                    link_idx_match,
+                    est_idx_next: next,
+                };
+                push_entry(list, x)?;
+            }
+            if has_event | net_stack::ends_strand(there) {
+                continue 'strands;
+            }
+            here = next;
+        }
+        return Err(Refusal::NoPlace);
     }
     Ok(())
 }

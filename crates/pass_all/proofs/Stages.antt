@@ -51,9 +51,6 @@ fifteen (Err y) x o h e f t left v =
     subst (λ (s : Refusal). TimedAs t (refusal_number s) left) z v
 fifteen (Ok u) x o h e f t left v = absurd h
 
-pub room_kept : (fs gs : List Float) (us vs : List ℕ) (n : ℕ) → Room fs us n → length gs ≡ length fs → length vs ≡ length us → Room gs vs n
-room_kept fs gs us vs n r f u = record { floats = omega (arith, r.floats); numbers = omega (arith, r.numbers); most = r.most }
-
 -- ---- no flag is set before a pass
 
 none_flagged : (flags : List ℕ) → flags ≡ zeros (length flags) → (i : ℕ) → done_in flags i ≡ false

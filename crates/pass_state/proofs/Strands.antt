@@ -69,13 +69,6 @@ pub record Stranding (w : Walker) (backward : Bool) (n : ℕ) (held₀ : PassSli
 pub lengths_same : (held : PassSlices) → SameLengths held held
 lengths_same held = record { floats = refl; numbers = refl; flags = refl; times = refl; nodes = refl }
 
-pub strand_start : (w : Walker) {backward : Bool} {n : ℕ} {held : PassSlices} {first : Stand} → Standing backward n held first → Stranding w backward n held first held first
-strand_start w {backward} {n} {held} {first} o = record {
-  lengths = lengths_same held;
-  stands = o;
-  sought = λ p v. record { pass = p; fuel = n; is = refl; holds = v; enough = left_most p.done n; fewer = omega arith };
-}
-
 module _ (w : Walker) {backward : Bool} {n : ℕ} {held₀ : PassSlices} {first : Stand} {held : PassSlices} {at : Stand} (s : Stranding w backward n held₀ first held at)
     {after : PassSlices} where
   -- a step fails
@@ -94,15 +87,6 @@ module _ (w : Walker) {backward : Bool} {n : ℕ} {held₀ : PassSlices} {first 
     strand_stands =
         let g = (given_by s.stands.working.pass s.stands.working.holds).told in
         record { working = works g.0.holds; curr = g.1.0; ahead = g.1.1 }
-
-    -- one fewer is left
-    pub strand_less : left (done_in after.flags) n < left (done_in held.flags) n
-    strand_less =
-        let o = s.stands.working in
-        let g = (given_by o.pass o.holds).told.0 in
-        let a : left g.pass.done n ≡ left (done_in after.flags) n = ap (λ (f : ℕ → Bool). left f n) g.holds.done in
-        let b : left o.pass.done n ≡ left (done_in held.flags) n = ap (λ (f : ℕ → Bool). left f n) o.holds.done in
-        omega (arith, g.fewer)
 
     module _ (t : Bool) (stop : (p : Pass) → PassIn backward n after to.count (n - 2) p → t ≡ w.stops (w.form to.curr to.ahead p)) where
       -- the walk stops

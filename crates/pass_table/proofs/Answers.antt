@@ -48,10 +48,6 @@ pub handed_on : (r : Result ℕ Refusal) (x : Refusal) → IsErrAnd r (λ y. y �
 handed_on (Err y) x h t left v = subst (λ (s : Refusal). TimedAs t (refusal_number s) left) (sym h) v
 handed_on (Ok n) x h t left v = absurd h
 
-pub none_handed : (r : Result ℕ Refusal) (x : Refusal) → IsErrAnd r (λ y. y ≡ x) → (P : ℕ → Type 0) → IfOk r P
-none_handed (Err y) x h P = tt
-none_handed (Ok n) x h P = absurd h
-
 -- ---- rows 3 to 5, then the passes
 
 module _ (lent : Table) (departure : Float) (n units rs cs ms : ℕ) (e : n ≡ nodes_in lent) (f : units ≡ units_of rs cs ms) (number : ℕ) (g : number ≡ first_number lent n departure (64 * units)) where

@@ -1,25 +1,61 @@
--- `net_strands::follow_strands` meets its contract: `Popping` is what the loop keeps; beside it the entries that were pushed, and what the cells say.
-use mathlib.Core.Path.{refl, ap, ◌∙◌}
+-- `net_strands::follow_strands` meets its contract: `Popping` is what the outer loop keeps, and `Standing` what the inner one does; beside them the entries that were pushed since each loop began, and what the cells say.
+use mathlib.Core.Path.{◌≡◌, refl, sym, ap, ◌∙◌}
+use mathlib.Core.Bool.{Bool, not, ◌&&◌, ◌||◌}
+use mathlib.Core.Option.{some}
 use mathlib.Core.List.{List, [], ◌∷◌, ◌++◌}
+use Prim.{tt}
+use Prim.Native.Nat.{ℕ}
 use native.Mathlib.Omega.{arith}
+use lib.Dec.{eqb}
+use lib.ListN.{length}
+use Rattle.std.specs.Prelude.{reverse}
 use Rattle.net_node.specs.Table.{node_at}
-use Rattle.net_join_paths.proofs.Spans.{pushed_start, pushed_then}
-use Rattle.net_strands.specs.Strands.{Standing}
+use Rattle.net_node.proofs.Events.{event_eq}
+use Rattle.arrayvec.specs.ArrayVec.{ArrayVec}
+use Rattle.net_join_paths.specs.declared.EstJoinPath.{EstJoinPath}
+use Rattle.net_join_paths.specs.Entries.{entry, pushed_if}
+use Rattle.net_join_paths.proofs.Spans.{Pushed, pushed_start, pushed_then}
+use Rattle.net_stack.specs.Stack.{alternative_stacked}
+use Rattle.net_stack.specs.Openings.{opening_of, opens, opened_if}
+use Rattle.net_strands.specs.Given.{WalkGives}
 use Rattle.net_strands.proofs.Given.{given_kept, given_noted, extends_over}
-use Rattle.net_strands.proofs.Walking.{nothing_left, Closing, popping_start, popping_last, popping_on, popping_closes, closes_says}
+use Rattle.net_strands.proofs.Walking.{nothing_left, Closing, Turned, popping_start, popping_last, popping_on, popping_closes, closes_says, known_gives, standing_over, standing_full, known_short, known_over, known_pushed, standing-turned}
 use Rattle.net_strands.proofs.follow_strands.Goals as goal
-use Rattle.net_strands.proofs.follow_strands.Goals.{Then-top-ge65536, Else-top-ge65536}
+use Rattle.net_strands.proofs.follow_strands.Goals.{Then-top-ge65536, After-noted-nexts, At-loop-left, After-ends_strand, then-has_event+in_ok-push_entry, else-has_event}
 
 -- an opening was on top of the stack
-closing : (c : Then-top-ge65536) → Closing (node_at c.args.floats.now c.args.numbers.now) c.args.nodes c.args.event c.args.start c.args.list.now.items c.pop.new.self.items c.loop-top.list.items c.loop-top.left c.in-Some.top
-closing c = popping_closes _ _ _ _ _ c.loop-top.invariant.1 _ _ c.in-Some.ensures.items c.requires.walk_room.table.most c.if-top-ge65536.true
+closing : (c : Then-top-ge65536) → Closing (node_at c.args.floats.now c.args.numbers.now) c.args.nodes c.args.event c.args.start c.args.list.now.items c.pop.new.self.items c.strands.list.items c.strands.left c.in-Some.top
+closing c = popping_closes _ _ _ _ _ c.strands.invariant.1 _ _ c.in-Some.ensures.items c.requires.walk_room.table.most c.if-top-ge65536.true
 
--- a node to be walked was
-standing : (c : Else-top-ge65536) → Standing (node_at c.args.floats.now c.args.numbers.now) c.args.nodes c.args.event c.args.start c.args.list.now.items c.pop.new.self.items c.loop-top.list.items c.loop-top.left c.in-Some.top
-standing c = popping_on _ _ _ _ _ c.loop-top.invariant.1 _ _ c.in-Some.ensures.items c.requires.walk_room.table.most (omega (arith, c.if-top-ge65536.false))
+-- what was pushed since the walk began
+whole : (c : At-loop-left) → Pushed c.args.link_idx_match c.args.list.now.items c.loop-left.list.items
+whole c = pushed_then c.strands.invariant.2 c.loop-left.invariant.2
 
-pub loop-top-init : goal.loop-top-init
-loop-top-init c = let r = c.requires in (refl, popping_start _ _ _ _ _ _ (c.push.ensures.items ∙ ap (λ (s : List _). s ++ (c.args.start ∷ [])) c.clear.ensures) r.start_lt_nodes, pushed_start _ _, r.given, λ z t. t)
+-- what is noted of the node
+known : (c : After-noted-nexts) → WalkGives (node_at c.args.floats.now c.args.numbers.now) c.args.event c.loop-left.list.items c.loop-left.here c.in-Some-noted_span.span.begin c.in-Some-noted_span.span.end c.noted-nexts.result
+known c = known_gives _ _ _ (given_kept c.loop-left.invariant.2.same c.strands.invariant.3) c.loop-left.invariant.1.within _ c.in-Some-noted_span.ensures _ c.noted-nexts.ensures
+
+-- the next is put behind the list if it has the event
+got : (c : After-ends_strand) → pushed_if c.eq-has_event.result c.loop-left.list.items (entry c.args.link_idx_match c.load-node.result.idx_next) ≡ some c.if-has_event.list.items
+unfolding entry
+got c =
+    let pushed = λ (b : Bool). pushed_if b c.loop-left.list.items (entry c.args.link_idx_match c.load-node.result.idx_next) in
+    let items = λ (l : ArrayVec EstJoinPath). some l.items in
+    elim c.if-has_event.branch [
+      | then-has_event+in_ok-push_entry w ↦ ap pushed w.if-has_event.true ∙ w.in_ok-push_entry.ensures.list ∙ ap items (sym w.list-is)
+      | else-has_event w ↦ ap pushed w.if-has_event.false ∙ ap items (sym w.list-is)
+    ]
+
+-- the next was read
+turned : (c : After-ends_strand) → Turned (node_at c.args.floats.now c.args.numbers.now) c.args.nodes c.args.event c.args.start c.args.list.now.items c.args.link_idx_match c.loop-left.list.items c.loop-left.left c.load-node.result.idx_next c.stack_node.new.stack.items c.load-there.result c.eq-has_event.result c.if-has_event.list.items
+turned c =
+    let s = c.stack_node.ensures in
+    let x = c.load-node.result in
+    let opened : Bool = opens (c.args.several && (not (eqb x.idx_prev_alt 0) || eqb c.loop-left.left 4096)) c.loop-left.left (length c.loop-left.stack.items) in
+    standing-turned _ _ _ _ _ c.loop-left.invariant.1 c.requires.walk_room.indexed _ c.load-node.ensures _ c.load-there.ensures c.loop-left-test.true opened _ (s.holds ∙ ap (λ (n : ℕ). alternative_stacked x.idx_next_alt (opened_if opened (opening_of n c.loop-left.left) c.loop-left.here (reverse c.loop-left.stack.items))) c.len-in-loop-left.ensures.value) s.room _ _ (sym (c.eq-has_event.ensures ∙ event_eq _ _)) _ (got c)
+
+pub strands-init : goal.strands-init
+strands-init c = let r = c.requires in (refl, popping_start _ _ _ _ _ _ (c.push.ensures.items ∙ ap (λ (s : List ℕ). s ++ (c.args.start ∷ [])) c.clear.ensures) r.start_lt_nodes, pushed_start _ _, r.given, λ z t. t)
 
 pub close_node-requires-clause-i_lt_places : goal.close_node-requires-clause-i_lt_places
 close_node-requires-clause-i_lt_places c = omega (arith, ((closing (goal.at.close_node-requires-clause-i_lt_places c).Then-top-ge65536).closes _ _ c.in-Some-pop.ensures.items).named, c.requires.walk_room.within)
@@ -30,10 +66,10 @@ close_node-requires-clause-opening_bound c = omega (arith, ((closing (goal.at.cl
 pub close_node-requires-clause-left_bound : goal.close_node-requires-clause-left_bound
 close_node-requires-clause-left_bound c = ((closing (goal.at.close_node-requires-clause-left_bound c).Then-top-ge65536).closes _ _ c.in-Some-pop.ensures.items).spent
 
-pub loop-top-preserved-in-Some-pop : goal.loop-top-preserved-in-Some-pop
-loop-top-preserved-in-Some-pop c =
-    let v = c.loop-top.invariant in
-    let k = closing (goal.at.loop-top-preserved-in-Some-pop c).Then-top-ge65536 in
+pub strands-preserved-in-Some-pop : goal.strands-preserved-in-Some-pop
+strands-preserved-in-Some-pop c =
+    let v = c.strands.invariant in
+    let k = closing (goal.at.strands-preserved-in-Some-pop c).Then-top-ge65536 in
     let n = k.closes _ _ c.in-Some-pop.ensures.items in
     let s = c.close_node in (
       s.auto.cells ∙ v.0,
@@ -43,30 +79,64 @@ loop-top-preserved-in-Some-pop c =
       λ z t. s.ensures.touched z (v.4 z t),
     )
 
-pub loop-top-preserved-in_default-pop : goal.loop-top-preserved-in_default-pop
-loop-top-preserved-in_default-pop c = absurd ((closing (goal.at.loop-top-preserved-in_default-pop c).Then-top-ge65536).below (nothing_left _ c.in_default-pop.ensures.variant.1))
+pub strands-preserved-in_default-pop : goal.strands-preserved-in_default-pop
+strands-preserved-in_default-pop c = absurd ((closing (goal.at.strands-preserved-in_default-pop c).Then-top-ge65536).below (nothing_left _ c.in_default-pop.ensures.variant.1))
 
-pub follow_strand-requires-clause-start_lt_nodes : goal.follow_strand-requires-clause-start_lt_nodes
-follow_strand-requires-clause-start_lt_nodes c = (standing (goal.at.follow_strand-requires-clause-start_lt_nodes c).Else-top-ge65536).within
+pub loop-left-init : goal.loop-left-init
+loop-left-init c =
+    (omega arith, popping_on _ _ _ _ _ c.strands.invariant.1 _ _ c.in-Some.ensures.items c.requires.walk_room.table.most (omega (arith, c.if-top-ge65536.false)), pushed_start _ _)
 
-pub returns-in_err-left : goal.returns-in_err-left
-returns-in_err-left c =
-    let v = c.loop-top.invariant in
-    let q = c.in_err-left.ensures in
-    extends_over _ _ c.from_residual.ensures (q.0 _ _ (standing (goal.at.returns-in_err-left c).Else-top-ge65536) v.2) q.1 v.4
+pub returns-then-left-nexts : goal.returns-then-left-nexts
+returns-then-left-nexts c = record { answer = (known_short _ _ _ _ _ c.loop-left.invariant.1 (known (goal.at.returns-then-left-nexts c).After-noted-nexts) _ (whole (goal.at.returns-then-left-nexts c).At-loop-left) c.if-left-nexts.true, refl); given = tt; touched = c.strands.invariant.4 }
 
-pub loop-top-preserved : goal.loop-top-preserved
-loop-top-preserved c =
-    let v = c.loop-top.invariant in
-    let q = c.in_ok-left.ensures in (
+pub returns-in_err-push_span : goal.returns-in_err-push_span
+returns-in_err-push_span c =
+    let p = c.in_err-push_span.ensures in
+    extends_over _ _ c.from_residual.ensures (known_over _ _ _ _ _ c.loop-left.invariant.1 (known (goal.at.returns-in_err-push_span c).After-noted-nexts) _ (whole (goal.at.returns-in_err-push_span c).At-loop-left) p.0) p.1 c.strands.invariant.4
+
+pub strands-preserved-in-Some-noted_span : goal.strands-preserved-in-Some-noted_span
+strands-preserved-in-Some-noted_span c =
+    let v = c.strands.invariant in
+    let i = c.loop-left.invariant in
+    let k = known_pushed _ _ _ _ _ i.1 (known (goal.at.strands-preserved-in-Some-noted_span c).After-noted-nexts) _ _ c.in_ok-push_span.ensures (omega (arith, c.if-left-nexts.false)) in (
       v.0,
-      q.0 _ _ (standing (goal.at.loop-top-preserved c).Else-top-ge65536),
-      pushed_then v.2 q.1.0,
-      given_kept q.1.0.same v.3,
+      k.0,
+      pushed_then (pushed_then v.2 i.2) k.1,
+      given_kept k.1.same (given_kept i.2.same v.3),
       v.4,
     )
 
+pub returns-in_err-push_entry : goal.returns-in_err-push_entry
+unfolding entry
+returns-in_err-push_entry c =
+    let p = c.in_err-push_entry.ensures.list in
+    extends_over _ _ c.from_residual-in_err-push_entry.ensures (standing_full _ _ _ _ _ c.loop-left.invariant.1 c.requires.walk_room.indexed _ c.load-node.ensures _ c.load-there.ensures _ (whole (goal.at.returns-in_err-push_entry c).At-loop-left) (sym (event_eq _ _) ∙ sym c.eq-has_event.ensures ∙ c.if-has_event.true) p.0) p.1 c.strands.invariant.4
+
+pub strands-preserved : goal.strands-preserved
+strands-preserved c =
+    let v = c.strands.invariant in
+    let i = c.loop-left.invariant in
+    let t = turned (goal.at.strands-preserved c).After-ends_strand in (
+      v.0,
+      t.leaves _ (sym c.ends_strand.ensures) c.if-has_event-ends_strand.true,
+      pushed_then (pushed_then v.2 i.2) t.pushed,
+      given_kept t.pushed.same (given_kept i.2.same v.3),
+      v.4,
+    )
+
+pub loop-left-preserved : goal.loop-left-preserved
+loop-left-preserved c =
+    let i = c.loop-left.invariant in
+    let t = turned (goal.at.loop-left-preserved c).After-ends_strand in (
+      omega (arith, c.loop-left-test.true, i.0, c.stack_node.ensures.top),
+      t.goes _ (sym c.ends_strand.ensures) c.if-has_event-ends_strand.false,
+      pushed_then i.2 t.pushed,
+    )
+
+pub returns-in-Some : goal.returns-in-Some
+returns-in-Some c = record { answer = (standing_over _ _ _ _ _ c.loop-left.invariant.1 _ (whole (goal.at.returns-in-Some c).At-loop-left) (omega (arith, c.loop-left-test.false)), refl); given = tt; touched = c.strands.invariant.4 }
+
 pub returns : goal.returns
 returns c =
-    let v = c.loop-top.invariant in
+    let v = c.strands.invariant in
     record { answer = popping_last _ _ _ _ _ v.1 _ v.2 (nothing_left _ c.in_default.ensures.variant.1); given = v.3; touched = v.4 }
