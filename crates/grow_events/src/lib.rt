@@ -195,6 +195,7 @@ pub fn run_events(
         let became = run_event(
             floats, numbers, cells, w, join, joins, scratch, stack, counts, mover, e,
         );
+        // One pattern for both, `Ok(RunOutcome::On(..))`, was tried: its proof didn't close.
         let Ok(outcome) = became else {
             return stopped(events, became);
         };

@@ -1,8 +1,8 @@
 -- `grow_book::drive` meets its contract: `Turning` is the loop's invariant.
 use mathlib.Core.Path.{ap, subst}
 use native.Mathlib.Omega.{arith}
-use Rattle.refusals.proofs.Answers.{handed_on}
 use Rattle.book_format.specs.Format.{legs}
+use Rattle.refusals.proofs.Answers.{handed_on}
 use Rattle.grow_state.specs.Held.{SameDrive, with_front}
 use Rattle.grow_book.specs.Answers.{NextRun}
 use Rattle.grow_book.proofs.Driving.{turning_start, turning_plan, turning_some, next_some, turning_done, turning_over, turning_stop, turning_on, up_driving, up_turn_as}
@@ -19,7 +19,9 @@ loop-init c = turning_start _ _ _ _ _ _ _ _ c.requires.from_origins
 pub next_run-next-requires : goal.next_run-next-requires
 next_run-next-requires c =
     let v = c.loop.invariant in
-    record { some_drive = record { b = _; fs = _; us = _; plan = turning_plan _ _ _ _ _ _ _ _ _ _ _ _ _ _ _ v c.requires.plan_in; driving = turning_some _ _ _ _ _ _ _ _ _ _ _ _ _ _ _ v } }
+    record {
+      some_drive = record { b = _; fs = _; us = _; plan = turning_plan _ _ _ _ _ _ _ _ _ _ _ _ _ _ _ v c.requires.plan_in; driving = turning_some _ _ _ _ _ _ _ _ _ _ _ _ _ _ _ v };
+    }
 
 pub returns-in_default : goal.returns-in_default
 returns-in_default c = λ path net runs d.
