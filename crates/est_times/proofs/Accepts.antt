@@ -15,14 +15,16 @@ use Rattle.laws.proofs.Refusals.{none_holds}
 use Rattle.laws.proofs.Below.{none_left, none_right}
 use Rattle.floats.specs.Floats.{book_float}
 use Rattle.space.specs.Space.{units_of, bytes_of}
-use Rattle.book_format.specs.declared.Sections.{Sections}
 use Rattle.book_format.specs.Format.{links, origins, destinations, legs, samples, link_length, join_bits, departure_bits, length_bits}
 use Rattle.book_format.specs.Rows.{row1, row2, row3, row4, row5, row7, work_bytes, bad_origin_value, bad_sample, bad_leg, leg_repeats, leg_falls, leg_begins}
 use Rattle.book_format.proofs.Theorems.{length_by_counts}
 use Rattle.book_options.specs.Options.{row8, search_room}
-use Rattle.book_reader.specs.declared.Reading.{Reading}
-use Rattle.book_reader.specs.declared.Reading.TheVariants.{Accepted, Refused}
-use Rattle.book_reader.specs.Reader.{rows_from4, read_rows, read_number, reading_number, Ready, ReadInto, BookRead}
+use Rattle.std.specs.Prelude.{Result, Ok, Err}
+use Rattle.laws.specs.Answer.{number_of}
+use Rattle.refusals.specs.declared.Refusal.{Refusal}
+use Rattle.refusals.specs.Refusals.{refusal_number, told}
+use Rattle.book_reader.specs.declared.Accepted.{Accepted}
+use Rattle.book_reader.specs.Reader.{rows_from4, read_rows, read_number, Ready, ReadInto, BookRead}
 use Rattle.book_reader.proofs.Rooms.{enough}
 use Rattle.arcs_growth.specs.Read.{Read}
 use Rattle.arcs_growth.proofs.Books.{read_rows_lem}
@@ -111,37 +113,22 @@ enough_of b f n r c m p = enough_units b (places_of f n) (units_of r c m) r c m 
 
 -- ---- the reader's answer, once its case is known
 
-module _ (b : List ℕ) (places bytes : ℕ) (cells marks : List ℕ) (r : Reading) {lent : List ℕ} (read : BookRead b places bytes cells lent marks r) where
-  pub accepted_ready : {s : Sections} {k : ℕ} → r ≡ Accepted s k → Ready b s k cells marks
-  accepted_ready e = subst (ReadInto b cells marks) e read.into
+module _ (b : List ℕ) (places bytes : ℕ) (cells marks : List ℕ) (r : Result Accepted Refusal) {lent : List ℕ} (read : BookRead b places bytes cells lent marks r) where
+  accepted_into : {a : Accepted} → r ≡ Ok a → (a.book ≡ b) × Ready b a.kept cells marks
+  accepted_into e = subst (ReadInto b cells marks) e read.into
 
-  pub accepted_zero : {s : Sections} {k : ℕ} → r ≡ Accepted s k → read_number b places bytes ≡ 0
-  accepted_zero e = sym read.number ∙ ap reading_number e
+  pub accepted_book : {a : Accepted} → r ≡ Ok a → a.book ≡ b
+  accepted_book e = (accepted_into e).0
 
-  pub refused_number : {k : ℕ} → r ≡ Refused k → read_number b places bytes ≡ k
-  refused_number e = sym read.number ∙ ap reading_number e
+  pub accepted_ready : {a : Accepted} → r ≡ Ok a → Ready a.book a.kept cells marks
+  accepted_ready {a} e = subst (λ (x : List ℕ). Ready x a.kept cells marks) (sym (accepted_book e)) (accepted_into e).1
 
-  pub refused_some : {k : ℕ} → r ≡ Refused k → k ≡ 0 → ⊥
-  refused_some e = subst (ReadInto b cells marks) e read.into
+  pub accepted_zero : {a : Accepted} → r ≡ Ok a → read_number b places bytes ≡ 0
+  accepted_zero e = sym read.number ∙ ap (λ (x : Result Accepted Refusal). number_of (told x)) e
 
--- its number is that of one of the rows 1 to 8
-at_most : ℕ → List Row → Type 0
-at_most m [] = Unit
-at_most m (r ∷ rows) = (r.number ≤ m) × at_most m rows
-
-first_most : (m : ℕ) (rows : List Row) → at_most m rows → first_of rows ≤ m
-unfolding first_of at_most
-first_most m [] h = omega arith
-first_most m (r ∷ rows) h = go r.holds (first_most m rows h.1)
-  where
-    go : (x : Bool) → first_of rows ≤ m → cond x r.number (first_of rows) ≤ m
-    go true k = h.0
-    go false k = k
-
-pub read_most : (b : List ℕ) (places bytes : ℕ) → read_number b places bytes ≤ 8
-unfolding read_number read_rows rows_from4 at_most
-read_most b places bytes = first_most 8 (read_rows b places bytes) (lit≤ tt, (lit≤ tt, (lit≤ tt, (lit≤ tt, (lit≤ tt, (lit≤ tt, (lit≤ tt, (lit≤ tt, tt))))))))
+  pub refused_number : {k : Refusal} → r ≡ Err k → read_number b places bytes ≡ refusal_number k
+  refused_number e = sym read.number ∙ ap (λ (x : Result Accepted Refusal). number_of (told x)) e
 
 -- the reader was told how many places there are
-pub read_as : {b : List ℕ} {places more bytes : ℕ} {cells lent marks : List ℕ} {r : Reading} → places ≡ more → BookRead b places bytes cells lent marks r → BookRead b more bytes cells lent marks r
+pub read_as : {b : List ℕ} {places more bytes : ℕ} {cells lent marks : List ℕ} {r : Result Accepted Refusal} → places ≡ more → BookRead b places bytes cells lent marks r → BookRead b more bytes cells lent marks r
 read_as {b} {places} {more} {bytes} {cells} {lent} {marks} {r} e = subst (λ (k : ℕ). BookRead b k bytes cells lent marks r) e

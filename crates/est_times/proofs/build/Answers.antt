@@ -42,9 +42,9 @@ run_passes-requires c =
       inside = r.inside;
       le_n = r.three;
       n_in_bounds = omega (arith, r.reals, k);
-      n_in_bounds_2 = flags_fit _ _ _ r.cells k.cells _ c.clear_numbers.auto.s;
+      n_in_bounds_2 = flags_fit _ _ _ r.cells k.cells _ c.clear.auto.s;
       n_in_bounds_3 = omega (arith, r.marks, k);
-      cells_value = zeros_again _ _ c.clear_numbers.ensures;
+      cells_value = zeros_again _ _ c.clear.ensures;
     }
 
 pub returns-in_err-run_passes : goal.returns-in_err-run_passes

@@ -6,8 +6,8 @@ use Rattle.est_times.proofs.clear_before.Goals as goal
 pub returns : goal.returns
 returns c =
     record {
-      floats = floats_again _ _ c.clear_floats.ensures;
-      numbers = zeros_again _ _ c.clear_numbers.ensures;
-      cells = zeros_again _ _ c.clear_numbers-2.ensures;
-      marks = zeros_again _ _ c.clear_numbers-3.ensures;
+      floats = floats_again _ _ c.clear.ensures;
+      numbers = zeros_again _ _ c.clear-2.ensures;
+      cells = zeros_again _ _ c.clear-3.ensures;
+      marks = zeros_again _ _ c.clear-4.ensures;
     }

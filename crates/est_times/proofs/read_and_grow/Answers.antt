@@ -1,50 +1,44 @@
 -- `est_times::read_and_grow` meets its contract.
-use mathlib.Core.Path.{◌≡◌, refl, sym, ◌∙◌, subst}
-use Prim.Native.Nat.{ℕ, zero, suc, ◌≤◌, ◌<◌}
+use mathlib.Core.Path.{sym, subst}
+use mathlib.Core.List.{List}
+use Prim.Native.Nat.{ℕ}
 use native.Mathlib.Omega.{arith}
-use Rattle.refusals.proofs.Answers.{refusal_some}
-use Rattle.est_times.proofs.Accepts.{passes_of, enough_of, read_as, accepted_ready, accepted_zero, refused_number, refused_some, read_most}
+use lib.ListN.{length}
+use Rattle.net_node.specs.Left.{places_of}
+use Rattle.refusals.proofs.Numbers.{refusal_some}
+use Rattle.grow_rules.specs.Growth.{grow}
+use Rattle.grow_book.specs.Answers.{GrownAs}
+use Rattle.grow_book.proofs.Closing.{grown_refused}
+use Rattle.est_times.proofs.Accepts.{Enough, passes_of, enough_of, read_as, accepted_book, accepted_ready, accepted_zero, refused_number}
 use Rattle.est_times.proofs.Networks.{network_refused, grown_network}
 use Rattle.est_times.proofs.read_and_grow.Goals as goal
 
-pub read_book-reading-requires : goal.read_book-reading-requires
-read_book-reading-requires c = let p = c.requires in
-    record {
-      cells_value = p.cells;
-      marks_value = p.marks;
-    }
+pub read_book-requires : goal.read_book-requires
+read_book-requires c = record { cells_value = c.requires.cells; marks_value = c.requires.marks }
+
+pub returns-in_err-accepted : goal.returns-in_err-accepted
+returns-in_err-accepted c =
+    let r = read_as c.places-places.ensures c.read_book.ensures in
+    grown_refused _ _ _ c.from_residual.result _ c.from_residual.ensures.1 (network_refused _ _ _ (refused_number _ _ _ _ _ _ r c.in_err-accepted.was) (refusal_some _))
 
 pub grow_book-requires : goal.grow_book-requires
 grow_book-requires c =
-    let r = read_as c.places-places.ensures c.read_book-reading.ensures in
-    let e = enough_of _ _ _ _ _ _ (passes_of _ _ _ (accepted_zero _ _ _ _ _ _ r c.in-Accepted.is)) in
-    let k = c.read_book-reading.auto in
+    let r = read_as c.places-places.ensures c.read_book.ensures in
+    let w = c.in_ok-accepted.was in
+    let e = subst (λ (x : List ℕ). Enough x (places_of (length c.args.floats.now) (length c.args.numbers.now)) (length c.args.reals.now) (length c.args.cells.now) (length c.args.marks.now)) (sym (accepted_book _ _ _ _ _ _ r w)) (enough_of _ _ _ _ _ _ (passes_of _ _ _ (accepted_zero _ _ _ _ _ _ r w))) in
+    let k = c.read_book.auto in
     record {
-      ready = accepted_ready _ _ _ _ _ _ r c.in-Accepted.is;
+      ready = accepted_ready _ _ _ _ _ _ r w;
       book_in_bounds = e.reals;
       book_in_bounds_2 = omega (arith, e.cells, k);
       book_in_bounds_3 = omega (arith, e.marks, k);
     }
 
-pub refusal_of-requires : goal.refusal_of-requires
-refusal_of-requires c =
-    let r = read_as c.places-places.ensures c.read_book-reading.ensures in
-    let n = refused_number _ _ _ _ _ _ r c.in-Refused.is in
-    record {
-      number_nonzero = positive _ (refused_some _ _ _ _ _ _ r c.in-Refused.is);
-      number_bound = subst (λ (k : ℕ). k ≤ 8) n (read_most _ _ _);
-    }
-  where
-    positive : (n : ℕ) → (n ≡ 0 → ⊥) → 0 < n
-    positive zero h = absurd (h refl)
-    positive (suc n) h = omega arith
-
-pub returns-in-Refused : goal.returns-in-Refused
-returns-in-Refused c =
-    let r = read_as c.places-places.ensures c.read_book-reading.ensures in
-    network_refused _ _ _ (refused_number _ _ _ _ _ _ r c.in-Refused.is ∙ sym c.refusal_of.ensures) (refusal_some _)
-
-pub returns-in-Accepted : goal.returns-in-Accepted
-returns-in-Accepted c =
+pub returns : goal.returns
+returns c =
     let p = c.requires in
-    grown_network _ _ _ _ p.floats p.numbers (accepted_zero _ _ _ _ _ _ (read_as c.places-places.ensures c.read_book-reading.ensures) c.in-Accepted.is) _ _ c.grow_book.result c.grow_book.ensures
+    let r = read_as c.places-places.ensures c.read_book.ensures in
+    let w = c.in_ok-accepted.was in
+    let q = accepted_book _ _ _ _ _ _ r w in
+    grown_network _ _ _ _ p.floats p.numbers (accepted_zero _ _ _ _ _ _ r w) _ _ c.grow_book.result
+    (subst (λ (x : List ℕ). GrownAs (grow x (places_of (length c.args.floats.now) (length c.args.numbers.now)) (record { floats = c.args.floats.now; numbers = c.args.numbers.now })) c.grow_book.new.floats c.grow_book.new.numbers c.grow_book.result) q c.grow_book.ensures)
