@@ -4,4 +4,3 @@ use Rattle.root.proofs.digits.Given as goal
 
 abbrev pub invariant-loop : goal.invariant-loop
 invariant-loop l = Turned l.a l.counter l.q l.r l.left
-
