@@ -14,7 +14,8 @@ import subprocess
 import sys
 import tempfile
 
-sys.path.insert(0, '/opt/rattle/port')
+KIT = os.path.dirname(subprocess.run(['rt', 'doc'], check=True, capture_output=True, text=True).stdout.strip())
+sys.path.insert(0, os.path.join(KIT, 'port'))
 import contracts  # noqa: E402
 
 ROOT = os.path.join(os.path.dirname(os.path.abspath(__file__)), '..')
