@@ -5,7 +5,7 @@ use Rattle.root.proofs.digits.Goals as goal
 use Rattle.root.proofs.digits.Goals.{then-step-r, else-step-r}
 
 pub loop-init : goal.loop-init
-loop-init c = none_turned c.args.a c.requires.a_bound
+loop-init c = none_turned c.args.s.a c.args.s.a_below
 
 pub overflow_mul-r : goal.overflow_mul-r
 overflow_mul-r c = omega (arith, turned_small c.loop.invariant)
@@ -33,4 +33,4 @@ loop-preserved c =
     ]
 
 pub returns : goal.returns
-returns c = turned_all c.loop.invariant c.loop-test.false c.requires.le_a
+returns c = turned_all c.loop.invariant c.loop-test.false c.args.s.a_from

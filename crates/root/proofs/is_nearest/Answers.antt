@@ -51,6 +51,6 @@ returns-then-have-take c = refused _ _
 pub returns : goal.returns
 returns c = λ e.
     let n = c.args.n in
-    checked c.args.a n (n / 134217728) (n % 134217728)
-    c.requires.le_a c.requires.n_bound (omega arith)
+    checked c.args.s.a n (n / 134217728) (n % 134217728)
+    c.args.s.a_from c.requires.n_bound (omega arith)
     c.if-lent-top.false c.if-rest-cross.false c.if-have-take.false (leb→le _ _ (subst T (sym e) tt))

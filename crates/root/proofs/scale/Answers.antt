@@ -3,9 +3,6 @@ use native.Mathlib.Omega.{arith}
 use Rattle.root.proofs.Steps.{even_scales, odd_scales}
 use Rattle.root.proofs.scale.Goals as goal
 
-pub significand_of-s-requires : goal.significand_of-s-requires
-significand_of-s-requires c = record { bits_nonzero = c.requires.bits_nonzero; bits_bound = c.requires.bits_bound }
-
 pub overflow_sub-k : goal.overflow_sub-k
 overflow_sub-k c = omega (arith, c.significand_of-s.ensures)
 
