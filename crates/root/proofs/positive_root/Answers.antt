@@ -9,9 +9,6 @@ use Rattle.root.proofs.positive_root.Goals as goal
 most : {a n : ℕ} → RoundedRoot a n → n ≤ 9007199254740992
 most {a} {n} w = decided_most w.q w.r n w.root.most w.last
 
-pub overflow_add-result : goal.overflow_add-result
-overflow_add-result c = omega (arith, c.scale-s.ensures, most c.rounded_root-n.ensures)
-
 pub float_from_bits-result : goal.float_from_bits-result
 float_from_bits-result c = number_pattern _ (omega (arith, c.scale-s.ensures, most c.rounded_root-n.ensures))
 
