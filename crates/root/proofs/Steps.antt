@@ -1,10 +1,11 @@
 -- Laws of the root's steps: the digit loop's turns, moving a subnormal number's digits up, and splitting an exponent into a power of four and a rest.
 use mathlib.Core.Path.{◌≡◌, refl, sym, ap, ◌∙◌, subst}
 use Prim.Native.Nat.{ℕ, suc, ◌+◌, ◌-◌, ◌*◌, ◌/◌, ◌%◌, ◌^◌, ◌≤◌, ◌<◌}
-use native.Mathlib.Nat.{lt_of_lt_of_le, lt_of_not-le, not-le_of_lt, mul_assoc, mul-le-mul_right, pow-succ', mod-eq_of_lt, div-eq_of_lt}
+use native.Mathlib.Nat.{le_trans, lt_of_lt_of_le, lt_of_not-le, not-le_of_lt, mul_assoc, mul-le-mul_right, pow-succ', mod-eq_of_lt, div-eq_of_lt}
 use native.Mathlib.Numerals.{add-one}
 use native.Mathlib.Omega.{arith}
-use lib.Pow.{pow-add, pow_mono}
+use lib.Count.{count_leading_zeros, leading_top}
+use lib.Pow.{pow-add, pow_mono, pow_pos}
 use lib.Ieee.{Format, binary64, hid, low}
 use Rattle.root.specs.Steps.{magnitude_at, magnitude, Significant, Scales, Rooted}
 use Rattle.root.proofs.Whole.{square_back}
@@ -100,39 +101,25 @@ pub magnitude_high : (f : Format) (b x : ℕ) → b / hid f ≡ suc x → magnit
 unfolding magnitude_at
 magnitude_high f b x e = magnitude_is f b (suc x) (b % hid f) e refl
 
--- The digits t moved up by 1074 - y places.
-pub record Moved (t m y : ℕ) : Type 0 where
-  pub by : ℕ
-  pub places : y + by ≡ 1074
-  pub value : m ≡ t * 2 ^ by
-  pub most : m < 9007199254740992
+-- t's leading digit has place j, and so many zeros stand before it in 64 digits.
+pub record Top (t zeros : ℕ) : Type 0 where
+  pub j : ℕ
+  pub before : zeros + suc j ≡ 64
+  pub least : 2 ^ j ≤ t
+  pub most : t < 2 ^ suc j
 
-pub none_moved : (t : ℕ) → t < 4503599627370496 → Moved t t 1074
-none_moved t h = record { by = 0; places = omega arith; value = omega arith; most = omega arith }
+pub top_of : (t : ℕ) → 0 < t → t < 18446744073709551616 → Top t (count_leading_zeros 64 t)
+top_of t h s = let w = leading_top 64 t h s in record { j = w.0; before = w.1; least = w.2; most = w.3 }
 
-few_places : {t m y : ℕ} (w : Moved t m y) → 0 < t → w.by < 53
-few_places {t} {m} {y} w h = lt_of_not-le (λ (g : 53 ≤ w.by). not-le_of_lt w.most (large g))
-  where
-    large : 53 ≤ w.by → 9007199254740992 ≤ m
-    large g =
-        let a : 9007199254740992 ≤ 2 ^ w.by = pow_mono g in
-        let b : 1 * 2 ^ w.by ≤ t * 2 ^ w.by = mul-le-mul_right (2 ^ w.by) h in
-        let e : m ≡ t * 2 ^ w.by = w.value in
-        omega arith
+below_hid : (t j : ℕ) → 2 ^ j ≤ t → t < 4503599627370496 → j < 52
+below_hid t j g h = lt_of_not-le (λ (e : 52 ≤ j). not-le_of_lt h (le_trans (pow_mono e) g))
 
-pub moved_above : {t m y : ℕ} → Moved t m y → 0 < t → 1022 ≤ y
-moved_above v h =
-    let a : v.by < 53 = few_places v h in
-    let p = v.places in
+-- the zeros before the leading digit's place of a significand, at least
+pub zeros_enough : {t zeros : ℕ} → Top t zeros → t < 4503599627370496 → 11 < zeros
+zeros_enough {t} {zeros} w h =
+    let a : w.j < 52 = below_hid t w.j w.least h in
+    let e : zeros + suc w.j ≡ 64 = w.before in
     omega arith
-
-pub moved_on : {t m y : ℕ} → Moved t m y → 0 < t → m < 4503599627370496 → Moved t (m * 2) (y - 1)
-moved_on {t} {m} {y} v h g =
-    let a : 1022 ≤ y = moved_above v h in
-    let p : y + v.by ≡ 1074 = v.places in
-    let e : m ≡ t * 2 ^ v.by = v.value in
-    let d : t * 2 ^ (v.by + 1) ≡ t * (2 * 2 ^ v.by) = ap (λ (x : ℕ). t * x) (power 2 v.by) in
-    record { by = v.by + 1; places = omega arith; value = omega arith; most = omega arith }
 
 -- m * 2 ^ y is v * 2 ^ l where m is v moved up by l - y places
 moved_value : (v m y i l : ℕ) → y + i ≡ l → m ≡ v * 2 ^ i → m * 2 ^ y ≡ v * 2 ^ l
@@ -143,17 +130,36 @@ moved_value v m y i l p e =
     swap : (a b c : ℕ) → a * b * c ≡ a * (c * b)
     swap a b c = omega arith
 
-pub moved_all : {t m y : ℕ} → Moved t m y → 0 < t → t < 4503599627370496 → 4503599627370496 ≤ m → Significant t m y
-moved_all {t} {m} {y} v h s g =
-    let a : 1022 ≤ y = moved_above v h in
-    let p : y + v.by ≡ 1074 = v.places in
+-- a subnormal number's digits, moved up until the leading one is in its place
+moved_by : {t zeros : ℕ} → Top t zeros → t < 4503599627370496
+    → Significant t (t * 2 ^ (zeros - 11)) (1074 - (zeros - 11))
+moved_by {t} {zeros} w s =
+    let a : w.j < 52 = below_hid t w.j w.least s in
+    let e : zeros + suc w.j ≡ 64 = w.before in
+    let i = zeros - 11 in
+    let p : w.j + i ≡ 52 = omega arith in
+    let d : 2 ^ (w.j + i) ≡ 2 ^ w.j * 2 ^ i = pow-add 2 w.j i in
+    let m : 2 ^ (w.j + i) ≡ 2 ^ 52 = ap (λ (x : ℕ). 2 ^ x) p in
+    let f : 2 ^ suc w.j * 2 ^ i ≡ 2 * 2 ^ w.j * 2 ^ i = ap (λ (x : ℕ). x * 2 ^ i) (pow-succ' 2 w.j) in
+    let g : 2 ^ w.j * 2 ^ i ≤ t * 2 ^ i = mul-le-mul_right (2 ^ i) w.least in
+    let h : suc t * 2 ^ i ≤ 2 ^ suc w.j * 2 ^ i = mul-le-mul_right (2 ^ i) w.most in
+    let z : 1 ≤ 2 ^ i = pow_pos i in
     record {
-      value = moved_value t m y v.by 1074 v.places v.value ∙ ap (λ (x : ℕ). x * 2 ^ low binary64) (sym (magnitude_low binary64 t s));
-      least = g;
-      most = v.most;
+      value =
+          moved_value t (t * 2 ^ i) (1074 - i) i 1074 (omega arith) refl
+          ∙ ap (λ (x : ℕ). x * 2 ^ low binary64) (sym (magnitude_low binary64 t s));
+      least = omega arith;
+      most = omega arith;
       above = omega arith;
       under = omega arith;
     }
+
+pub moved_up : {t zeros : ℕ} → Top t zeros → t < 4503599627370496
+    → Significant t (t * 2 ^ (zeros - 11) % 18446744073709551616) (1074 - (zeros - 11))
+moved_up {t} {zeros} w s =
+    let v = moved_by w s in
+    let h : t * 2 ^ (zeros - 11) < 9007199254740992 = v.most in
+    subst (λ (m : ℕ). Significant t m (1074 - (zeros - 11))) (sym (mod-eq_of_lt (omega arith))) v
 
 -- a normal number: its field counts the places above the smallest value, less one
 normal_value : (v x y l : ℕ) → y ≡ x + l → v * 2 ^ y ≡ v * 2 ^ x * 2 ^ l

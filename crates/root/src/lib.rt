@@ -20,6 +20,14 @@ const START: u64 = 0x5fdb_f102_0000_0000;
 // Added to a number near 1 and taken off again, it leaves 26 binary places of it.
 const CUT: f64 = 100663296.0;
 
+// The pattern of a positive number.
+#[derive(Clone, Copy)]
+struct Positive {
+    bits: u64,
+    ghost nonzero: { 0 < bits },
+    ghost finite: { bits < 9218868437227405312 },
+}
+
 // A magnitude of m * 2 ^ y.
 #[derive(Clone, Copy)]
 struct Significand {
@@ -27,11 +35,13 @@ struct Significand {
     y: u64,
 }
 
-// A magnitude of a * 2 ^ 52 * 4 ^ k.
+// A magnitude of a * 2 ^ 52 * 4 ^ k, where a has 53 or 54 binary digits: so the whole root of a * 2 ^ 52 has 53.
 #[derive(Clone, Copy)]
 struct Scaled {
     a: u64,
     k: u64,
+    ghost a_from: { 4503599627370496 ≤ a },
+    ghost a_below: { a < 18014398509481984 },
 }
 
 // A whole root and what is left over.
@@ -47,38 +57,33 @@ fn normalize(t: u64) -> Significand
     requires t_bound { t < 4503599627370496 }
     ensures { Significant t result.m result.y }
 {
-    let mut m = t;
-    let mut y: u64 = 1074;
-    while m < HID {
-        m = m * 2;
-        y = y - 1;
+    // Eleven zeros stand before the leading digit's place.
+    let up = t.leading_zeros() - 11;
+    Significand {
+        m: t << up,
+        y: 1074 - up as u64,
     }
-    Significand { m, y }
 }
 
 // The significand and the exponent of a positive number's pattern.
-fn significand_of(bits: u64) -> Significand
-    requires bits_nonzero { 0 < bits }
-    requires bits_bound { bits < 9218868437227405312 }
-    ensures { Significant bits result.m result.y }
+fn significand_of(x: Positive) -> Significand
+    ensures { Significant x.bits result.m result.y }
 {
-    let field = bits / HID;
+    let field = x.bits / HID;
     if field == 0 {
-        return normalize(bits);
+        return normalize(x.bits);
     }
     Significand {
-        m: HID + bits % HID,
+        m: HID + x.bits % HID,
         y: field + 1073,
     }
 }
 
 // An even exponent is a power of four, and an odd one leaves a factor of two.
-fn scale(bits: u64) -> Scaled
-    requires bits_nonzero { 0 < bits }
-    requires bits_bound { bits < 9218868437227405312 }
-    ensures { Scales bits result.a result.k }
+fn scale(x: Positive) -> Scaled
+    ensures { Scales x.bits result.a result.k }
 {
-    let s = significand_of(bits);
+    let s = significand_of(x);
     let m = s.m;
     let y = s.y;
     let k = (y - 52) / 2;
@@ -89,14 +94,12 @@ fn scale(bits: u64) -> Scaled
 }
 
 // The whole root of a * 2 ^ 52, two binary digits of the number for each digit of the root.
-fn digits(a: u64) -> WholeRoot
-    requires le_a { 4503599627370496 ≤ a }
-    requires a_bound { a < 18014398509481984 }
-    ensures { Rooted a result.q result.r }
+fn digits(s: Scaled) -> WholeRoot
+    ensures { Rooted s.a result.q result.r }
 {
     let mut q: u64 = 0;
     let mut r: u64 = 0;
-    let mut left = a;
+    let mut left = s.a;
     for _ in 0..53u64 {
         r = r * 4 + left / HID;
         left = left % HID * 4;
@@ -125,12 +128,10 @@ fn nearest_even(q: u64, part: u64, half: u64) -> u64
 }
 
 // The root of a * 2 ^ 52, rounded, by way of its digits.
-fn digit_root(a: u64) -> u64
-    requires le_a { 4503599627370496 ≤ a }
-    requires a_bound { a < 18014398509481984 }
-    ensures { RoundedRoot a result }
+fn digit_root(s: Scaled) -> u64
+    ensures { RoundedRoot s.a result }
 {
-    let w = digits(a);
+    let w = digits(s);
     nearest_even(w.q, w.r * 4, w.q * 4 + 1)
 }
 
@@ -158,15 +159,13 @@ fn guess(bits: u64) -> u64
 // Whether n is the root of a * 2 ^ 52, rounded: whether a * 2 ^ 52 + n is above n * n, by 2 * n at most.
 // n is h / 2 * 2 ^ 27 + l, and the three parts of n * n are taken off one by one, with 4 * 2 ^ 52 lent.
 // Where n is right little is left each time, so a rest that is too large to go on with says no.
-fn is_nearest(a: u64, n: u64) -> bool
-    requires le_a { 4503599627370496 ≤ a }
-    requires a_bound { a < 18014398509481984 }
+fn is_nearest(s: Scaled, n: u64) -> bool
     requires n_bound { n < 9007199254740992 }
-    ensures { result ≡ true → RoundedRoot a n }
+    ensures { result ≡ true → RoundedRoot s.a n }
 {
     let h = n / 134217728 * 2;
     let l = n % 134217728;
-    let lent = a + 4;
+    let lent = s.a + 4;
     let top = h * h;
     if lent < top {
         return false;
@@ -193,26 +192,22 @@ fn is_nearest(a: u64, n: u64) -> bool
 }
 
 // The root of a * 2 ^ 52, rounded: n, where it is that, and otherwise by way of the digits.
-fn rounded_root(a: u64, n: u64) -> u64
-    requires le_a { 4503599627370496 ≤ a }
-    requires a_bound { a < 18014398509481984 }
+fn rounded_root(s: Scaled, n: u64) -> u64
     requires n_bound { n < 9007199254740992 }
-    ensures { RoundedRoot a result }
+    ensures { RoundedRoot s.a result }
 {
-    if is_nearest(a, n) {
+    if is_nearest(s, n) {
         return n;
     }
-    digit_root(a)
+    digit_root(s)
 }
 
 // The root of a positive number, from its pattern.
-fn positive_root(bits: u64) -> f64
-    requires bits_nonzero { 0 < bits }
-    requires bits_bound { bits < 9218868437227405312 }
-    ensures { result ≡ sqrt binary64 (of_bits binary64 bits) }
+fn positive_root(x: Positive) -> f64
+    ensures { result ≡ sqrt binary64 (of_bits binary64 x.bits) }
 {
-    let s = scale(bits);
-    let n = rounded_root(s.a, guess(bits));
+    let s = scale(x);
+    let n = rounded_root(s, guess(x.bits));
     f64::from_bits(s.k * HID + n)
 }
 
@@ -233,5 +228,5 @@ pub fn root(x: f64) -> f64
     if bits == INFINITY {
         return x;
     }
-    positive_root(bits)
+    positive_root(Positive { bits })
 }

@@ -3,4 +3,4 @@ use Rattle.root.proofs.Steps.{Turned}
 use Rattle.root.proofs.digits.Given as goal
 
 abbrev pub invariant-loop : goal.invariant-loop
-invariant-loop l = Turned l.a l.counter l.q l.r l.left
+invariant-loop l = Turned l.fn.s.a l.counter l.q l.r l.left

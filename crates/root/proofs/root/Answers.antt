@@ -28,8 +28,8 @@ returns-then-bits-eq-INFINITY c =
     let w = pattern_written c.args.x c.well_formed.0.1 c.if-x.false in
     root_infinity c.args.x (ap (of_bits binary64) (sym c.if-bits-eq-INFINITY.true) ∙ w.reads)
 
-pub positive_root-requires : goal.positive_root-requires
-positive_root-requires c = omega (arith, pattern_written c.args.x c.well_formed.0.1 c.if-x.false)
+pub invariant_of-positive_root : goal.invariant_of-positive_root
+invariant_of-positive_root c = omega (arith, pattern_written c.args.x c.well_formed.0.1 c.if-x.false)
 
 pub returns : goal.returns
 returns c =

@@ -3,8 +3,5 @@ use native.Mathlib.Omega.{arith}
 use Rattle.root.proofs.Steps.{normal_significant}
 use Rattle.root.proofs.significand_of.Goals as goal
 
-pub returns-then-field-eq0 : goal.returns-then-field-eq0
-returns-then-field-eq0 c = c.normalize.ensures
-
 pub returns : goal.returns
-returns c = normal_significant c.args.bits c.requires.bits_bound (omega arith)
+returns c = normal_significant c.args.x.bits c.args.x.finite (omega arith)
