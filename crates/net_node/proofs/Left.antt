@@ -9,7 +9,7 @@ use lib.Ieee.{Float, nan}
 use Rattle.space.specs.Space.{zeros, zero_floats}
 use Rattle.net_node.specs.Table.{float_width, number_width, node_at, Table, at}
 use Rattle.net_node.specs.Left.{floats_kept, numbers_kept}
-use Rattle.net_node.proofs.Nodes.{columns_agree}
+use Rattle.net_node.proofs.Columns.{columns_agree}
 
 front_at : {A : Type 0} (n : ℕ) (l rest : List A) (p q : ℕ) (d : A) → n ≤ length l → p < n → p ≡ q → get_or (take n l ++ rest) p d ≡ get_or l q d
 front_at n l rest p q d h k e = get_or-append (take n l) rest d p (omega (arith, length-take-le n l h)) ∙ get_or-take n l p d k ∙ ap (λ (z : ℕ). get_or l z d) e

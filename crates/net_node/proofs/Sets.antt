@@ -9,7 +9,7 @@ use lib.Seq.{get_or-set_same, get_or-set_other}
 use lib.Ieee.{Float, nan}
 use Rattle.net_node.specs.declared.EstTime.{EstTime}
 use Rattle.net_node.specs.Table.{float_width, number_width, node_at, kind_of, Table, at, with_time, with_arc, with_next, with_prev, set_time, set_arc, set_next, set_prev}
-use Rattle.net_node.proofs.Nodes.{columns_agree}
+use Rattle.net_node.proofs.Columns.{columns_agree}
 use Rattle.net_node.proofs.Tables.{RoomIn}
 
 -- what stands elsewhere, under any name of its index

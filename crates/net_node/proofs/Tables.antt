@@ -6,7 +6,7 @@ use native.Mathlib.Omega.{arith}
 use Rattle.laws.proofs.Truth.{equal_or_not}
 use Rattle.net_node.specs.declared.EstTime.{EstTime}
 use Rattle.net_node.specs.Table.{Table, put, at, Room, Indexed}
-use Rattle.net_node.proofs.Nodes.{node_put_same, node_put_other, length_put_floats, length_put_numbers}
+use Rattle.net_node.proofs.Columns.{node_put_same, node_put_other, length_put_floats, length_put_numbers}
 
 abbrev pub RoomIn : Table → ℕ → Type 0
 RoomIn t places = Room t.floats t.numbers places
