@@ -1,4 +1,4 @@
--- `net_strands::follow_strands` meets its contract: `Popping` is what the outer loop keeps, and `Standing` what the inner one does; beside them the entries that were pushed since each loop began, and what the cells say.
+-- `net_strands::Rebuild::follow_strands` meets its contract: `Popping` is what the outer loop keeps, and `Standing` what the inner one does; beside them the entries that were pushed since each loop began, and what the cells say.
 use mathlib.Core.Path.{◌≡◌, refl, sym, ap, ◌∙◌}
 use mathlib.Core.Bool.{Bool, not, ◌&&◌, ◌||◌}
 use mathlib.Core.Option.{some}
@@ -9,7 +9,7 @@ use native.Mathlib.Omega.{arith}
 use lib.Dec.{eqb}
 use lib.ListN.{length}
 use Rattle.std.specs.Prelude.{reverse}
-use Rattle.net_node.specs.Table.{node_at}
+use Rattle.net_node.specs.Held.{nodes_held}
 use Rattle.net_node.proofs.Events.{event_eq}
 use Rattle.arrayvec.specs.ArrayVec.{ArrayVec}
 use Rattle.net_join_paths.specs.declared.EstJoinPath.{EstJoinPath}
@@ -20,19 +20,19 @@ use Rattle.net_stack.specs.Openings.{opening_of, opens, opened_if}
 use Rattle.net_strands.specs.Given.{WalkGives}
 use Rattle.net_strands.proofs.Given.{given_kept, given_noted, extends_over}
 use Rattle.net_strands.proofs.Walking.{nothing_left, Closing, Turned, popping_start, popping_last, popping_on, popping_closes, closes_says, known_gives, standing_over, standing_full, known_short, known_over, known_pushed, standing-turned}
-use Rattle.net_strands.proofs.follow_strands.Goals as goal
-use Rattle.net_strands.proofs.follow_strands.Goals.{Then-top-ge65536, After-noted-nexts, At-loop-left, After-ends_strand, then-has_event+in_ok-push_entry, else-has_event}
+use Rattle.net_strands.proofs.Rebuild.follow_strands.Goals as goal
+use Rattle.net_strands.proofs.Rebuild.follow_strands.Goals.{Then-top-ge65536, After-noted-nexts, At-loop-left, After-ends_strand, then-has_event+in_ok-push_entry, else-has_event}
 
 -- an opening was on top of the stack
-closing : (c : Then-top-ge65536) → Closing (node_at c.args.floats.now c.args.numbers.now) c.args.nodes c.args.event c.args.start c.args.list.now.items c.pop.new.self.items c.strands.list.items c.strands.left c.in-Some.top
-closing c = popping_closes _ _ _ _ _ c.strands.invariant.1 _ _ c.in-Some.ensures.items c.requires.walk_room.table.most c.if-top-ge65536.true
+closing : (c : Then-top-ge65536) → Closing (nodes_held c.args.self.now.nodes) c.args.self.now.nodes.count c.args.self.now.event c.args.start c.args.list.now.items c.pop.new.self.items c.strands.list.items c.strands.left c.in-Some.top
+closing c = popping_closes _ _ _ _ _ c.strands.invariant.1 _ _ c.in-Some.ensures.items c.args.self.now.nodes.room.most c.if-top-ge65536.true
 
 -- what was pushed since the walk began
 whole : (c : At-loop-left) → Pushed c.args.link_idx_match c.args.list.now.items c.loop-left.list.items
 whole c = pushed_then c.strands.invariant.2 c.loop-left.invariant.2
 
 -- what is noted of the node
-known : (c : After-noted-nexts) → WalkGives (node_at c.args.floats.now c.args.numbers.now) c.args.event c.loop-left.list.items c.loop-left.here c.in-Some-noted_span.span.begin c.in-Some-noted_span.span.end c.noted-nexts.result
+known : (c : After-noted-nexts) → WalkGives (nodes_held c.args.self.now.nodes) c.args.self.now.event c.loop-left.list.items c.loop-left.here c.in-Some-noted_span.span.begin c.in-Some-noted_span.span.end c.noted-nexts.result
 known c = known_gives _ _ _ (given_kept c.loop-left.invariant.2.same c.strands.invariant.3) c.loop-left.invariant.1.within _ c.in-Some-noted_span.ensures _ c.noted-nexts.ensures
 
 -- the next is put behind the list if it has the event
@@ -47,18 +47,18 @@ got c =
     ]
 
 -- the next was read
-turned : (c : After-ends_strand) → Turned (node_at c.args.floats.now c.args.numbers.now) c.args.nodes c.args.event c.args.start c.args.list.now.items c.args.link_idx_match c.loop-left.list.items c.loop-left.left c.load-node.result.idx_next c.stack_node.new.stack.items c.load-there.result c.eq-has_event.result c.if-has_event.list.items
+turned : (c : After-ends_strand) → Turned (nodes_held c.args.self.now.nodes) c.args.self.now.nodes.count c.args.self.now.event c.args.start c.args.list.now.items c.args.link_idx_match c.loop-left.list.items c.loop-left.left c.load-node.result.idx_next c.stack_node.new.stack.items c.load-there.result c.eq-has_event.result c.if-has_event.list.items
 turned c =
     let s = c.stack_node.ensures in
     let x = c.load-node.result in
-    let opened : Bool = opens (c.args.several && (not (eqb x.idx_prev_alt 0) || eqb c.loop-left.left 4096)) c.loop-left.left (length c.loop-left.stack.items) in
-    standing-turned _ _ _ _ _ c.loop-left.invariant.1 c.requires.walk_room.indexed _ c.load-node.ensures _ c.load-there.ensures c.loop-left-test.true opened _ (s.holds ∙ ap (λ (n : ℕ). alternative_stacked x.idx_next_alt (opened_if opened (opening_of n c.loop-left.left) c.loop-left.here (reverse c.loop-left.stack.items))) c.len-in-loop-left.ensures.value) s.room _ _ (sym (c.eq-has_event.ensures ∙ event_eq _ _)) _ (got c)
+    let opened : Bool = opens (c.notes.result && (not (eqb x.idx_prev_alt 0) || eqb c.loop-left.left 4096)) c.loop-left.left (length c.loop-left.stack.items) in
+    standing-turned _ _ _ _ _ c.loop-left.invariant.1 c.args.self.now.nodes.indexed _ c.load-node.ensures _ c.load-there.ensures c.loop-left-test.true opened _ (s.holds ∙ ap (λ (n : ℕ). alternative_stacked x.idx_next_alt (opened_if opened (opening_of n c.loop-left.left) c.loop-left.here (reverse c.loop-left.stack.items))) c.len-in-loop-left.ensures.value) s.room _ _ (sym (c.eq-has_event.ensures ∙ event_eq _ _)) _ (got c)
 
 pub strands-init : goal.strands-init
-strands-init c = let r = c.requires in (refl, popping_start _ _ _ _ _ _ (c.push.ensures.items ∙ ap (λ (s : List ℕ). s ++ (c.args.start ∷ [])) c.clear.ensures) r.start_lt_nodes, pushed_start _ _, r.given, λ z t. t)
+strands-init c = let r = c.requires in (refl, popping_start _ _ _ _ _ _ (c.push.ensures.items ∙ ap (λ (s : List ℕ). s ++ (c.args.start ∷ [])) c.clear.ensures) r.start_lt_count, pushed_start _ _, r.given, λ z t. t)
 
 pub close_node-requires-clause-i_lt_places : goal.close_node-requires-clause-i_lt_places
-close_node-requires-clause-i_lt_places c = omega (arith, ((closing (goal.at.close_node-requires-clause-i_lt_places c).Then-top-ge65536).closes _ _ c.in-Some-pop.ensures.items).named, c.requires.walk_room.within)
+close_node-requires-clause-i_lt_places c = omega (arith, ((closing (goal.at.close_node-requires-clause-i_lt_places c).Then-top-ge65536).closes _ _ c.in-Some-pop.ensures.items).named, c.args.self.now.within)
 
 pub close_node-requires-clause-opening_bound : goal.close_node-requires-clause-opening_bound
 close_node-requires-clause-opening_bound c = omega (arith, ((closing (goal.at.close_node-requires-clause-opening_bound c).Then-top-ge65536).closes _ _ c.in-Some-pop.ensures.items).inside)
@@ -84,7 +84,7 @@ strands-preserved-in_default-pop c = absurd ((closing (goal.at.strands-preserved
 
 pub loop-left-init : goal.loop-left-init
 loop-left-init c =
-    (omega arith, popping_on _ _ _ _ _ c.strands.invariant.1 _ _ c.in-Some.ensures.items c.requires.walk_room.table.most (omega (arith, c.if-top-ge65536.false)), pushed_start _ _)
+    (omega arith, popping_on _ _ _ _ _ c.strands.invariant.1 _ _ c.in-Some.ensures.items c.args.self.now.nodes.room.most (omega (arith, c.if-top-ge65536.false)), pushed_start _ _)
 
 pub returns-then-left-nexts : goal.returns-then-left-nexts
 returns-then-left-nexts c = record { answer = (known_short _ _ _ _ _ c.loop-left.invariant.1 (known (goal.at.returns-then-left-nexts c).After-noted-nexts) _ (whole (goal.at.returns-then-left-nexts c).At-loop-left) c.if-left-nexts.true, refl); given = tt; touched = c.strands.invariant.4 }
@@ -110,7 +110,7 @@ pub returns-in_err-push_entry : goal.returns-in_err-push_entry
 unfolding entry
 returns-in_err-push_entry c =
     let p = c.in_err-push_entry.ensures.list in
-    extends_over _ _ c.from_residual-in_err-push_entry.ensures (standing_full _ _ _ _ _ c.loop-left.invariant.1 c.requires.walk_room.indexed _ c.load-node.ensures _ c.load-there.ensures _ (whole (goal.at.returns-in_err-push_entry c).At-loop-left) (sym (event_eq _ _) ∙ sym c.eq-has_event.ensures ∙ c.if-has_event.true) p.0) p.1 c.strands.invariant.4
+    extends_over _ _ c.from_residual-in_err-push_entry.ensures (standing_full _ _ _ _ _ c.loop-left.invariant.1 c.args.self.now.nodes.indexed _ c.load-node.ensures _ c.load-there.ensures _ (whole (goal.at.returns-in_err-push_entry c).At-loop-left) (sym (event_eq _ _) ∙ sym c.eq-has_event.ensures ∙ c.if-has_event.true) p.0) p.1 c.strands.invariant.4
 
 pub strands-preserved : goal.strands-preserved
 strands-preserved c =
