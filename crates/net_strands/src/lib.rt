@@ -157,8 +157,9 @@ impl<'a> Rebuild<'a> {
                         left -= nexts;
                         continue 'strands;
                     }
+                    net_stack::open_node(stack, here, list.len(), left);
                 }
-                net_stack::stack_node(may_meet, stack, here, list.len(), left, node.idx_next_alt);
+                net_stack::stack_alternative(stack, node.idx_next_alt);
                 left -= 1;
                 let next = node.idx_next;
                 let there = self.nodes.load(next);
