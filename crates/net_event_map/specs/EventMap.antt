@@ -50,6 +50,8 @@ abbrev pub bit : Bool → ℕ
 bit true = 1
 bit false = 0
 
+-- Stands in contracts beside each `cells`: the slice is lent to the map, the notes and growth in turn, so a struct with
+-- a `&mut` to it would be taken apart at each of these calls.
 -- The cells have room: 8 for each of the links, from `links_at` on, and 8 for each place of the table, from `nodes_at`
 -- on; the two don't overlap.
 pub record CellsApart (cells : List ℕ) (w : Layout) : Type 0 where
@@ -71,7 +73,9 @@ pub record Mapped (cells : List ℕ) (w : Layout) (node : ℕ → EstTime) (n : 
   pub ungiven : (i k : ℕ) → i < w.places → 5 ≤ k → k < 8 → get_or cells (w.nodes_at + i * 8 + k) 0 ≡ 0
   pub zeroth : (e : LinkEvent) → same_event (node 0).link_event e ≡ true → e.est_type ≡ Fake
 
--- where the first node of a link's Arrive is named
+-- Where the first node of a link's Arrive is named.
+-- Stands in contracts beside `l < w.links`, and `next_at` beside `i < w.places`: link and node are others at each call,
+-- so no value keeps the bound.
 abbrev pub first_at : Layout → ℕ → ℕ
 first_at w l = w.links_at + l * 8
 
@@ -101,6 +105,7 @@ RealKind Arrive = Unit
 RealKind Clear = Unit
 RealKind Fake = ⊥
 
--- the event of a link that is one of so many
+-- The event of a link that is one of so many.
+-- Stands in contracts of what looks for an event: which layout its links are held against, only the call says.
 abbrev pub Real : LinkEvent → ℕ → Type 0
 Real e links = RealKind e.est_type × (e.link_idx < links)

@@ -277,7 +277,7 @@ pub fn join_step(
 ) -> Result<Step, Refusal>
     requires room { Room floats.old numbers.old w.places }
     requires n_le_places { n ≤ w.places }
-    requires le_n { 1 ≤ n }
+    requires some_nodes { 1 ≤ n }
     requires indexed { Indexed (node_at floats.old numbers.old) n }
     requires cells_apart { CellsApart cells.old w }
     requires mapped { Mapped cells.old w (node_at floats.old numbers.old) n }

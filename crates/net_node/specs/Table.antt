@@ -13,6 +13,9 @@ use Rattle.net_node.specs.declared.EstTime.{EstTime}
 
 -- ---- the widths of a node: "4 f64 and 6 u32 each"
 
+-- Stands in contracts as `i * float_width + float_width ≤ length floats`, and alike of numbers: one node of slices that
+-- are lent for this call and longer than the network is written, so no value that outlives the call can keep it. What is
+-- only read keeps it as `Nodes`.
 abbrev pub float_width : ℕ
 float_width = 4
 
@@ -178,6 +181,8 @@ set_prev t i prev = record { floats = t.floats; numbers = set t.numbers (i * num
 -- ---- what a network keeps
 
 -- The slices have room for so many nodes.
+-- Stands in contracts, as `Indexed` does, of what writes a table: a struct with the two `&mut` slices would be taken
+-- apart wherever the table is read as `Nodes` in between. Where it is only read, `Nodes` keeps both.
 pub record Room (fs : List Float) (us : List ℕ) (places : ℕ) : Type 0 where
   pub floats : places * float_width ≤ length fs
   pub numbers : places * number_width ≤ length us

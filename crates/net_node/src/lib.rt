@@ -102,7 +102,7 @@ impl EstTime {
         link_event: LinkEvent::NO_LINK,
     };
 
-    // Whether a node is a Fake.
+    // Whether a node is a Fake: a name for one `==`, as contracts above cite the rule.
     pub fn is_fake(&self) -> bool
         ensures { result ≡ is_fake self.now }
     {

@@ -29,7 +29,7 @@ pub struct Span {
 }
 
 impl Span {
-    // The span as a number that is not 0.
+    // The span as a number that is not 0: what a cell holds, in which 0 is none.
     pub fn number(self) -> u32
         requires rises { self.begin ≤ self.end }
         requires few { self.end ≤ 1024 }

@@ -144,6 +144,7 @@ impl<'a> Rebuild<'a> {
                 continue 'strands;
             }
             let mut here = top;
+            // Not `for`: `left` falls by more than one where a noted strand is copied.
             while left > 0 {
                 let node = self.nodes.load(here);
                 let may_meet = self.notes() & ((node.idx_prev_alt != 0) | (left == 4096));
@@ -190,7 +191,7 @@ impl<'a> Rebuild<'a> {
         stack: &mut Stack,
         list: &mut JoinPaths,
     ) -> Result<(), Refusal>
-        requires est_idx_next_bound { x.est_idx_next < self.now.nodes.count }
+        requires names_node { x.est_idx_next < self.now.nodes.count }
         requires cells_apart { CellsApart cells.old self.now.layout }
         requires given { GivenFor self.now cells.old list.old.items }
         ensures { ExtendsBy self.now (followed x.link_idx_match (nodes_held self.now.nodes) self.now.nodes.count
@@ -212,7 +213,7 @@ impl<'a> Rebuild<'a> {
         stack: &mut Stack,
         list: &mut JoinPaths,
     ) -> Result<(), Refusal>
-        requires est_idx_next_bound { x.est_idx_next < self.now.nodes.count }
+        requires names_node { x.est_idx_next < self.now.nodes.count }
         requires cells_apart { CellsApart cells.old self.now.layout }
         requires given { GivenFor self.now cells.old list.old.items }
         ensures { ExtendsBy self.now (extended (nodes_held self.now.nodes) self.now.nodes.count self.now.event
@@ -245,7 +246,7 @@ impl<'a> Rebuild<'a> {
     ) -> Result<(), Refusal>
         requires cells_apart { CellsApart cells.old self.now.layout }
         requires ungiven { Ungiven cells.old self.now.layout }
-        requires nodes_nonzero { 0 < self.now.nodes.count }
+        requires some_nodes { 0 < self.now.nodes.count }
         ensures list { EntriesAs (extended_all (nodes_held self.now.nodes) self.now.nodes.count self.now.event
             seen self.now.old.now []) list.new.items result }
         ensures noted { Touched self.now.layout cells.old cells.new }
@@ -274,7 +275,7 @@ pub fn update_join_paths_space(
     requires within { nodes.now.count ≤ w.places }
     requires cells_apart { CellsApart cells.old w }
     requires valid { Valid old.now nodes.now.count }
-    requires nodes_nonzero { 0 < nodes.now.count }
+    requires some_nodes { 0 < nodes.now.count }
     requires ungiven { Ungiven cells.old w }
     ensures list { EntriesAs (extended_all (nodes_held nodes.now) nodes.now.count event seen old.now [])
         list.new.items result }

@@ -10,8 +10,8 @@ returns-then-places-n-clause-answer c = open_full _ _ (record { is = sym c.in-Op
 
 pub bounds-cells-ends_at : goal.bounds-cells-ends_at
 bounds-cells-ends_at c =
-    let f = sought_found _ _ _ _ _ _ (sym c.in-Open.is ∙ c.seek_place.ensures) c.requires.indexed c.requires.idx_prev_bound in
-    omega (arith, f.0, c.requires.n_in_bounds)
+    let f = sought_found _ _ _ _ _ _ (sym c.in-Open.is ∙ c.seek_place.ensures) c.requires.indexed c.requires.stands_inside in
+    omega (arith, f.0, c.requires.ends_inside)
 
 pub returns-then-cells-ends_at-gt0-clause-answer : goal.returns-then-cells-ends_at-gt0-clause-answer
 returns-then-cells-ends_at-gt0-clause-answer c =
@@ -19,14 +19,14 @@ returns-then-cells-ends_at-gt0-clause-answer c =
 
 pub add_behind-requires-clause-i_lt_k : goal.add_behind-requires-clause-i_lt_k
 add_behind-requires-clause-i_lt_k c =
-    (sought_found _ _ _ _ _ _ (sym c.in-Open.is ∙ c.seek_place.ensures) c.requires.indexed c.requires.idx_prev_bound).0
+    (sought_found _ _ _ _ _ _ (sym c.in-Open.is ∙ c.seek_place.ensures) c.requires.indexed c.requires.stands_inside).0
 
 pub returns-then-places-n-2-clause-answer : goal.returns-then-places-n-2-clause-answer
 returns-then-places-n-2-clause-answer c = split_full _ _ (record { is = sym c.in-Split.is ∙ c.seek_place.ensures }) c.if-places-n-2.true
 
 pub split_at-requires-clause-i_lt_k : goal.split_at-requires-clause-i_lt_k
 split_at-requires-clause-i_lt_k c =
-    (sought_found _ _ _ _ _ _ (sym c.in-Split.is ∙ c.seek_place.ensures) c.requires.indexed c.requires.idx_prev_bound).0
+    (sought_found _ _ _ _ _ _ (sym c.in-Split.is ∙ c.seek_place.ensures) c.requires.indexed c.requires.stands_inside).0
 
 pub returns-in-Match : goal.returns-in-Match
 returns-in-Match c =

@@ -59,7 +59,7 @@ put c =
     let size = λ (s : ArrayVec ℕ). length s.items in
     let items = λ (s : ArrayVec ℕ). reverse s.items in
     let put_with = λ (n : ℕ). opened_if (opens c.loop-left.left (length c.loop-left.stack.items))
-        (opening_of n c.loop-left.left) c.loop-left.here (reverse c.loop-left.stack.items) in
+    (opening_of n c.loop-left.left) c.loop-left.here (reverse c.loop-left.stack.items) in
     elim c.if-may_meet.branch [
       | then-may_meet+in_default-noted_span w ↦ record {
         opened = opens c.loop-left.left (length c.loop-left.stack.items);
