@@ -1,7 +1,8 @@
 -- The nodes of an event: the source's `link_event_map`, an `IntMap` from an event to a set of nodes, of which document
 -- 01 says that it becomes a search. The definition looks at every node; the work space keeps, for each link, its first
 -- and last Arrive and whether it has a Clear, and for each Arrive the next of the same link.
-use Rattle.std.specs.Prelude.{◌≡◌, ◌≢◌, Bool, true, false, cond, List, [], ◌∷◌, ℕ, zero, suc, ◌+◌, ◌-◌, ◌*◌, ◌≤◌, ◌<◌, length, get_or}
+use Rattle.std.specs.Prelude.{◌≡◌, ◌≢◌, Bool, true, false, cond, List, [], ◌∷◌, ℕ, zero, suc, ◌+◌, ◌-◌, ◌*◌, ◌≤◌, ◌<◌}
+use Rattle.std.specs.Prelude.{length, get_or}
 use Rattle.laws.specs.Below.{some_below}
 use Rattle.net_node.specs.declared.EstType.{EstType}
 use Rattle.net_node.specs.declared.EstType.TheVariants.{Arrive, Clear, Fake}
@@ -64,7 +65,8 @@ pub record CellsApart (cells : List ℕ) (w : Layout) : Type 0 where
 -- calls.
 pub record Mapped (cells : List ℕ) (w : Layout) (node : ℕ → EstTime) (n : ℕ) : Type 0 where
   pub first : (l : ℕ) → l < w.links → get_or cells (w.links_at + l * 8) 0 ≡ head_of (event_nodes node (arrive_at l) n)
-  pub last : (l : ℕ) → l < w.links → get_or cells (w.links_at + l * 8 + 1) 0 ≡ last_of (event_nodes node (arrive_at l) n)
+  pub last : (l : ℕ) → l < w.links → get_or cells (w.links_at + l * 8 + 1) 0
+      ≡ last_of (event_nodes node (arrive_at l) n)
   pub cleared : (l : ℕ) → l < w.links → get_or cells (w.links_at + l * 8 + 2) 0 ≡ bit (seen_in node n (clear_at l))
   pub next : (l i : ℕ) → l < w.links → i < n → same_event (node i).link_event (arrive_at l) ≡ true
       → get_or cells (w.nodes_at + i * 8) 0 ≡ head_of (nodes_from node (arrive_at l) (suc i) (n - suc i))

@@ -26,7 +26,8 @@ pub record Slices : Type 0 where
   pub table : Table
   pub work : Work
 
-abbrev pub lent_at_entry : Lent (List Float) → Lent (List ℕ) → Lent (List Float) → Lent (List ℕ) → Lent (List ℕ) → Slices
+abbrev pub lent_at_entry : Lent (List Float) → Lent (List ℕ) → Lent (List Float) → Lent (List ℕ) → Lent (List ℕ)
+    → Slices
 lent_at_entry floats numbers reals cells marks = record {
   table = table_at_entry floats numbers;
   work = work_at_entry reals cells marks;

@@ -1,5 +1,5 @@
--- Words of the contracts: where a strand is left, and where a node is put on the stack itself. The stack is a list whose
--- first is on top.
+-- Words of the contracts: where a strand is left, and where a node is put on the stack itself. The stack is a list
+-- whose first is on top.
 use Rattle.std.specs.Prelude.{Bool, true, false, ◌||◌, List, ◌∷◌, ℕ, ◌+◌, ◌-◌, ◌*◌, ◌/◌, ◌%◌, eqb, ltb}
 use Rattle.net_node.specs.declared.EstTime.{EstTime}
 use Rattle.net_stack.specs.Stack.{is_arrive}
