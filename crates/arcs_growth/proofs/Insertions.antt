@@ -17,7 +17,7 @@ use Rattle.net_node.specs.declared.LinkEvent.{LinkEvent}
 use Rattle.net_node.specs.declared.EstTime.{EstTime}
 use Rattle.net_node.specs.declared.TimedEvent.{TimedEvent}
 use Rattle.net_node.specs.Table.{same_event, same_kind, kind_number, kind_of, Table, at, fake_kind, with_next_alt}
-use Rattle.net_node.proofs.Nodes.{kind_back}
+use Rattle.net_node.proofs.Columns.{kind_back}
 use Rattle.net_insertion.specs.declared.Place.{Place}
 use Rattle.std.specs.Prelude.{Result, Ok, Err}
 use Rattle.net_insertion.specs.declared.Insertion.{Insertion}

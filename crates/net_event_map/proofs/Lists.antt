@@ -21,10 +21,12 @@ use Rattle.net_event_map.specs.EventMap.{nodes_from, head_of, last_of, arrive_at
 
 same_link : (a b : LinkEvent) → same_event a b ≡ true → a.link_idx ≡ b.link_idx
 unfolding same_event
-same_link a b e = eqb-true a.link_idx b.link_idx (and_left (eqb a.link_idx b.link_idx) (same_kind a.est_type b.est_type) e)
+same_link a b e =
+    eqb-true a.link_idx b.link_idx (and_left (eqb a.link_idx b.link_idx) (same_kind a.est_type b.est_type) e)
 
 -- an event is no Arrive of two links
-pub same_arrive : (a : LinkEvent) (k l : ℕ) → same_event a (arrive_at k) ≡ true → same_event a (arrive_at l) ≡ true → k ≡ l
+pub same_arrive : (a : LinkEvent) (k l : ℕ) → same_event a (arrive_at k) ≡ true → same_event a (arrive_at l) ≡ true
+    → k ≡ l
 unfolding arrive_at
 same_arrive a k l s t = sym (same_link a (arrive_at k) s) ∙ same_link a (arrive_at l) t
 
@@ -56,7 +58,8 @@ clear_no_arrive l m = and_none (eqb l m)
 pub fake_none : (a e : LinkEvent) → a.est_type ≡ Fake → RealKind e.est_type → same_event a e ≡ false
 unfolding same_event same_kind
 fake_none a e f r =
-    ap (λ (k : EstType). eqb a.link_idx e.link_idx && eqb (kind_number k) (kind_number e.est_type)) f ∙ go (eqb a.link_idx e.link_idx) e.est_type r
+    ap (λ (k : EstType). eqb a.link_idx e.link_idx && eqb (kind_number k) (kind_number e.est_type)) f
+    ∙ go (eqb a.link_idx e.link_idx) e.est_type r
   where
     go : (t : Bool) (k : EstType) → RealKind k → (t && eqb 2 (kind_number k)) ≡ false
     go t Arrive r = and_none t
@@ -127,33 +130,42 @@ module _ (node : ℕ → EstTime) (e : LinkEvent) where
 
   split : (m a k b : ℕ) → b ≡ a + m → nodes_from node e a (m + k) ≡ nodes_from node e a m ++ nodes_from node e b k
   unfolding nodes_from
-  split zero a k b h = ap (nodes_from node e a) (zero-add k) ∙ ap (λ (x : ℕ). nodes_from node e x k) (sym (h ∙ add-zero a))
+  split zero a k b h = ap (nodes_from node e a) (zero-add k)
+      ∙ ap (λ (x : ℕ). nodes_from node e x k) (sym (h ∙ add-zero a))
   split (suc m) a k b h = ap (nodes_from node e a) (suc-add m k) ∙ go (has node e a) (split m (suc a) k b (omega arith))
     where
       go : (t : Bool) → nodes_from node e (suc a) (m + k) ≡ nodes_from node e (suc a) m ++ nodes_from node e b k
-          → cond t (a ∷ nodes_from node e (suc a) (m + k)) (nodes_from node e (suc a) (m + k)) ≡ cond t (a ∷ nodes_from node e (suc a) m) (nodes_from node e (suc a) m) ++ nodes_from node e b k
+          → cond t (a ∷ nodes_from node e (suc a) (m + k)) (nodes_from node e (suc a) (m + k))
+          ≡ cond t (a ∷ nodes_from node e (suc a) m) (nodes_from node e (suc a) m) ++ nodes_from node e b k
       go true ih = ap (λ (q : List ℕ). a ∷ q) ih
       go false ih = ih
 
   -- those before node b, then those from it on
-  pub nodes_split : (a m b k n : ℕ) → b ≡ a + m → n ≡ m + k → nodes_from node e a n ≡ nodes_from node e a m ++ nodes_from node e b k
+  pub nodes_split : (a m b k n : ℕ) → b ≡ a + m → n ≡ m + k
+      → nodes_from node e a n ≡ nodes_from node e a m ++ nodes_from node e b k
   nodes_split a m b k n h g = ap (nodes_from node e a) g ∙ split m a k b h
 
   -- one node more
-  pub nodes_added : (a k i n : ℕ) → i ≡ a + k → n ≡ k + 1 → has node e i ≡ true → nodes_from node e a n ≡ nodes_from node e a k ++ (i ∷ [])
+  pub nodes_added : (a k i n : ℕ) → i ≡ a + k → n ≡ k + 1 → has node e i ≡ true
+      → nodes_from node e a n ≡ nodes_from node e a k ++ (i ∷ [])
   unfolding nodes_from
-  nodes_added a k i n h g t = nodes_split a k i 1 n h g ∙ ap (λ (q : List ℕ). nodes_from node e a k ++ q) (with_it i 0 t)
+  nodes_added a k i n h g t = nodes_split a k i 1 n h g
+      ∙ ap (λ (q : List ℕ). nodes_from node e a k ++ q) (with_it i 0 t)
 
-  pub nodes_passed : (a k i n : ℕ) → i ≡ a + k → n ≡ k + 1 → has node e i ≡ false → nodes_from node e a n ≡ nodes_from node e a k
+  pub nodes_passed : (a k i n : ℕ) → i ≡ a + k → n ≡ k + 1 → has node e i ≡ false
+      → nodes_from node e a n ≡ nodes_from node e a k
   unfolding nodes_from
-  nodes_passed a k i n h g t = nodes_split a k i 1 n h g ∙ ap (λ (q : List ℕ). nodes_from node e a k ++ q) (without_it i 0 t) ∙ append-nil (nodes_from node e a k)
+  nodes_passed a k i n h g t = nodes_split a k i 1 n h g
+      ∙ ap (λ (q : List ℕ). nodes_from node e a k ++ q) (without_it i 0 t) ∙ append-nil (nodes_from node e a k)
 
   -- with a node in it
-  nodes_around : (a k j : ℕ) → Inside node e a k j → nodes_from node e a k ≡ nodes_from node e a (j - a) ++ (j ∷ nodes_from node e (suc j) (a + k - suc j))
+  nodes_around : (a k j : ℕ) → Inside node e a k j
+      → nodes_from node e a k ≡ nodes_from node e a (j - a) ++ (j ∷ nodes_from node e (suc j) (a + k - suc j))
   nodes_around a k j i =
       let h : j ≡ a + (j - a) = omega (arith, i.from) in
       let g : k ≡ (j - a) + suc (a + k - suc j) = omega (arith, i.from, i.below) in
-      nodes_split a (j - a) j (suc (a + k - suc j)) k h g ∙ ap (λ (q : List ℕ). nodes_from node e a (j - a) ++ q) (with_it j (a + k - suc j) i.has_it)
+      nodes_split a (j - a) j (suc (a + k - suc j)) k h g
+      ∙ ap (λ (q : List ℕ). nodes_from node e a (j - a) ++ q) (with_it j (a + k - suc j) i.has_it)
 
   pub nodes_none : (a k j : ℕ) → nodes_from node e a k ≡ [] → Inside node e a k j → ⊥
   nodes_none a k j z i =
@@ -168,7 +180,8 @@ module _ (node : ℕ → EstTime) (e : LinkEvent) where
   walk a zero = inl refl
   walk a (suc k) = go (true_or_false (has node e a)) (walk (suc a) k)
     where
-      go : (has node e a ≡ true) ⊎ (has node e a ≡ false) → (nodes_from node e (suc a) k ≡ []) ⊎ Walked node e (suc a) k (head_of (nodes_from node e (suc a) k))
+      go : (has node e a ≡ true) ⊎ (has node e a ≡ false)
+          → (nodes_from node e (suc a) k ≡ []) ⊎ Walked node e (suc a) k (head_of (nodes_from node e (suc a) k))
           → (nodes_from node e a (suc k) ≡ []) ⊎ Walked node e a (suc k) (head_of (nodes_from node e a (suc k)))
       go (inl t) ih =
           let s : k ≡ a + suc k - suc a = omega arith in
@@ -182,7 +195,11 @@ module _ (node : ℕ → EstTime) (e : LinkEvent) where
           let s : suc a + k - suc j ≡ a + suc k - suc j = omega arith in
           inr (subst (λ (q : ℕ). Walked node e a (suc k) q) (sym (ap head_of (without_it a k f))) (record {
             is = without_it a k f ∙ v.is ∙ ap (λ (n : ℕ). j ∷ nodes_from node e (suc j) n) s;
-            inside = record { from = omega (arith, v.inside.from); below = omega (arith, v.inside.below); has_it = v.inside.has_it };
+            inside = record {
+              from = omega (arith, v.inside.from);
+              below = omega (arith, v.inside.below);
+              has_it = v.inside.has_it;
+            };
           }))
 
   -- none, or the last is one of them
@@ -191,33 +208,44 @@ module _ (node : ℕ → EstTime) (e : LinkEvent) where
   last_inside a zero = inl refl
   last_inside a (suc k) = go (true_or_false (has node e (a + k))) (last_inside a k)
     where
-      go : (has node e (a + k) ≡ true) ⊎ (has node e (a + k) ≡ false) → (nodes_from node e a k ≡ []) ⊎ Inside node e a k (last_of (nodes_from node e a k))
+      go : (has node e (a + k) ≡ true) ⊎ (has node e (a + k) ≡ false)
+          → (nodes_from node e a k ≡ []) ⊎ Inside node e a k (last_of (nodes_from node e a k))
           → (nodes_from node e a (suc k) ≡ []) ⊎ Inside node e a (suc k) (last_of (nodes_from node e a (suc k)))
       go (inl t) ih =
-          let s : last_of (nodes_from node e a (suc k)) ≡ a + k = ap last_of (nodes_added a k (a + k) (suc k) refl (omega arith) t) ∙ last_own (nodes_from node e a k) (a + k) in
-          inr (subst (λ (q : ℕ). Inside node e a (suc k) q) (sym s) (record { from = omega arith; below = omega arith; has_it = t }))
+          let s : last_of (nodes_from node e a (suc k)) ≡ a + k =
+          ap last_of (nodes_added a k (a + k) (suc k) refl (omega arith) t)
+          ∙ last_own (nodes_from node e a k) (a + k) in
+          inr (subst (λ (q : ℕ). Inside node e a (suc k) q) (sym s)
+          (record { from = omega arith; below = omega arith; has_it = t }))
       go (inr f) (inl z) = inl (nodes_passed a k (a + k) (suc k) refl (omega arith) f ∙ z)
       go (inr f) (inr v) =
-          let s : last_of (nodes_from node e a (suc k)) ≡ last_of (nodes_from node e a k) = ap last_of (nodes_passed a k (a + k) (suc k) refl (omega arith) f) in
-          inr (subst (λ (q : ℕ). Inside node e a (suc k) q) (sym s) (record { from = v.from; below = omega (arith, v.below); has_it = v.has_it }))
+          let s : last_of (nodes_from node e a (suc k)) ≡ last_of (nodes_from node e a k) =
+          ap last_of (nodes_passed a k (a + k) (suc k) refl (omega arith) f) in
+          inr (subst (λ (q : ℕ). Inside node e a (suc k) q) (sym s)
+          (record { from = v.from; below = omega (arith, v.below); has_it = v.has_it }))
 
   -- the last is also the last from any of them on
-  last_from : (a k j : ℕ) → Inside node e a k j → last_of (nodes_from node e a k) ≡ last_of (j ∷ nodes_from node e (suc j) (a + k - suc j))
-  last_from a k j i = ap last_of (nodes_around a k j i) ∙ last_added (nodes_from node e a (j - a)) j (nodes_from node e (suc j) (a + k - suc j))
+  last_from : (a k j : ℕ) → Inside node e a k j
+      → last_of (nodes_from node e a k) ≡ last_of (j ∷ nodes_from node e (suc j) (a + k - suc j))
+  last_from a k j i = ap last_of (nodes_around a k j i)
+      ∙ last_added (nodes_from node e a (j - a)) j (nodes_from node e (suc j) (a + k - suc j))
 
   -- none stands behind the last, and one behind each other
-  pub behind_last : (a k j : ℕ) → Inside node e a k j → last_of (nodes_from node e a k) ≡ j → nodes_from node e (suc j) (a + k - suc j) ≡ []
+  pub behind_last : (a k j : ℕ) → Inside node e a k j → last_of (nodes_from node e a k) ≡ j
+      → nodes_from node e (suc j) (a + k - suc j) ≡ []
   behind_last a k j i l = go (last_behind j xs) (last_inside (suc j) (a + k - suc j))
     where
       xs : List ℕ
       xs = nodes_from node e (suc j) (a + k - suc j)
 
-      go : (xs ≡ []) ⊎ (last_of (j ∷ xs) ≡ last_of xs) → (xs ≡ []) ⊎ Inside node e (suc j) (a + k - suc j) (last_of xs) → xs ≡ []
+      go : (xs ≡ []) ⊎ (last_of (j ∷ xs) ≡ last_of xs) → (xs ≡ []) ⊎ Inside node e (suc j) (a + k - suc j) (last_of xs)
+          → xs ≡ []
       go (inl z) q = z
       go (inr s) (inl z) = z
       go (inr s) (inr v) = let t : j ≡ last_of xs = sym l ∙ last_from a k j i ∙ s in absurd (omega (arith, v.from, t))
 
-  pub behind_other : (a k j : ℕ) → Inside node e a k j → (j ≡ last_of (nodes_from node e a k) → ⊥) → 0 < head_of (nodes_from node e (suc j) (a + k - suc j))
+  pub behind_other : (a k j : ℕ) → Inside node e a k j → (j ≡ last_of (nodes_from node e a k) → ⊥)
+      → 0 < head_of (nodes_from node e (suc j) (a + k - suc j))
   behind_other a k j i l = go (walk (suc j) (a + k - suc j))
     where
       xs : List ℕ
@@ -228,7 +256,8 @@ module _ (node : ℕ → EstTime) (e : LinkEvent) where
       go (inr v) = omega (arith, v.inside.from)
 
   -- each of them
-  pub nodes_inside : (a k m : ℕ) → m < length (nodes_from node e a k) → Inside node e a k (get_or (nodes_from node e a k) m 0)
+  pub nodes_inside : (a k m : ℕ) → m < length (nodes_from node e a k)
+      → Inside node e a k (get_or (nodes_from node e a k) m 0)
   unfolding nodes_from
   nodes_inside a zero m h = absurd (not-suc-le-zero h)
   nodes_inside a (suc k) m h = go (true_or_false (has node e a)) m h (nodes_inside (suc a) k)
@@ -237,27 +266,37 @@ module _ (node : ℕ → EstTime) (e : LinkEvent) where
       wider j i = record { from = omega (arith, i.from); below = omega (arith, i.below); has_it = i.has_it }
 
       go : (has node e a ≡ true) ⊎ (has node e a ≡ false) → (m : ℕ) → m < length (nodes_from node e a (suc k))
-          → ((m : ℕ) → m < length (nodes_from node e (suc a) k) → Inside node e (suc a) k (get_or (nodes_from node e (suc a) k) m 0)) → Inside node e a (suc k) (get_or (nodes_from node e a (suc k)) m 0)
-      go (inl t) zero h ih = subst (λ (q : List ℕ). Inside node e a (suc k) (get_or q 0 0)) (sym (with_it a k t)) (record { from = omega arith; below = omega arith; has_it = t })
+          → ((m : ℕ) → m < length (nodes_from node e (suc a) k)
+          → Inside node e (suc a) k (get_or (nodes_from node e (suc a) k) m 0))
+          → Inside node e a (suc k) (get_or (nodes_from node e a (suc k)) m 0)
+      go (inl t) zero h ih =
+          subst (λ (q : List ℕ). Inside node e a (suc k) (get_or q 0 0)) (sym (with_it a k t))
+          (record { from = omega arith; below = omega arith; has_it = t })
       go (inl t) (suc m) h ih =
-          let g : suc m < suc (length (nodes_from node e (suc a) k)) = subst (λ (q : List ℕ). suc m < length q) (with_it a k t) h in
-          subst (λ (q : List ℕ). Inside node e a (suc k) (get_or q (suc m) 0)) (sym (with_it a k t)) (wider (get_or (nodes_from node e (suc a) k) m 0) (ih m (omega arith)))
+          let g : suc m < suc (length (nodes_from node e (suc a) k)) =
+          subst (λ (q : List ℕ). suc m < length q) (with_it a k t) h in
+          subst (λ (q : List ℕ). Inside node e a (suc k) (get_or q (suc m) 0)) (sym (with_it a k t))
+          (wider (get_or (nodes_from node e (suc a) k) m 0) (ih m (omega arith)))
       go (inr f) m h ih =
-          subst (λ (q : List ℕ). Inside node e a (suc k) (get_or q m 0)) (sym (without_it a k f)) (wider (get_or (nodes_from node e (suc a) k) m 0) (ih m (subst (λ (q : List ℕ). m < length q) (without_it a k f) h)))
+          subst (λ (q : List ℕ). Inside node e a (suc k) (get_or q m 0)) (sym (without_it a k f))
+          (wider (get_or (nodes_from node e (suc a) k) m 0)
+          (ih m (subst (λ (q : List ℕ). m < length q) (without_it a k f) h)))
 
   -- a first of 0 is none, where node 0 lacks the event
   module _ (zeroth : has node e 0 ≡ false) where
     pub walked_none : (a k : ℕ) → head_of (nodes_from node e a k) ≡ 0 → nodes_from node e a k ≡ []
     walked_none a k z = go (walk a k)
       where
-        go : (nodes_from node e a k ≡ []) ⊎ Walked node e a k (head_of (nodes_from node e a k)) → nodes_from node e a k ≡ []
+        go : (nodes_from node e a k ≡ []) ⊎ Walked node e a k (head_of (nodes_from node e a k))
+            → nodes_from node e a k ≡ []
         go (inl n) = n
         go (inr v) = not_both (subst (λ (j : ℕ). has node e j ≡ true) z v.inside.has_it) zeroth
 
     pub some_first : (a k j : ℕ) → Inside node e a k j → 0 < head_of (nodes_from node e a k)
     some_first a k j i = go (equal_or_not (head_of (nodes_from node e a k)) 0)
       where
-        go : (head_of (nodes_from node e a k) ≡ 0) ⊎ (head_of (nodes_from node e a k) ≡ 0 → ⊥) → 0 < head_of (nodes_from node e a k)
+        go : (head_of (nodes_from node e a k) ≡ 0) ⊎ (head_of (nodes_from node e a k) ≡ 0 → ⊥)
+            → 0 < head_of (nodes_from node e a k)
         go (inl z) = absurd (nodes_none a k j (walked_none a k z) i)
         go (inr z) = omega arith
 

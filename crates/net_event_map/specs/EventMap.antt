@@ -1,7 +1,8 @@
 -- The nodes of an event: the source's `link_event_map`, an `IntMap` from an event to a set of nodes, of which document
 -- 01 says that it becomes a search. The definition looks at every node; the work space keeps, for each link, its first
 -- and last Arrive and whether it has a Clear, and for each Arrive the next of the same link.
-use Rattle.std.specs.Prelude.{◌≡◌, ◌≢◌, Bool, true, false, cond, List, [], ◌∷◌, ℕ, zero, suc, ◌+◌, ◌-◌, ◌*◌, ◌≤◌, ◌<◌, length, get_or}
+use Rattle.std.specs.Prelude.{◌≡◌, ◌≢◌, Bool, true, false, cond, List, [], ◌∷◌, ℕ, zero, suc, ◌+◌, ◌-◌, ◌*◌, ◌≤◌, ◌<◌}
+use Rattle.std.specs.Prelude.{length, get_or}
 use Rattle.laws.specs.Below.{some_below}
 use Rattle.net_node.specs.declared.EstType.{EstType}
 use Rattle.net_node.specs.declared.EstType.TheVariants.{Arrive, Clear, Fake}
@@ -50,6 +51,8 @@ abbrev pub bit : Bool → ℕ
 bit true = 1
 bit false = 0
 
+-- Stands in contracts beside each `cells`: the slice is lent to the map, the notes and growth in turn, so a struct with
+-- a `&mut` to it would be taken apart at each of these calls.
 -- The cells have room: 8 for each of the links, from `links_at` on, and 8 for each place of the table, from `nodes_at`
 -- on; the two don't overlap.
 pub record CellsApart (cells : List ℕ) (w : Layout) : Type 0 where
@@ -62,7 +65,8 @@ pub record CellsApart (cells : List ℕ) (w : Layout) : Type 0 where
 -- calls.
 pub record Mapped (cells : List ℕ) (w : Layout) (node : ℕ → EstTime) (n : ℕ) : Type 0 where
   pub first : (l : ℕ) → l < w.links → get_or cells (w.links_at + l * 8) 0 ≡ head_of (event_nodes node (arrive_at l) n)
-  pub last : (l : ℕ) → l < w.links → get_or cells (w.links_at + l * 8 + 1) 0 ≡ last_of (event_nodes node (arrive_at l) n)
+  pub last : (l : ℕ) → l < w.links → get_or cells (w.links_at + l * 8 + 1) 0
+      ≡ last_of (event_nodes node (arrive_at l) n)
   pub cleared : (l : ℕ) → l < w.links → get_or cells (w.links_at + l * 8 + 2) 0 ≡ bit (seen_in node n (clear_at l))
   pub next : (l i : ℕ) → l < w.links → i < n → same_event (node i).link_event (arrive_at l) ≡ true
       → get_or cells (w.nodes_at + i * 8) 0 ≡ head_of (nodes_from node (arrive_at l) (suc i) (n - suc i))
@@ -71,7 +75,9 @@ pub record Mapped (cells : List ℕ) (w : Layout) (node : ℕ → EstTime) (n : 
   pub ungiven : (i k : ℕ) → i < w.places → 5 ≤ k → k < 8 → get_or cells (w.nodes_at + i * 8 + k) 0 ≡ 0
   pub zeroth : (e : LinkEvent) → same_event (node 0).link_event e ≡ true → e.est_type ≡ Fake
 
--- where the first node of a link's Arrive is named
+-- Where the first node of a link's Arrive is named.
+-- Stands in contracts beside `l < w.links`, and `next_at` beside `i < w.places`: link and node are others at each call,
+-- so no value keeps the bound.
 abbrev pub first_at : Layout → ℕ → ℕ
 first_at w l = w.links_at + l * 8
 
@@ -101,6 +107,7 @@ RealKind Arrive = Unit
 RealKind Clear = Unit
 RealKind Fake = ⊥
 
--- the event of a link that is one of so many
+-- The event of a link that is one of so many.
+-- Stands in contracts of what looks for an event: which layout its links are held against, only the call says.
 abbrev pub Real : LinkEvent → ℕ → Type 0
 Real e links = RealKind e.est_type × (e.link_idx < links)

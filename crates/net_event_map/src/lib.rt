@@ -55,7 +55,7 @@ pub fn next_node(cells: &[u32], w: Layout, i: u32) -> u32
 fn open_cell(cells: &[u32], w: Layout, link_idx: u32) -> usize
     requires cells_apart { CellsApart cells.now w }
     requires link_idx_lt_links { link_idx < w.links }
-    requires link_idx_bound { get_or cells.now (first_at w link_idx + 1) 0 < w.places }
+    requires last_placed { get_or cells.now (first_at w link_idx + 1) 0 < w.places }
     ensures first { get_or cells.now (first_at w link_idx) 0 ≡ 0 → result ≡ first_at w link_idx }
     ensures behind { 0 < get_or cells.now (first_at w link_idx) 0
         → result ≡ next_at w (get_or cells.now (first_at w link_idx + 1) 0) }
@@ -71,7 +71,7 @@ fn open_cell(cells: &[u32], w: Layout, link_idx: u32) -> usize
 fn append_arrive(cells: &mut [u32], w: Layout, i: u32, link_idx: u32)
     requires cells_apart { CellsApart cells.old w }
     requires link_idx_lt_links { link_idx < w.links }
-    requires link_idx_bound { get_or cells.old (first_at w link_idx + 1) 0 < w.places }
+    requires last_placed { get_or cells.old (first_at w link_idx + 1) 0 < w.places }
     requires i_lt_places { i < w.places }
     ensures mapped { MapsNode cells.old cells.new w i (arrive_at link_idx) }
     ensures elsewhere { MapOnly cells.old cells.new w }
@@ -97,9 +97,9 @@ fn mark_clear(cells: &mut [u32], w: Layout, link_idx: u32)
 pub fn insert(cells: &mut [u32], w: Layout, i: u32, event: LinkEvent)
     requires cells_apart { CellsApart cells.old w }
     requires real { Real event w.links }
-    requires link_idx_bound { get_or cells.old (first_at w event.link_idx + 1) 0 < w.places }
+    requires last_placed { get_or cells.old (first_at w event.link_idx + 1) 0 < w.places }
     requires i_lt_places { i < w.places }
-    requires places_bound { w.places ≤ 65535 }
+    requires few_places { w.places ≤ 65535 }
     requires i_nonzero { 0 < i }
     ensures mapped { MapsNode cells.old cells.new w i event }
     ensures elsewhere { MapOnly cells.old cells.new w }

@@ -124,6 +124,7 @@ InsertedInto t n join p e floats numbers (Err r) = (floats ≡ t.floats) × (num
 InsertedInto t n join p e floats numbers (Ok i) =
     (floats ≡ (inserted_table t n join p e).floats) × (numbers ≡ (inserted_table t n join p e).numbers)
 
--- which nodes end a finished run, as the work space has it: a cell for each node, 8 apart
+-- Stands in contracts beside `ends_at + n * 8 ≤ length cells + 7`: n grows from call to call.
+-- Which nodes end a finished run, as the work space has it: a cell for each node, 8 apart
 unfoldable pub flagged : List ℕ → ℕ → ℕ → Bool
 flagged cells base i = ltb 0 (get_or cells (base + i * 8) 0)

@@ -4,10 +4,11 @@
 ghost use Rattle.std.specs.Prelude.{◌≡◌, ◌+◌, ◌*◌, ◌≤◌, ◌<◌, length};
 ghost use Rattle.net_node.specs.Table.{node_at, Room, Indexed, float_width, number_width};
 ghost use Rattle.net_node.specs.Lent.{table_at_entry};
+ghost use Rattle.net_node.specs.Held.{nodes_held};
 ghost use Rattle.net_insertion.specs.Insertion.{matches, seek, linked_to, event_node, split_fake, add_behind};
 ghost use Rattle.net_insertion.specs.Insertion.{split_at, place_at, inserted, InsertedInto, flagged};
 
-use net_node::{EstTime, TimedEvent};
+use net_node::{EstTime, Nodes, TimedEvent};
 use refusals::Refusal;
 
 // A run's place, the source's `est_alt`: a node, and the time and offset of the run's own event there.
@@ -46,29 +47,18 @@ fn is_match(join: f64, e: TimedEvent, node: EstTime) -> bool
 }
 
 // From a node along its alternatives to where the event goes.
-fn seek_place(
-    floats: &[f64],
-    numbers: &[u32],
-    n: usize,
-    places: usize,
-    join: f64,
-    e: TimedEvent,
-    start: u32,
-) -> Seek
-    requires room { Room floats.now numbers.now places }
-    requires n_le_places { n ≤ places }
-    requires indexed { Indexed (node_at floats.now numbers.now) n }
-    requires start_lt_n { start < n }
-    ensures { result ≡ seek n (node_at floats.now numbers.now) join e start }
+fn seek_place(nodes: &Nodes, join: f64, e: TimedEvent, start: u32) -> Seek
+    requires { start < nodes.now.count }
+    ensures { result ≡ seek nodes.now.count (nodes_held nodes.now) join e start }
 {
     let mut i = start;
     loop {
-        let node = net_node::load(floats, numbers, i as usize);
+        let node = nodes.load(i);
         let next = node.idx_next;
         if next == 0 {
             return Seek::Open(i);
         }
-        let there = net_node::load(floats, numbers, next as usize);
+        let there = nodes.load(next);
         if is_match(join, e, there) {
             return Seek::Match(next);
         }
@@ -180,23 +170,19 @@ pub fn insert_est_time(
     requires room { Room floats.old numbers.old places }
     requires n_le_places { n ≤ places }
     requires indexed { Indexed (node_at floats.old numbers.old) n }
-    requires idx_prev_bound { est_alt.idx_prev < n }
-    requires n_in_bounds { ends_at + n * 8 ≤ length cells.now + 7 }
+    requires stands_inside { est_alt.idx_prev < n }
+    requires ends_inside { ends_at + n * 8 ≤ length cells.now + 7 }
     ensures answer { result ≡ inserted (table_at_entry floats numbers) n places (flagged cells.now ends_at)
         join est_alt est_insert }
     ensures table { InsertedInto (table_at_entry floats numbers) n join est_alt est_insert floats.new
         numbers.new result }
 {
-    let found = seek_place(
+    let nodes = Nodes {
         floats,
         numbers,
-        n,
-        places,
-        join,
-        est_insert,
-        est_alt.idx_prev,
-    );
-    match found {
+        count: n,
+    };
+    match seek_place(&nodes, join, est_insert, est_alt.idx_prev) {
         Seek::Match(i) => Ok(Insertion::Moved(place_at(i, est_insert))),
         Seek::Open(i) => {
             if places <= n {

@@ -20,7 +20,8 @@ node_front [] ys k h = absurd (not-suc-le-zero h)
 node_front (x ∷ xs) ys zero h = refl
 node_front (x ∷ xs) ys (suc k) h = node_front xs ys k (omega arith)
 
-pub node_last : (xs : List EstJoinPath) (x : EstJoinPath) (k : ℕ) → k ≡ length xs → node_of (xs ++ (x ∷ [])) k ≡ x.est_idx_next
+pub node_last : (xs : List EstJoinPath) (x : EstJoinPath) (k : ℕ) → k ≡ length xs
+    → node_of (xs ++ (x ∷ [])) k ≡ x.est_idx_next
 node_last [] x zero h = refl
 node_last [] x (suc k) h = absurd (omega arith)
 node_last (y ∷ xs) x zero h = absurd (omega arith)
@@ -36,7 +37,8 @@ pub and_then_some : (a : Option (List EstJoinPath)) → and_then a some ≡ a
 and_then_some none = refl
 and_then_some (some es) = refl
 
-pub then_same : (a : Option (List EstJoinPath)) (f g : List EstJoinPath → Option (List EstJoinPath)) → ((es : List EstJoinPath) → f es ≡ g es) → and_then a f ≡ and_then a g
+pub then_same : (a : Option (List EstJoinPath)) (f g : List EstJoinPath → Option (List EstJoinPath))
+    → ((es : List EstJoinPath) → f es ≡ g es) → and_then a f ≡ and_then a g
 then_same none f g h = refl
 then_same (some es) f g h = h es
 
@@ -46,20 +48,24 @@ then_none (some es) = refl
 
 -- ---- an answer that is passed on by `?`
 
-pub over_as : {answer : Option (List EstJoinPath)} {e : Refusal} (list : List EstJoinPath) (r : Result Unit Refusal) → IsErr r × IsErrAnd r (λ x. x ≡ e) → answer ≡ none → e ≡ NoPlace → EntriesAs answer list r
+pub over_as : {answer : Option (List EstJoinPath)} {e : Refusal} (list : List EstJoinPath) (r : Result Unit Refusal)
+    → IsErr r × IsErrAnd r (λ x. x ≡ e) → answer ≡ none → e ≡ NoPlace → EntriesAs answer list r
 over_as list (Ok u) g n h = absurd g.1
 over_as list (Err x) g n h = (n, g.1 ∙ h)
 
 -- ---- an entry for the node of one that was read, whatever it is where there is none
 
-got_node : (xs : List EstJoinPath) (k : ℕ) → (get_or xs k (record { link_idx_match = 0; est_idx_next = 0 })).est_idx_next ≡ node_of xs k
+got_node : (xs : List EstJoinPath) (k : ℕ)
+    → (get_or xs k (record { link_idx_match = 0; est_idx_next = 0 })).est_idx_next ≡ node_of xs k
 got_node [] k = refl
 got_node (x ∷ xs) zero = refl
 got_node (x ∷ xs) (suc k) = got_node xs k
 
 -- it names a node where the list does
-pub valid_at : (es : List EstJoinPath) (n k : ℕ) → Valid es n → k < length es → (get_or es k (record { link_idx_match = 0; est_idx_next = 0 })).est_idx_next < n
+pub valid_at : (es : List EstJoinPath) (n k : ℕ) → Valid es n → k < length es
+    → (get_or es k (record { link_idx_match = 0; est_idx_next = 0 })).est_idx_next < n
 valid_at es n k v h = subst (λ (i : ℕ). i < n) (sym (got_node es k)) (v.node k h)
 
-pub node_got : (m : ℕ) (xs ys : List EstJoinPath) (k : ℕ) → ys ≡ xs → entry m (get_or ys k (record { link_idx_match = 0; est_idx_next = 0 })).est_idx_next ≡ entry m (node_of xs k)
+pub node_got : (m : ℕ) (xs ys : List EstJoinPath) (k : ℕ) → ys ≡ xs
+    → entry m (get_or ys k (record { link_idx_match = 0; est_idx_next = 0 })).est_idx_next ≡ entry m (node_of xs k)
 node_got m xs ys k e = ap (entry m) (got_node ys k ∙ ap (λ (zs : List EstJoinPath). node_of zs k) e)

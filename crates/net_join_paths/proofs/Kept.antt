@@ -22,12 +22,16 @@ abbrev pub Kept : ℕ → Option (List EstJoinPath) → Type 0
 Kept n none = Unit
 Kept n (some es) = Sound n es
 
-pub kept_then : (n : ℕ) (a : Option (List EstJoinPath)) (f : List EstJoinPath → Option (List EstJoinPath)) → Kept n a → ((es : List EstJoinPath) → Sound n es → Kept n (f es)) → Kept n (and_then a f)
+pub kept_then : (n : ℕ) (a : Option (List EstJoinPath)) (f : List EstJoinPath → Option (List EstJoinPath)) → Kept n a
+    → ((es : List EstJoinPath) → Sound n es → Kept n (f es)) → Kept n (and_then a f)
 kept_then n none f h g = tt
 kept_then n (some es) f h g = g es h
 
-valid_more : (es : List EstJoinPath) (x : EstJoinPath) (n : ℕ) → Valid es n → x.est_idx_next < n → Valid (es ++ (x ∷ [])) n
-valid_more es x n v h = record { node = λ k l. at k (eqb k (length es)) refl (subst (λ (j : ℕ). k < j) (length-append es (x ∷ [])) l) }
+valid_more : (es : List EstJoinPath) (x : EstJoinPath) (n : ℕ) → Valid es n → x.est_idx_next < n
+    → Valid (es ++ (x ∷ [])) n
+valid_more es x n v h = record {
+  node = λ k l. at k (eqb k (length es)) refl (subst (λ (j : ℕ). k < j) (length-append es (x ∷ [])) l);
+}
   where
     at : (k : ℕ) (t : Bool) → eqb k (length es) ≡ t → k < length es + 1 → node_of (es ++ (x ∷ [])) k < n
     at k true e l = subst (λ (j : ℕ). j < n) (sym (node_last es x k (eqb-true k (length es) e))) h

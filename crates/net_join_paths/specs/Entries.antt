@@ -1,5 +1,6 @@
 -- Lists of join entries, document 01 under "Joins": "An entry is (match link m, node e)." A list has at most 1,024.
-use Rattle.std.specs.Prelude.{◌≡◌, Bool, true, false, List, [], ◌∷◌, ◌++◌, ℕ, zero, suc, ◌<◌, ltb, length, Result, Ok, Err}
+use Rattle.std.specs.Prelude.{◌≡◌, Bool, true, false, List, [], ◌∷◌, ◌++◌, ℕ, zero, suc, ◌<◌, ltb, length, Result, Ok}
+use Rattle.std.specs.Prelude.{Err}
 use Rattle.std.proofs.Math.Option.{Option, none, some}
 use Prim.{Unit}
 use Rattle.arrayvec.specs.ArrayVec.{ArrayVec}

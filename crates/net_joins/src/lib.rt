@@ -8,8 +8,8 @@ ghost use Rattle.net_node.specs.Table.{node_at, Room, Indexed, float_width, numb
 ghost use Rattle.net_event_map.specs.EventMap.{CellsApart, Mapped, Real, first_at};
 ghost use Rattle.net_join_paths.specs.declared.EstJoinPath.{EstJoinPath};
 ghost use Rattle.net_join_paths.specs.Entries.{Valid};
-ghost use Rattle.net_node.specs.Lent.{table_at_entry};
-ghost use Rattle.net_strands.specs.Steps.{nodes_at_entry};
+ghost use Rattle.net_node.specs.Lent.{nodes_at_entry, table_at_entry};
+ghost use Rattle.net_node.specs.Held.{nodes_held};
 ghost use Rattle.net_joins.specs.Joins.{closer, closest, chain_end, join_fake, join_at, joined_table, joins_if};
 ghost use Rattle.net_joins.specs.Joins.{join_step, StepAs, SteppedInto};
 ghost use Rattle.net_joins.specs.Marks.{marks, NamesMarked, Ending, MapWalkable, AppendsChain, AppendsNodes};
@@ -17,7 +17,7 @@ ghost use Rattle.net_joins.specs.Marks.{GoesOnWith, MapKept};
 
 use net_event_map::Layout;
 use net_join_paths::{EstJoinPath, JoinPaths, push_entry};
-use net_node::{EstTime, EstType, LinkEvent, TimedEvent};
+use net_node::{EstTime, EstType, LinkEvent, Nodes, TimedEvent};
 use net_stack::Stack;
 use refusals::Refusal;
 
@@ -76,15 +76,13 @@ pub fn closest_of(
 }
 
 // From a node along the previous alternatives to the last of them.
-fn chain_end(floats: &[f64], numbers: &[u32], nodes: usize, start: u32) -> u32
-    requires room { Room floats.now numbers.now nodes }
-    requires indexed { Indexed (node_at floats.now numbers.now) nodes }
-    requires start_lt_nodes { start < nodes }
-    ensures { result ≡ chain_end nodes (nodes_at_entry floats numbers) start }
+fn chain_end(nodes: &Nodes, start: u32) -> u32
+    requires { start < nodes.now.count }
+    ensures { result ≡ chain_end nodes.now.count (nodes_held nodes.now) start }
 {
     let mut i = start;
     loop {
-        let node = net_node::load(floats, numbers, i as usize);
+        let node = nodes.load(i);
         if node.idx_prev_alt == 0 {
             return i;
         }
@@ -144,7 +142,12 @@ fn perform_speed_join(
     ensures numbers { numbers.new ≡ (joined_table (table_at_entry floats numbers) n target
         est_time_add).numbers }
 {
-    let end = chain_end(floats, numbers, n, target);
+    let nodes = Nodes {
+        floats,
+        numbers,
+        count: n,
+    };
+    let end = chain_end(&nodes, target);
     join_at(floats, numbers, n as u32, end, est_time_add);
 }
 
@@ -274,7 +277,7 @@ pub fn join_step(
 ) -> Result<Step, Refusal>
     requires room { Room floats.old numbers.old w.places }
     requires n_le_places { n ≤ w.places }
-    requires le_n { 1 ≤ n }
+    requires some_nodes { 1 ≤ n }
     requires indexed { Indexed (node_at floats.old numbers.old) n }
     requires cells_apart { CellsApart cells.old w }
     requires mapped { Mapped cells.old w (node_at floats.old numbers.old) n }
@@ -289,9 +292,12 @@ pub fn join_step(
 {
     let event = est_time_add.link_event;
     let seen = net_event_map::contains(cells, w, event);
-    net_strands::update_join_paths_space(
-        floats, numbers, n, event, seen, joins, cells, w, stack, scratch,
-    )?;
+    let nodes = Nodes {
+        floats,
+        numbers,
+        count: n,
+    };
+    net_strands::update_join_paths_space(&nodes, event, seen, joins, cells, w, stack, scratch)?;
     let best = closest_of(floats, numbers, n, scratch, join, est_time_add.speed);
     if best.speed_diff_join < join {
         return join_target(

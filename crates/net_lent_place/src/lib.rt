@@ -43,8 +43,8 @@ pub fn insert_est_time(
     requires room { Room floats.old numbers.old places }
     requires n_le_places { n ≤ places }
     requires indexed { Indexed (node_at floats.old numbers.old) n }
-    requires idx_prev_bound { est_alt.old.idx_prev < n }
-    requires n_in_bounds { ends_at + n * 8 ≤ length cells.now + 7 }
+    requires stands_inside { est_alt.old.idx_prev < n }
+    requires ends_inside { ends_at + n * 8 ≤ length cells.now + 7 }
     ensures answer { result ≡ inserted (table_at_entry floats numbers) n places (flagged cells.now ends_at)
         join est_alt.old est_insert }
     ensures table { InsertedInto (table_at_entry floats numbers) n join est_alt.old est_insert

@@ -1,4 +1,5 @@
--- Nodes written into a table: what is read at their places and at others, that the room stays, and that a network stays indexed.
+-- Nodes written into a table: what is read at their places and at others, that the room stays, and that a network stays
+-- indexed.
 use mathlib.Core.Path.{◌≡◌, sym, ◌∙◌, subst}
 use mathlib.Core.Logic.{◌⊎◌, inl, inr, ◌≢◌}
 use Prim.Native.Nat.{ℕ, ◌+◌, ◌≤◌, ◌<◌}
@@ -6,7 +7,7 @@ use native.Mathlib.Omega.{arith}
 use Rattle.laws.proofs.Truth.{equal_or_not}
 use Rattle.net_node.specs.declared.EstTime.{EstTime}
 use Rattle.net_node.specs.Table.{Table, put, at, Room, Indexed}
-use Rattle.net_node.proofs.Nodes.{node_put_same, node_put_other, length_put_floats, length_put_numbers}
+use Rattle.net_node.proofs.Columns.{node_put_same, node_put_other, length_put_floats, length_put_numbers}
 
 abbrev pub RoomIn : Table → ℕ → Type 0
 RoomIn t places = Room t.floats t.numbers places
@@ -77,10 +78,17 @@ fits_indexed f = record {
   prev_alt_rises = λ i h. (f i h).prev_alt_rises;
 }
 
-pub both_indexed : (t : Table) (i n : ℕ) (x y : EstTime) (places : ℕ) → RoomIn t places → Indexed (at t) n → i < n → n < places → Fits x i (n + 1) → Fits y n (n + 1) → Indexed (at (both t i n x y)) (n + 1)
+pub both_indexed : (t : Table) (i n : ℕ) (x y : EstTime) (places : ℕ) → RoomIn t places → Indexed (at t) n → i < n
+    → n < places → Fits x i (n + 1) → Fits y n (n + 1) → Indexed (at (both t i n x y)) (n + 1)
 both_indexed t i n x y places r w h g f s = fits_indexed (λ j l. go j l (equal_or_not j i) (equal_or_not j n))
   where
     go : (j : ℕ) → j < n + 1 → (j ≡ i) ⊎ (j ≡ i → ⊥) → (j ≡ n) ⊎ (j ≡ n → ⊥) → Fits (at (both t i n x y) j) j (n + 1)
-    go j l (inl a) b = subst (λ (k : ℕ). Fits (at (both t i n x y) k) k (n + 1)) (sym a) (subst (λ (z : EstTime). Fits z i (n + 1)) (sym (both_first t i n x y places r h (omega arith))) f)
-    go j l (inr a) (inl b) = subst (λ (k : ℕ). Fits (at (both t i n x y) k) k (n + 1)) (sym b) (subst (λ (z : EstTime). Fits z n (n + 1)) (sym (both_second t i n x y places r g)) s)
-    go j l (inr a) (inr b) = subst (λ (z : EstTime). Fits z j (n + 1)) (sym (both_other t i n x y j a b)) (fits_at w j (n + 1) (omega arith) (omega arith))
+    go j l (inl a) b =
+        subst (λ (k : ℕ). Fits (at (both t i n x y) k) k (n + 1)) (sym a)
+        (subst (λ (z : EstTime). Fits z i (n + 1)) (sym (both_first t i n x y places r h (omega arith))) f)
+    go j l (inr a) (inl b) =
+        subst (λ (k : ℕ). Fits (at (both t i n x y) k) k (n + 1)) (sym b)
+        (subst (λ (z : EstTime). Fits z n (n + 1)) (sym (both_second t i n x y places r g)) s)
+    go j l (inr a) (inr b) =
+        subst (λ (z : EstTime). Fits z j (n + 1)) (sym (both_other t i n x y j a b))
+        (fits_at w j (n + 1) (omega arith) (omega arith))

@@ -2,7 +2,8 @@
 -- Contracts of entries are said over these records, by name.
 use Rattle.std.specs.Prelude.{List, ℕ, length, Float}
 use Rattle.space.specs.Lent.{Lent, Seen, Work, work_at_entry, work_at_exit, bytes_in}
-use Rattle.net_node.specs.Table.{Table}
+use Rattle.net_node.specs.declared.EstTime.{EstTime}
+use Rattle.net_node.specs.Table.{Table, node_at}
 use Rattle.net_node.specs.Left.{places_of}
 
 -- the table's two slices
@@ -16,12 +17,17 @@ table_at_exit floats numbers = record { floats = floats.exit.now; numbers = numb
 abbrev pub table_seen : Seen (List Float) → Seen (List ℕ) → Table
 table_seen floats numbers = record { floats = floats.entry.now; numbers = numbers.entry.now }
 
+-- the network of both, as a function from index to node
+abbrev pub nodes_at_entry : Seen (List Float) → Seen (List ℕ) → ℕ → EstTime
+nodes_at_entry floats numbers = node_at floats.entry.now numbers.entry.now
+
 -- a table and the work space: all that the entries are lent to write to
 pub record Slices : Type 0 where
   pub table : Table
   pub work : Work
 
-abbrev pub lent_at_entry : Lent (List Float) → Lent (List ℕ) → Lent (List Float) → Lent (List ℕ) → Lent (List ℕ) → Slices
+abbrev pub lent_at_entry : Lent (List Float) → Lent (List ℕ) → Lent (List Float) → Lent (List ℕ) → Lent (List ℕ)
+    → Slices
 lent_at_entry floats numbers reals cells marks = record {
   table = table_at_entry floats numbers;
   work = work_at_entry reals cells marks;

@@ -1,3 +1,4 @@
 pub mod Table
 pub mod Left
 pub mod Lent
+pub mod Held

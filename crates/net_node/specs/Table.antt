@@ -3,7 +3,8 @@
 -- Fake 2." This crate alone knows the layout: which column of a node's floats or numbers a field stands in, and how
 -- many there are. Everything above it goes by `at`, `put`, the `with..` and `set..` below and their laws (proofs/), and
 -- names the widths where it counts slices.
-use Rattle.std.specs.Prelude.{Bool, true, false, ◌&&◌, List, [], ◌∷◌, ◌++◌, ℕ, zero, suc, ◌+◌, ◌*◌, ◌≤◌, ◌<◌, eqb, length, get_or, set, Float}
+use Rattle.std.specs.Prelude.{Bool, true, false, ◌&&◌, List, [], ◌∷◌, ◌++◌, ℕ, zero, suc, ◌+◌, ◌*◌, ◌≤◌, ◌<◌, eqb}
+use Rattle.std.specs.Prelude.{length, get_or, set, Float}
 use Rattle.std.specs.Float.{nan, binary64}
 use Rattle.std.specs.Float.Ieee.{of_bits}
 use Rattle.net_node.specs.declared.EstType.{EstType}
@@ -13,6 +14,9 @@ use Rattle.net_node.specs.declared.EstTime.{EstTime}
 
 -- ---- the widths of a node: "4 f64 and 6 u32 each"
 
+-- Stands in contracts as `i * float_width + float_width ≤ length floats`, and alike of numbers: one node of slices that
+-- are lent for this call and longer than the network is written, so no value that outlives the call can keep it. What
+-- is only read keeps it as `Nodes`.
 abbrev pub float_width : ℕ
 float_width = 4
 
@@ -109,7 +113,10 @@ numbers_of n =
 
 abbrev pub table_of : List EstTime → Table
 table_of [] = record { floats = []; numbers = [] }
-table_of (n ∷ ns) = record { floats = floats_of n ++ (table_of ns).floats; numbers = numbers_of n ++ (table_of ns).numbers }
+table_of (n ∷ ns) = record {
+  floats = floats_of n ++ (table_of ns).floats;
+  numbers = numbers_of n ++ (table_of ns).numbers;
+}
 
 -- "The blank node and the no-link event are named constants of their records": the source's defaults, with a time of 0,
 -- since untimed is a state of its own
@@ -178,6 +185,8 @@ set_prev t i prev = record { floats = t.floats; numbers = set t.numbers (i * num
 -- ---- what a network keeps
 
 -- The slices have room for so many nodes.
+-- Stands in contracts, as `Indexed` does, of what writes a table: a struct with the two `&mut` slices would be taken
+-- apart wherever the table is read as `Nodes` in between. Where it is only read, `Nodes` keeps both.
 pub record Room (fs : List Float) (us : List ℕ) (places : ℕ) : Type 0 where
   pub floats : places * float_width ≤ length fs
   pub numbers : places * number_width ≤ length us

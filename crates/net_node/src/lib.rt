@@ -1,13 +1,14 @@
 // A node of the network and its event, and the table of nodes in two lent slices. Contracts: specs/Table.antt.
 #![tactic(auto)]
 
-ghost use Rattle.std.specs.Prelude.{◌≡◌, ◌+◌, ◌*◌, ◌≤◌, length};
+ghost use Rattle.std.specs.Prelude.{◌≡◌, ◌+◌, ◌*◌, ◌≤◌, ◌<◌, length};
+ghost use Rattle.std.proofs.Props.{props};
 ghost use Rattle.net_node.specs.Lent.{table_at_entry};
 ghost use Rattle.net_node.specs.Left.{filled, places_of, kind_at, floats_kept, numbers_kept};
 ghost use Rattle.net_node.specs.Table.{float_width, number_width, kind_of, kind_number, same_kind, is_fake};
 ghost use Rattle.net_node.specs.Table.{same_event};
 ghost use Rattle.net_node.specs.Table.{node_at, put_floats, put_numbers, Table, set_time, set_arc, set_next, set_prev};
-ghost use Rattle.net_node.specs.Table.{no_link_event, blank};
+ghost use Rattle.net_node.specs.Table.{no_link_event, blank, Room, Indexed};
 
 // How many floats and how many numbers a node has in the table's two slices.
 pub const FLOAT_WIDTH: usize = 4;
@@ -101,7 +102,7 @@ impl EstTime {
         link_event: LinkEvent::NO_LINK,
     };
 
-    // Whether a node is a Fake.
+    // Whether a node is a Fake: a name for one `==`, as contracts above cite the rule.
     pub fn is_fake(&self) -> bool
         ensures { result ≡ is_fake self.now }
     {
@@ -131,6 +132,28 @@ pub fn load(floats: &[f64], numbers: &[u32], i: usize) -> EstTime
             link_idx: numbers[u + 4],
             est_type: numbers[u + 5].into(),
         },
+    }
+}
+
+// The nodes of a network that is only read: the first `count` of a table.
+#[derive(Clone, Copy)]
+pub struct Nodes<'a> {
+    pub floats: &'a [f64],
+    pub numbers: &'a [u32],
+    pub count: usize,
+    ghost room: { Room floats.now numbers.now count } by { Prim.hlevel props },
+    ghost indexed: { Indexed (node_at floats.now numbers.now) count } by { Prim.hlevel props },
+}
+
+impl<'a> Nodes<'a> {
+    ghost use Rattle.net_node.specs.Held.{nodes_held};
+
+    // The node of index i.
+    pub fn load(&self, i: u32) -> EstTime
+        requires { i < self.now.count }
+        ensures { result ≡ nodes_held self.now i }
+    {
+        load(self.floats, self.numbers, i as usize)
     }
 }
 

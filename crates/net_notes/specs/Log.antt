@@ -1,7 +1,8 @@
 -- Words of the contracts: what is noted of a node while one event is looked at, in the last three of its cells, and the
 -- log of the nodes of which something is noted, in the second cells of the places: that of place 0 has the number of
 -- names, those behind it have the names.
-use Rattle.std.specs.Prelude.{◌≡◌, ◌≢◌, Bool, true, false, ◌||◌, List, ℕ, zero, suc, ◌+◌, ◌-◌, ◌*◌, ◌/◌, ◌%◌, ◌≤◌, ◌<◌, leb, get_or, Option, None, Some}
+use Rattle.std.specs.Prelude.{◌≡◌, ◌≢◌, Bool, true, false, ◌||◌, List, ℕ, zero, suc, ◌+◌, ◌-◌, ◌*◌, ◌/◌, ◌%◌, ◌≤◌, ◌<◌}
+use Rattle.std.specs.Prelude.{leb, get_or, Option, None, Some}
 use Rattle.net_event_map.specs.declared.Layout.{Layout}
 use Rattle.net_notes.specs.declared.Column.{Column}
 use Rattle.net_notes.specs.declared.Column.TheVariants.{Matched, Strands, Nexts}
@@ -88,7 +89,8 @@ log_full cells w = leb 65535 (logged cells w) || leb w.places (logged cells w + 
 
 -- node i's own cells then: as they were if the log is full, and else three numbers
 abbrev pub NotedAs : Bool → Layout → (i matched strands nexts : ℕ) → (cells cells' : List ℕ) → Type 0
-NotedAs true w i matched strands nexts cells cells' = (c : ℕ) → NoteColumn c → note_in cells' w i c ≡ note_in cells w i c
+NotedAs true w i matched strands nexts cells cells' = (c : ℕ) → NoteColumn c
+    → note_in cells' w i c ≡ note_in cells w i c
 NotedAs false w i matched strands nexts cells cells' =
     (note_in cells' w i matched_column ≡ matched) × ((note_in cells' w i strands_column ≡ strands)
     × (note_in cells' w i nexts_column ≡ nexts))

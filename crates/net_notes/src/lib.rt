@@ -9,34 +9,16 @@ ghost use Rattle.net_notes.specs.Log.{column_number, note_in, span_number, span_
 
 use net_event_map::Layout;
 
-// The columns of a node's cells (specs/Log.antt): a name of the log, and what is noted of the node.
+// The column of a name of the log, in a place's cells.
 const NAME: usize = 1;
 
-const MATCHED: usize = 5;
-
-const STRANDS: usize = 6;
-
-const NEXTS: usize = 7;
-
 // What is noted of a node: what entries of it give that match already, what strands from it give, and how many nexts
-// these read.
+// these read; each with its column of the node's cells (specs/Log.antt).
 #[derive(Clone, Copy, Debug, PartialEq, Eq)]
 pub enum Column {
-    Matched,
-    Strands,
-    Nexts,
-}
-
-impl From<Column> for usize {
-    ghost from_gives = { λ c n. n ≡ column_number c };
-
-    fn from(c: Column) -> usize {
-        match c {
-            Column::Matched => MATCHED,
-            Column::Strands => STRANDS,
-            Column::Nexts => NEXTS,
-        }
-    }
+    Matched = 5,
+    Strands = 6,
+    Nexts = 7,
 }
 
 // A span of the new list.
@@ -47,7 +29,7 @@ pub struct Span {
 }
 
 impl Span {
-    // The span as a number that is not 0.
+    // The span as a number that is not 0: what a cell holds, in which 0 is none.
     pub fn number(self) -> u32
         requires rises { self.begin ≤ self.end }
         requires few { self.end ≤ 1024 }
@@ -63,7 +45,7 @@ pub fn noted(cells: &[u32], w: Layout, i: u32, column: Column) -> u32
     requires i_lt_places { i < w.places }
     ensures { result ≡ note_in cells.now w i (column_number column) }
 {
-    cells[w.nodes_at + i as usize * 8 + usize::from(column)]
+    cells[w.nodes_at + i as usize * 8 + column as usize]
 }
 
 // The span that is noted of a node in one column, if any is.
@@ -96,9 +78,9 @@ pub fn note(cells: &mut [u32], w: Layout, i: u32, matched: u32, strands: u32, ne
     let unit = w.nodes_at + i as usize * 8;
     cells[w.nodes_at + (count as usize + 1) * 8 + NAME] = i;
     cells[w.nodes_at + NAME] = count + 1;
-    cells[unit + MATCHED] = matched;
-    cells[unit + STRANDS] = strands;
-    cells[unit + NEXTS] = nexts;
+    cells[unit + Column::Matched as usize] = matched;
+    cells[unit + Column::Strands as usize] = strands;
+    cells[unit + Column::Nexts as usize] = nexts;
 }
 
 // Takes back all that is noted and logged.
@@ -113,9 +95,9 @@ pub fn forget_notes(cells: &mut [u32], w: Layout)
         let name = w.nodes_at + k * 8 + NAME;
         let unit = w.nodes_at + cells[name] as usize * 8;
         cells[name] = 0;
-        cells[unit + MATCHED] = 0;
-        cells[unit + STRANDS] = 0;
-        cells[unit + NEXTS] = 0;
+        cells[unit + Column::Matched as usize] = 0;
+        cells[unit + Column::Strands as usize] = 0;
+        cells[unit + Column::Nexts as usize] = 0;
     }
     cells[w.nodes_at + NAME] = 0;
 }

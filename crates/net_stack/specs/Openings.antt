@@ -1,6 +1,6 @@
--- Words of the contracts: where a strand is left, and where a node is put on the stack itself. The stack is a list whose
--- first is on top.
-use Rattle.std.specs.Prelude.{Bool, true, false, ◌&&◌, ◌||◌, List, ◌∷◌, ℕ, ◌+◌, ◌-◌, ◌*◌, ◌/◌, ◌%◌, eqb, ltb}
+-- Words of the contracts: where a strand is left, and where a node is put on the stack itself. The stack is a list
+-- whose first is on top.
+use Rattle.std.specs.Prelude.{Bool, true, false, ◌||◌, List, ◌∷◌, ℕ, ◌+◌, ◌-◌, ◌*◌, ◌/◌, ◌%◌, eqb, ltb}
 use Rattle.net_node.specs.declared.EstTime.{EstTime}
 use Rattle.net_stack.specs.Stack.{is_arrive}
 
@@ -28,10 +28,9 @@ opening_at opening = (opening - 65536) / 4096
 abbrev pub opening_left : ℕ → ℕ
 opening_left opening = (opening - 65536) % 4096 + 1
 
--- A node is opened, where that is wanted, as long as the stack has room for it beside an alternative for each next that
--- is left.
-unfoldable pub opens : Bool → (left top : ℕ) → Bool
-opens wanted left top = wanted && ltb (top + left + 1) stack_length
+-- A node is opened as long as the stack has room for it beside an alternative for each next that is left.
+unfoldable pub opens : (left top : ℕ) → Bool
+opens left top = ltb (top + left + 1) stack_length
 
 -- a node and its opening on a stack, if it is opened
 abbrev pub opened_if : Bool → ℕ → ℕ → List ℕ → List ℕ

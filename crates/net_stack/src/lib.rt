@@ -20,17 +20,6 @@ use net_notes::{Column, Span};
 // of which a node that is opened has two, so an item each would open others.
 pub type Stack = ArrayVec<u32, 4608>;
 
-// Puts a node's alternative on the stack, if it has one.
-fn stack_alternative(stack: &mut Stack, alt: u32)
-    requires { array_vec_len stack.old < stack_length }
-    ensures holds { reverse stack.new.items ≡ alternative_stacked alt (reverse stack.old.items) }
-    ensures top { array_vec_len stack.new ≤ array_vec_len stack.old + 1 }
-{
-    if alt != 0 {
-        stack.push(alt);
-    }
-}
-
 // Whether a strand is left at a node: at an Arrive, and where there is no next.
 #[tactic(auto, using(crate::proofs::Arrives::arrive_eq), unfolding(crate::specs::Openings::ends_strand))]
 pub fn ends_strand(node: EstTime) -> bool
@@ -40,48 +29,43 @@ pub fn ends_strand(node: EstTime) -> bool
     arrive | (node.idx_next == 0)
 }
 
-// Puts a node and its opening on the stack, if it is to be opened. `wanted` is the rule's own (`opens`).
+// Puts a node and its opening on the stack, as long as there is room for them (`opens`).
 #[tactic(auto, unfolding(crate::specs::Openings::opens))]
-fn open_node(wanted: bool, stack: &mut Stack, here: u32, at: usize, left: u32)
-    requires left_bound { array_vec_len stack.old + left ≤ stack_length }
+pub fn open_node(stack: &mut Stack, here: u32, at: usize, left: u32)
+    requires room { array_vec_len stack.old + left ≤ stack_length }
     requires left_nonzero { 0 < left }
-    requires left_bound_2 { left ≤ 4096 }
-    requires at_bound { at ≤ 1024 }
-    ensures holds { reverse stack.new.items ≡ opened_if (opens wanted left (array_vec_len stack.old))
+    requires few_left { left ≤ 4096 }
+    requires few_entries { at ≤ 1024 }
+    ensures holds { reverse stack.new.items ≡ opened_if (opens left (array_vec_len stack.old))
         (opening_of at left) here (reverse stack.old.items) }
     ensures room { array_vec_len stack.new + left ≤ stack_length }
     ensures top { array_vec_len stack.new ≤ array_vec_len stack.old + 2 }
 {
-    if wanted & (stack.len() + left as usize + 1 < 4608) {
+    if stack.len() + left as usize + 1 < 4608 {
         stack.push(here);
         stack.push(65535 + at as u32 * 4096 + left);
     }
 }
 
-// Puts a node on the stack, if it is to be opened, and its alternative, if it has one.
-pub fn stack_node(wanted: bool, stack: &mut Stack, here: u32, at: usize, left: u32, alt: u32)
-    requires left_bound { array_vec_len stack.old + left ≤ stack_length }
-    requires left_nonzero { 0 < left }
-    requires left_bound_2 { left ≤ 4096 }
-    requires at_bound { at ≤ 1024 }
-    ensures holds { reverse stack.new.items ≡ alternative_stacked alt
-        (opened_if (opens wanted left (array_vec_len stack.old)) (opening_of at left) here
-        (reverse stack.old.items)) }
-    ensures room { array_vec_len stack.new + left ≤ stack_length + 1 }
-    ensures top { array_vec_len stack.new ≤ array_vec_len stack.old + 3 }
+// Puts a node's alternative on the stack, if it has one.
+pub fn stack_alternative(stack: &mut Stack, alt: u32)
+    requires { array_vec_len stack.old < stack_length }
+    ensures holds { reverse stack.new.items ≡ alternative_stacked alt (reverse stack.old.items) }
+    ensures top { array_vec_len stack.new ≤ array_vec_len stack.old + 1 }
 {
-    open_node(wanted, stack, here, at, left);
-    stack_alternative(stack, alt);
+    if alt != 0 {
+        stack.push(alt);
+    }
 }
 
 // Notes what a node gives whose opening was popped: the entries, and the nexts read, since then.
 pub fn close_node(cells: &mut [u32], w: Layout, i: u32, opening: u32, at: usize, left: u32)
     requires cells_apart { CellsApart cells.old w }
     requires i_lt_places { i < w.places }
-    requires le_opening { 65536 ≤ opening }
-    requires opening_bound { opening_at opening ≤ at }
-    requires at_bound { at ≤ 1024 }
-    requires left_bound { left ≤ opening_left opening }
+    requires is_opening { 65536 ≤ opening }
+    requires inside { opening_at opening ≤ at }
+    requires few_entries { at ≤ 1024 }
+    requires spent { left ≤ opening_left opening }
     ensures { Notes w i (note_in cells.old w i matched_column) (span_number (opening_at opening) at)
         (opening_left opening - left) cells.old cells.new }
 {

@@ -49,10 +49,10 @@ module _ (node : ℕ → EstTime) (n : ℕ) (e : LinkEvent) (seen : Bool) (x : E
           go false true p r z = extended_by false false true false (ne_eqb y.idx_next 0 h) p r (not-true seen s)
           go false false p r z = absurd (true≢false (sym z))
 
-      module _ (s : not seen ≡ false) (m : ℕ) (f : m ≡ new_match arrive x.link_idx_match) where
+      module _ (s : not seen ≡ false) (m : ℕ) (f : m ≡ new_match (is_arrive e.est_type) x.link_idx_match) where
         pub extended-followed : extended node n e seen x es ≡ followed x.link_idx_match node n e m x.est_idx_next es
         extended-followed =
-            go arrive (cleared e x) (sym q) refl (not-false (arrive || cleared e x) o)
+            go (is_arrive e.est_type) (cleared e x) refl refl (ap (λ (b : Bool). b || cleared e x) (sym q) ∙ not-false (arrive || cleared e x) o)
             ∙ ap (λ (k : ℕ). followed x.link_idx_match node n e k x.est_idx_next es) (sym f)
           where
             go : (b c : Bool) → is_arrive e.est_type ≡ b → cleared e x ≡ c → b || c ≡ true → extended node n e seen x es ≡ followed x.link_idx_match node n e (new_match b x.link_idx_match) x.est_idx_next es

@@ -20,10 +20,10 @@ returns-in_err-inserted-clause-outcome c =
     let i = c.insert_est_time in
     λ start joins leg net run v u. insert_refused v u _ _ _ _ i.result i.ensures.answer i.ensures.table _ c.in_err-inserted.was _ (handed_on _ _ c.from_residual.ensures.1)
 
-pub insert-requires-clause-link_idx_bound : goal.insert-requires-clause-link_idx_bound
-insert-requires-clause-link_idx_bound c =
+pub insert-requires-clause-last_placed : goal.insert-requires-clause-last_placed
+insert-requires-clause-last_placed c =
     let g = c.requires.growing.holds in
-    last_placed g.mapped _ c.requires.real.1 g.within (omega (arith, (fresh (goal.at.insert-requires-clause-link_idx_bound c).In-Added).below))
+    last_placed g.mapped _ c.requires.real.1 g.within (omega (arith, (fresh (goal.at.insert-requires-clause-last_placed c).In-Added).below))
 
 pub insert-requires-clause-i_lt_places : goal.insert-requires-clause-i_lt_places
 insert-requires-clause-i_lt_places c = (fresh (goal.at.insert-requires-clause-i_lt_places c).In-Added).below

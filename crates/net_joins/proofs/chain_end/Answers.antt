@@ -3,10 +3,10 @@ use Rattle.net_joins.proofs.Chains.{following_start, following_last, following_o
 use Rattle.net_joins.proofs.chain_end.Goals as goal
 
 pub loop-node-init : goal.loop-node-init
-loop-node-init c = following_start _ _ _ c.requires.start_lt_nodes
+loop-node-init c = following_start _ _ _ c.requires
 
 pub returns-then-node-eq0 : goal.returns-then-node-eq0
-returns-then-node-eq0 c = following_last c.requires.indexed c.loop-node.invariant _ c.load-node.ensures c.if-node-eq0.true
+returns-then-node-eq0 c = following_last c.args.nodes.now.indexed c.loop-node.invariant _ c.load-node.ensures c.if-node-eq0.true
 
 pub loop-node-preserved : goal.loop-node-preserved
-loop-node-preserved c = following_on c.requires.indexed c.loop-node.invariant _ c.load-node.ensures c.if-node-eq0.false
+loop-node-preserved c = following_on c.args.nodes.now.indexed c.loop-node.invariant _ c.load-node.ensures c.if-node-eq0.false

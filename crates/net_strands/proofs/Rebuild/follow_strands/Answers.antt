@@ -1,38 +1,37 @@
--- `net_strands::follow_strands` meets its contract: `Popping` is what the outer loop keeps, and `Standing` what the inner one does; beside them the entries that were pushed since each loop began, and what the cells say.
+-- `net_strands::Rebuild::follow_strands` meets its contract: `Popping` is what the outer loop keeps, and `Standing` what the inner one does; beside them the entries that were pushed since each loop began, and what the cells say.
 use mathlib.Core.Path.{◌≡◌, refl, sym, ap, ◌∙◌}
-use mathlib.Core.Bool.{Bool, not, ◌&&◌, ◌||◌}
+use mathlib.Core.Bool.{Bool, false}
 use mathlib.Core.Option.{some}
 use mathlib.Core.List.{List, [], ◌∷◌, ◌++◌}
 use Prim.{tt}
-use Prim.Native.Nat.{ℕ}
+use Prim.Native.Nat.{ℕ, ◌+◌, ◌≤◌}
 use native.Mathlib.Omega.{arith}
-use lib.Dec.{eqb}
 use lib.ListN.{length}
 use Rattle.std.specs.Prelude.{reverse}
-use Rattle.net_node.specs.Table.{node_at}
+use Rattle.net_node.specs.Held.{nodes_held}
 use Rattle.net_node.proofs.Events.{event_eq}
 use Rattle.arrayvec.specs.ArrayVec.{ArrayVec}
 use Rattle.net_join_paths.specs.declared.EstJoinPath.{EstJoinPath}
 use Rattle.net_join_paths.specs.Entries.{entry, pushed_if}
 use Rattle.net_join_paths.proofs.Spans.{Pushed, pushed_start, pushed_then}
 use Rattle.net_stack.specs.Stack.{alternative_stacked}
-use Rattle.net_stack.specs.Openings.{opening_of, opens, opened_if}
+use Rattle.net_stack.specs.Openings.{stack_length, opening_of, opens, opened_if}
 use Rattle.net_strands.specs.Given.{WalkGives}
 use Rattle.net_strands.proofs.Given.{given_kept, given_noted, extends_over}
 use Rattle.net_strands.proofs.Walking.{nothing_left, Closing, Turned, popping_start, popping_last, popping_on, popping_closes, closes_says, known_gives, standing_over, standing_full, known_short, known_over, known_pushed, standing-turned}
-use Rattle.net_strands.proofs.follow_strands.Goals as goal
-use Rattle.net_strands.proofs.follow_strands.Goals.{Then-top-ge65536, After-noted-nexts, At-loop-left, After-ends_strand, then-has_event+in_ok-push_entry, else-has_event}
+use Rattle.net_strands.proofs.Rebuild.follow_strands.Goals as goal
+use Rattle.net_strands.proofs.Rebuild.follow_strands.Goals.{Then-top-ge65536, After-noted-nexts, At-loop-left, After-ends_strand, then-may_meet+in_default-noted_span, else-may_meet, then-has_event+in_ok-push_entry, else-has_event}
 
 -- an opening was on top of the stack
-closing : (c : Then-top-ge65536) → Closing (node_at c.args.floats.now c.args.numbers.now) c.args.nodes c.args.event c.args.start c.args.list.now.items c.pop.new.self.items c.strands.list.items c.strands.left c.in-Some.top
-closing c = popping_closes _ _ _ _ _ c.strands.invariant.1 _ _ c.in-Some.ensures.items c.requires.walk_room.table.most c.if-top-ge65536.true
+closing : (c : Then-top-ge65536) → Closing (nodes_held c.args.self.now.nodes) c.args.self.now.nodes.count c.args.self.now.event c.args.start c.args.list.now.items c.pop.new.self.items c.strands.list.items c.strands.left c.in-Some.top
+closing c = popping_closes _ _ _ _ _ c.strands.invariant.1 _ _ c.in-Some.ensures.items c.args.self.now.nodes.room.most c.if-top-ge65536.true
 
 -- what was pushed since the walk began
 whole : (c : At-loop-left) → Pushed c.args.link_idx_match c.args.list.now.items c.loop-left.list.items
 whole c = pushed_then c.strands.invariant.2 c.loop-left.invariant.2
 
 -- what is noted of the node
-known : (c : After-noted-nexts) → WalkGives (node_at c.args.floats.now c.args.numbers.now) c.args.event c.loop-left.list.items c.loop-left.here c.in-Some-noted_span.span.begin c.in-Some-noted_span.span.end c.noted-nexts.result
+known : (c : After-noted-nexts) → WalkGives (nodes_held c.args.self.now.nodes) c.args.self.now.event c.loop-left.list.items c.loop-left.here c.in-Some-noted_span.span.begin c.in-Some-noted_span.span.end c.noted-nexts.result
 known c = known_gives _ _ _ (given_kept c.loop-left.invariant.2.same c.strands.invariant.3) c.loop-left.invariant.1.within _ c.in-Some-noted_span.ensures _ c.noted-nexts.ensures
 
 -- the next is put behind the list if it has the event
@@ -46,25 +45,55 @@ got c =
       | else-has_event w ↦ ap pushed w.if-has_event.false ∙ ap items (sym w.list-is)
     ]
 
+-- the node is opened, or it isn't
+record Put (c : After-ends_strand) : Type 0 where
+  opened : Bool
+  holds : reverse c.if-may_meet.stack.items
+      ≡ opened_if opened (opening_of (length c.loop-left.list.items) c.loop-left.left) c.loop-left.here
+      (reverse c.loop-left.stack.items)
+  room : length c.if-may_meet.stack.items + c.loop-left.left ≤ stack_length
+  top : length c.if-may_meet.stack.items ≤ length c.loop-left.stack.items + 2
+
+put : (c : After-ends_strand) → Put c
+put c =
+    let size = λ (s : ArrayVec ℕ). length s.items in
+    let items = λ (s : ArrayVec ℕ). reverse s.items in
+    let put_with = λ (n : ℕ). opened_if (opens c.loop-left.left (length c.loop-left.stack.items))
+    (opening_of n c.loop-left.left) c.loop-left.here (reverse c.loop-left.stack.items) in
+    elim c.if-may_meet.branch [
+      | then-may_meet+in_default-noted_span w ↦ record {
+        opened = opens c.loop-left.left (length c.loop-left.stack.items);
+        holds = ap items w.stack-is ∙ w.open_node.ensures.holds ∙ ap put_with w.len-then-may_meet.ensures.value;
+        room = omega (arith, ap size w.stack-is, w.open_node.ensures.room);
+        top = omega (arith, ap size w.stack-is, w.open_node.ensures.top);
+      }
+      | else-may_meet w ↦ record {
+        opened = false;
+        holds = ap items w.stack-is;
+        room = omega (arith, ap size w.stack-is, c.loop-left.invariant.1.room);
+        top = omega (arith, ap size w.stack-is);
+      }
+    ]
+
 -- the next was read
-turned : (c : After-ends_strand) → Turned (node_at c.args.floats.now c.args.numbers.now) c.args.nodes c.args.event c.args.start c.args.list.now.items c.args.link_idx_match c.loop-left.list.items c.loop-left.left c.load-node.result.idx_next c.stack_node.new.stack.items c.load-there.result c.eq-has_event.result c.if-has_event.list.items
+turned : (c : After-ends_strand) → Turned (nodes_held c.args.self.now.nodes) c.args.self.now.nodes.count c.args.self.now.event c.args.start c.args.list.now.items c.args.link_idx_match c.loop-left.list.items c.loop-left.left c.load-node.result.idx_next c.stack_alternative.new.stack.items c.load-there.result c.eq-has_event.result c.if-has_event.list.items
 turned c =
-    let s = c.stack_node.ensures in
-    let x = c.load-node.result in
-    let opened : Bool = opens (c.args.several && (not (eqb x.idx_prev_alt 0) || eqb c.loop-left.left 4096)) c.loop-left.left (length c.loop-left.stack.items) in
-    standing-turned _ _ _ _ _ c.loop-left.invariant.1 c.requires.walk_room.indexed _ c.load-node.ensures _ c.load-there.ensures c.loop-left-test.true opened _ (s.holds ∙ ap (λ (n : ℕ). alternative_stacked x.idx_next_alt (opened_if opened (opening_of n c.loop-left.left) c.loop-left.here (reverse c.loop-left.stack.items))) c.len-in-loop-left.ensures.value) s.room _ _ (sym (c.eq-has_event.ensures ∙ event_eq _ _)) _ (got c)
+    let s = c.stack_alternative.ensures in
+    let p = put c in
+    standing-turned _ _ _ _ _ c.loop-left.invariant.1 c.args.self.now.nodes.indexed _ c.load-node.ensures _ c.load-there.ensures c.loop-left-test.true p.opened _
+    (s.holds ∙ ap (alternative_stacked c.load-node.result.idx_next_alt) p.holds) (omega (arith, s.top, p.room)) _ _ (sym (c.eq-has_event.ensures ∙ event_eq _ _)) _ (got c)
 
 pub strands-init : goal.strands-init
-strands-init c = let r = c.requires in (refl, popping_start _ _ _ _ _ _ (c.push.ensures.items ∙ ap (λ (s : List ℕ). s ++ (c.args.start ∷ [])) c.clear.ensures) r.start_lt_nodes, pushed_start _ _, r.given, λ z t. t)
+strands-init c = let r = c.requires in (refl, popping_start _ _ _ _ _ _ (c.push.ensures.items ∙ ap (λ (s : List ℕ). s ++ (c.args.start ∷ [])) c.clear.ensures) r.start_lt_count, pushed_start _ _, r.given, λ z t. t)
 
 pub close_node-requires-clause-i_lt_places : goal.close_node-requires-clause-i_lt_places
-close_node-requires-clause-i_lt_places c = omega (arith, ((closing (goal.at.close_node-requires-clause-i_lt_places c).Then-top-ge65536).closes _ _ c.in-Some-pop.ensures.items).named, c.requires.walk_room.within)
+close_node-requires-clause-i_lt_places c = omega (arith, ((closing (goal.at.close_node-requires-clause-i_lt_places c).Then-top-ge65536).closes _ _ c.in-Some-pop.ensures.items).named, c.args.self.now.within)
 
-pub close_node-requires-clause-opening_bound : goal.close_node-requires-clause-opening_bound
-close_node-requires-clause-opening_bound c = omega (arith, ((closing (goal.at.close_node-requires-clause-opening_bound c).Then-top-ge65536).closes _ _ c.in-Some-pop.ensures.items).inside)
+pub close_node-requires-clause-inside : goal.close_node-requires-clause-inside
+close_node-requires-clause-inside c = omega (arith, ((closing (goal.at.close_node-requires-clause-inside c).Then-top-ge65536).closes _ _ c.in-Some-pop.ensures.items).inside)
 
-pub close_node-requires-clause-left_bound : goal.close_node-requires-clause-left_bound
-close_node-requires-clause-left_bound c = ((closing (goal.at.close_node-requires-clause-left_bound c).Then-top-ge65536).closes _ _ c.in-Some-pop.ensures.items).spent
+pub close_node-requires-clause-spent : goal.close_node-requires-clause-spent
+close_node-requires-clause-spent c = ((closing (goal.at.close_node-requires-clause-spent c).Then-top-ge65536).closes _ _ c.in-Some-pop.ensures.items).spent
 
 pub strands-preserved-in-Some-pop : goal.strands-preserved-in-Some-pop
 strands-preserved-in-Some-pop c =
@@ -84,7 +113,7 @@ strands-preserved-in_default-pop c = absurd ((closing (goal.at.strands-preserved
 
 pub loop-left-init : goal.loop-left-init
 loop-left-init c =
-    (omega arith, popping_on _ _ _ _ _ c.strands.invariant.1 _ _ c.in-Some.ensures.items c.requires.walk_room.table.most (omega (arith, c.if-top-ge65536.false)), pushed_start _ _)
+    (omega arith, popping_on _ _ _ _ _ c.strands.invariant.1 _ _ c.in-Some.ensures.items c.args.self.now.nodes.room.most (omega (arith, c.if-top-ge65536.false)), pushed_start _ _)
 
 pub returns-then-left-nexts : goal.returns-then-left-nexts
 returns-then-left-nexts c = record { answer = (known_short _ _ _ _ _ c.loop-left.invariant.1 (known (goal.at.returns-then-left-nexts c).After-noted-nexts) _ (whole (goal.at.returns-then-left-nexts c).At-loop-left) c.if-left-nexts.true, refl); given = tt; touched = c.strands.invariant.4 }
@@ -110,7 +139,7 @@ pub returns-in_err-push_entry : goal.returns-in_err-push_entry
 unfolding entry
 returns-in_err-push_entry c =
     let p = c.in_err-push_entry.ensures.list in
-    extends_over _ _ c.from_residual-in_err-push_entry.ensures (standing_full _ _ _ _ _ c.loop-left.invariant.1 c.requires.walk_room.indexed _ c.load-node.ensures _ c.load-there.ensures _ (whole (goal.at.returns-in_err-push_entry c).At-loop-left) (sym (event_eq _ _) ∙ sym c.eq-has_event.ensures ∙ c.if-has_event.true) p.0) p.1 c.strands.invariant.4
+    extends_over _ _ c.from_residual-in_err-push_entry.ensures (standing_full _ _ _ _ _ c.loop-left.invariant.1 c.args.self.now.nodes.indexed _ c.load-node.ensures _ c.load-there.ensures _ (whole (goal.at.returns-in_err-push_entry c).At-loop-left) (sym (event_eq _ _) ∙ sym c.eq-has_event.ensures ∙ c.if-has_event.true) p.0) p.1 c.strands.invariant.4
 
 pub strands-preserved : goal.strands-preserved
 strands-preserved c =
@@ -128,7 +157,7 @@ pub loop-left-preserved : goal.loop-left-preserved
 loop-left-preserved c =
     let i = c.loop-left.invariant in
     let t = turned (goal.at.loop-left-preserved c).After-ends_strand in (
-      omega (arith, c.loop-left-test.true, i.0, c.stack_node.ensures.top),
+      omega (arith, c.loop-left-test.true, i.0, c.stack_alternative.ensures.top, (put (goal.at.loop-left-preserved c).After-ends_strand).top),
       t.goes _ (sym c.ends_strand.ensures) c.if-has_event-ends_strand.false,
       pushed_then i.2 t.pushed,
     )

@@ -1,12 +1,12 @@
--- `net_strands::extend_all` meets its contract: `Building` is the loop's invariant.
+-- `net_strands::Rebuild::extend_all` meets its contract: `Building` is the loop's invariant.
 use mathlib.Core.Path.{refl, ◌∙◌}
 use native.Mathlib.Omega.{arith}
 use Rattle.net_join_paths.proofs.Entries.{over_as, valid_at}
 use Rattle.net_strands.proofs.Extending.{gathering_whole, gathering_over, gathering_on}
-use Rattle.net_strands.proofs.extend_all.Goals as goal
+use Rattle.net_strands.proofs.Rebuild.extend_all.Goals as goal
 
-pub extend-requires-clause-est_idx_next_bound : goal.extend-requires-clause-est_idx_next_bound
-extend-requires-clause-est_idx_next_bound c = valid_at _ _ _ c.requires.valid c.loop-x-test.true
+pub extend-requires-clause-names_node : goal.extend-requires-clause-names_node
+extend-requires-clause-names_node c = valid_at _ _ _ c.args.self.now.valid c.loop-x-test.true
 
 pub returns-in_err-extend-clause-list : goal.returns-in_err-extend-clause-list
 returns-in_err-extend-clause-list c =

@@ -1,10 +1,10 @@
--- `net_strands::extend` meets its contract: each way through it is one law of Extending.
+-- `net_strands::Rebuild::extend` meets its contract: each way through it is one law of Extending.
 use mathlib.Core.Bool.{not}
 use mathlib.Core.Path.{ap, ◌∙◌}
 use Rattle.net_stack.proofs.Arrives.{arrive_eq}
 use Rattle.net_strands.proofs.Extending.{extended_dropped, extended_copied, extended_unseen, extended-followed}
 use Rattle.net_strands.proofs.Given.{extends_none, extends_pushed, extends_followed}
-use Rattle.net_strands.proofs.extend.Goals as goal
+use Rattle.net_strands.proofs.Rebuild.extend.Goals as goal
 
 pub returns-then-node-eq0 : goal.returns-then-node-eq0
 returns-then-node-eq0 c = let r = c.requires in extends_none r.given _ (extended_dropped _ _ _ _ _ _ _ c.load-node.ensures c.if-node-eq0.true)
@@ -22,5 +22,5 @@ returns-then-not-seen c =
 pub returns : goal.returns
 returns c =
     extends_followed _ _
-    (extended-followed _ _ _ _ _ _ _ c.load-node.ensures c.if-node-eq0.false _ (c.eq-arrive.ensures ∙ arrive_eq _) (ap not c.if-not-arrive-cleared.false) (ap not c.if-not-seen.false) _ c.new_match-new.ensures)
+    (extended-followed _ _ _ _ _ _ _ c.load-node.ensures c.if-node-eq0.false _ (c.eq-arrive.ensures ∙ arrive_eq _) (ap not c.if-not-arrive-cleared.false) (ap not c.if-not-seen.false) _ c.new_match.ensures)
     c.follow.ensures
