@@ -15,6 +15,7 @@ ghost use Rattle.book_rows.specs.Elements.{link_number, origin_number, destinati
 
 use book_format::Book;
 use refusals::Refusal;
+use std::cmp;
 
 // ---- row 3
 
@@ -79,16 +80,10 @@ pub fn counts_refused(book: &Book, places: usize, bytes: usize) -> bool
 fn lower_of(a: Result<(), Refusal>, b: Result<(), Refusal>) -> Result<(), Refusal>
     ensures { number_of (told result) ≡ lower (number_of (told a)) (number_of (told b)) }
 {
-    let Err(second) = b else {
-        return a;
-    };
-    let Err(first) = a else {
-        return b;
-    };
-    if u32::from(first) < u32::from(second) {
-        a
-    } else {
-        b
+    match (a, b) {
+        (Err(first), Err(second)) => Err(cmp::min_by_key(first, second, |r| u32::from(*r))),
+        (Ok(()), _) => b,
+        (Err(_), Ok(())) => a,
     }
 }
 
