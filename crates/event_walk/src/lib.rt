@@ -8,8 +8,8 @@ ghost use Rattle.book_format.specs.Format.{sample_from, sample_width};
 ghost use Rattle.book_format.specs.Rows.{bad_sample_from};
 ghost use Rattle.event_walk.specs.Course.{course_of, Held, Rises, Walkable};
 ghost use Rattle.event_walk.specs.Search.{NoneBeyond, FirstReaching, unseen, point_with};
-ghost use Rattle.event_walk.specs.Walk.{first_beyond, start, reaches_last, points_passed, bad_point, Within, NextOf};
-ghost use Rattle.event_walk.specs.Walk.{offset_next, clears_next};
+ghost use Rattle.event_walk.specs.Walk.{first_beyond, start, reaches_last, points_passed, bad_point, Within, WithinHeld};
+ghost use Rattle.event_walk.specs.Walk.{NextOf, offset_next, clears_next};
 
 use book_format::Sample;
 use event_formula::{NextPoints, Passing};
@@ -72,7 +72,7 @@ impl PassedPoint {
 struct Position<'a> {
     course: Course<'a>,
     heads: Heads,
-    ghost within: { Within (course_of course.samples.now course.offsets.now course.movement) heads } by { Prim.hlevel props },
+    ghost within: { WithinHeld course.samples.now course.offsets.now course.movement heads } by { Prim.hlevel props },
 }
 
 // The points that a leg's samples have still to pass, in order: its events. A contract sees their list.

@@ -1,5 +1,5 @@
 -- `book_rows::lower_of` meets its contract: of two refusals the one with the lower number is told.
-use Rattle.std.proofs.Common.{◌≡◌, refl, sym, ap, ◌∙◌, Bool, true, false, cond, ℕ, ◌==◌, nat_lt, min, rules, arith}
+use Rattle.std.proofs.Common.{◌≡◌, refl, sym, ap, ◌∙◌, Bool, true, false, cond, ◌==◌, nat_lt, min, rules, arith}
 use Rattle.std.specs.Ordering.{ord_min, nat_cmp, on, is_lt}
 use Rattle.std.specs.declared.cmp.Ordering.TheVariants.{Less, Equal, Greater}
 use Rattle.std.proofs.lemmas.Bool.{ltb-true, ltb-false}

@@ -1,17 +1,7 @@
 -- `event_walk::Position::seen_event` meets its contract.
 use mathlib.Core.Path.{sym, ◌∙◌}
-use native.Mathlib.Omega.{arith}
-use Rattle.event_walk.specs.Course.{course_of}
 use Rattle.event_walk.proofs.Steps.{seen_later, next_cleared, next_arrived}
 use Rattle.event_walk.proofs.Position.seen_event.Goals as goal
-
-pub overflow_add-pt_idx_back : goal.overflow_add-pt_idx_back
-unfolding course_of
-overflow_add-pt_idx_back c = let w = c.args.self.within in omega (arith, w.order, w.inside, c.args.self.course.held.points)
-
-pub overflow_add-pt_idx_front : goal.overflow_add-pt_idx_front
-unfolding course_of
-overflow_add-pt_idx_front c = omega (arith, c.args.self.within.inside, c.args.self.course.held.points)
 
 pub returns-then-clears_next : goal.returns-then-clears_next
 returns-then-clears_next c =
