@@ -1,11 +1,9 @@
 -- `event_maker::make_events` meets its contract.
 use mathlib.Core.Path.{sym, ap, ◌∙◌}
-use native.Mathlib.Omega.{arith}
 use Rattle.space.specs.Space.{zeros, zero_floats}
-use Rattle.space.proofs.Zeros.{zeros_again}
 use Rattle.refusals.proofs.Answers.{handed_on}
 use Rattle.refusals.proofs.Numbers.{refusal_some}
-use Rattle.event_maker.proofs.Makes.{zero_again, rows_answer, lent_held, lent_walkable, made_answer, made-floats, made-numbers}
+use Rattle.event_maker.proofs.Makes.{rows_answer, lent_held, lent_walkable, made_answer, made-floats, made-numbers}
 use Rattle.event_maker.proofs.make_events.Goals as goal
 
 pub returns-in_err-first_refusal : goal.returns-in_err-first_refusal
@@ -26,13 +24,6 @@ invariant_of-course c =
       held = lent_held a.train_length a.samples.now a.offsets.now a.links.now _ c.min.ensures d;
       walkable = lent_walkable a.train_length a.samples.now a.offsets.now a.links.now _ c.min.ensures d c.type_inv.offsets c.well_formed.0.1;
     }
-
-pub list_events-requires : goal.list_events-requires
-list_events-requires c = record {
-  links_room = omega (arith, c.min.ensures);
-  floats_zero = zero_again c.args.floats.now _ c.clear.ensures c.clear.auto.s;
-  numbers_zero = zeros_again _ _ c.clear-2.ensures;
-}
 
 pub returns-in-Ok : goal.returns-in-Ok
 returns-in-Ok c =
