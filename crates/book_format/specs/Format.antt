@@ -101,6 +101,8 @@ sections_of b = record {
   end = end_of b;
 }
 
+-- Stands in contracts of the methods that read a row, as `i < links b` and the like: an index is the caller's own, and
+-- what an index of a slice asks too.
 -- ---- the fields of a row: links, origins, destinations and samples are counted from 0; a leg's number is one more
 -- than its row's
 
@@ -196,6 +198,10 @@ unfolding sample_from
 sample_at b k = sample_from b (samples_at_of b + k * sample_width)
 
 -- ---- patterns alone
+
+-- those of a sample whose first byte is at `at`
+unfoldable pub patterns_from : List ℕ → ℕ → SamplePatterns
+patterns_from b at = record { time = u64_at b at; offset = u64_at b (at + 8); speed = u64_at b (at + 16) }
 
 unfoldable pub sample_patterns : List ℕ → ℕ → SamplePatterns
 sample_patterns b k = record { time = sample_time b k; offset = sample_offset b k; speed = sample_speed b k }

@@ -10,6 +10,7 @@ use Rattle.floats.specs.Floats.{book_float}
 use Rattle.refusals.specs.declared.Refusal.TheVariants.{CutOff, LeftOver}
 use Rattle.refusals.specs.Refusals.{refusal_number}
 use Rattle.book_format.specs.declared.Sample.{Sample}
+use Rattle.book_format.specs.declared.SamplePatterns.{SamplePatterns}
 use Rattle.book_format.specs.Format.{links, origins, destinations, legs, samples, end_of}
 use Rattle.book_format.specs.Format.{join_bits, departure_bits, length_bits}
 use Rattle.book_format.specs.Format.{link_length, link_next, link_next_alt, link_prev, link_prev_alt}
@@ -71,6 +72,10 @@ bad_sample_from b at =
     not (book_float (u64_at b at))
     || not (book_float (u64_at b (at + 8)))
     || not (book_float (u64_at b (at + 16)))
+
+-- a sample's patterns, of which one is no book's float
+unfoldable pub bad_patterns : SamplePatterns → Bool
+bad_patterns p = not (book_float p.time) || not (book_float p.offset) || not (book_float p.speed)
 
 unfoldable pub bad_sample : List ℕ → ℕ → Bool
 unfolding bad_sample_from

@@ -8,9 +8,11 @@ ghost use Rattle.floats.specs.Floats.{book_float};
 ghost use Rattle.refusals.specs.Refusals.{told};
 ghost use Rattle.book_format.specs.Format.{links, origins, destinations, legs, samples, rows, samples_at_of, end_of};
 ghost use Rattle.book_format.specs.Format.{link_length, origin_offset, destination_link, link_at, origin_at, leg_at};
-ghost use Rattle.book_format.specs.Format.{sample_from, sample_at, sample_patterns, head_patterns, float_of};
+ghost use Rattle.book_format.specs.Format.{sample_from, sample_at, patterns_from, sample_patterns};
+ghost use Rattle.book_format.specs.Format.{head_patterns, float_of};
 ghost use Rattle.book_format.specs.Rows.{row4, row5, some_bad_leg};
-ghost use Rattle.book_format.specs.Rows.{measured_of, outside_limits, bad_sample_from, bad_sample, sample_falls};
+ghost use Rattle.book_format.specs.Rows.{measured_of, outside_limits, bad_sample_from, bad_sample, bad_patterns};
+ghost use Rattle.book_format.specs.Rows.{sample_falls};
 ghost use Rattle.book_format.specs.Chains.{Counted, Valid, Readable};
 
 use refusals::Refusal;
@@ -119,6 +121,18 @@ pub struct SamplePatterns {
     pub time: u64,
     pub offset: u64,
     pub speed: u64,
+}
+
+impl SamplePatterns {
+    // Row 4: whether one of the three is none that a book may hold.
+    #[tactic(auto, unfolding(crate::specs::Rows::bad_patterns))]
+    pub fn is_bad(self) -> bool
+        ensures { result ≡ bad_patterns self }
+    {
+        !floats::is_book_float(self.time)
+            | !floats::is_book_float(self.offset)
+            | !floats::is_book_float(self.speed)
+    }
 }
 
 // The patterns of the three floats at the head: the speed gap J of a join, the departure and the train's length.
@@ -287,7 +301,7 @@ impl<'a> Book<'a> {
         self.sections.samples_at
     }
 
-    // The pattern of a link's length.
+    // The pattern of a link's length: a field that is read, and no conversion.
     #[tactic(auto, unfolding(crate::specs::Format::link_length))]
     pub fn link_length(&self, i: usize) -> u64
         requires i_lt_links { i < links self.now }
@@ -302,7 +316,7 @@ impl<'a> Book<'a> {
     #[tactic(auto, unfolding(crate::specs::Format::link_length, crate::specs::Format::link_at, crate::specs::Format::link_next, crate::specs::Format::link_next_alt, crate::specs::Format::link_prev, crate::specs::Format::link_prev_alt,),)]
     pub fn link_at(&self, i: usize) -> Link
         requires i_lt_links { i < links self.now }
-        requires i_value { book_float (link_length self.now i) ≡ true }
+        requires length_passed { book_float (link_length self.now i) ≡ true }
         ensures { result ≡ link_at self.now i }
     {
         let bytes = self.bytes;
@@ -336,7 +350,7 @@ impl<'a> Book<'a> {
     #[tactic(auto, using(crate::proofs::Places::sized_origins_at), unfolding(crate::specs::Format::origin_at, crate::specs::Format::origin_link, crate::specs::Format::origin_offset, crate::specs::Format::origin_front,),)]
     pub fn origin_at(&self, i: usize) -> Origin
         requires i_lt_origins { i < origins self.now }
-        requires i_value { book_float (origin_offset self.now i) ≡ true }
+        requires offset_passed { book_float (origin_offset self.now i) ≡ true }
         ensures { result ≡ origin_at self.now i }
     {
         let bytes = self.bytes;
@@ -381,28 +395,21 @@ impl<'a> Book<'a> {
     }
 
     // The patterns of a sample.
-    #[tactic(auto, using(crate::proofs::Places::sized_samples_at), unfolding(crate::specs::Format::sample_patterns, crate::specs::Format::sample_time, crate::specs::Format::sample_offset, crate::specs::Format::sample_speed,),)]
+    #[tactic(auto, using(crate::proofs::Places::sized_samples_at), unfolding(crate::specs::Format::patterns_from, crate::specs::Format::sample_patterns, crate::specs::Format::sample_time, crate::specs::Format::sample_offset, crate::specs::Format::sample_speed,),)]
     pub fn sample_patterns(&self, i: usize) -> SamplePatterns
         requires i_lt_samples { i < samples self.now }
         ensures { result ≡ sample_patterns self.now i }
     {
         let bytes = self.bytes;
         let at = row_place(bytes, self.sections.samples_at, SAMPLE_WIDTH, i);
-        let time = fields::u64_at(bytes, at);
-        let offset = fields::u64_at(bytes, at + 8);
-        let speed = fields::u64_at(bytes, at + 16);
-        SamplePatterns {
-            time,
-            offset,
-            speed,
-        }
+        patterns_from(bytes, at)
     }
 
     // A sample of a book whose three floats are a book's.
     #[tactic(auto, using(crate::proofs::Places::sized_samples_at), unfolding(crate::specs::Format::sample_at, crate::specs::Rows::bad_sample),)]
     pub fn sample_at(&self, i: usize) -> Sample
         requires i_lt_samples { i < samples self.now }
-        requires i_value { bad_sample self.now i ≡ false }
+        requires floats_passed { bad_sample self.now i ≡ false }
         ensures { result ≡ sample_at self.now i }
     {
         let bytes = self.bytes;
@@ -501,20 +508,34 @@ impl<'a> ReadableBook<'a> {
     }
 }
 
-// The sample whose first byte is at `at`, if its three floats are a book's.
-#[tactic(auto, using(crate::proofs::Floats::sample_floats), unfolding(crate::specs::Format::sample_from))]
-pub fn sample_from(bytes: &[u8], at: usize) -> Sample
-    requires at_in_bounds { at + 24 ≤ length bytes.now }
-    requires at_value { bad_sample_from bytes.now at ≡ false }
-    ensures { result ≡ sample_from bytes.now at }
+// The patterns of the sample whose first byte is at `at`.
+#[tactic(auto, unfolding(crate::specs::Format::patterns_from))]
+pub fn patterns_from(bytes: &[u8], at: usize) -> SamplePatterns
+    requires row_inside { at + 24 ≤ length bytes.now }
+    ensures { result ≡ patterns_from bytes.now at }
 {
-    let time = float_of(fields::u64_at(bytes, at));
-    let offset = float_of(fields::u64_at(bytes, at + 8));
-    let speed = float_of(fields::u64_at(bytes, at + 16));
-    Sample {
+    let time = fields::u64_at(bytes, at);
+    let offset = fields::u64_at(bytes, at + 8);
+    let speed = fields::u64_at(bytes, at + 16);
+    SamplePatterns {
         time,
         offset,
         speed,
+    }
+}
+
+// The sample whose first byte is at `at`, if its three floats are a book's.
+#[tactic(auto, using(crate::proofs::Floats::sample_floats), unfolding(crate::specs::Format::patterns_from, crate::specs::Format::sample_from),)]
+pub fn sample_from(bytes: &[u8], at: usize) -> Sample
+    requires row_inside { at + 24 ≤ length bytes.now }
+    requires floats_passed { bad_sample_from bytes.now at ≡ false }
+    ensures { result ≡ sample_from bytes.now at }
+{
+    let p = patterns_from(bytes, at);
+    Sample {
+        time: float_of(p.time),
+        offset: float_of(p.offset),
+        speed: float_of(p.speed),
     }
 }
 

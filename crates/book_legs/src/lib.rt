@@ -5,7 +5,7 @@
 ghost use Rattle.std.specs.Prelude.{◌≡◌, false, not, ◌||◌, List, ℕ, ◌+◌, ◌*◌, ◌-◌, ◌≤◌, ◌<◌, length};
 ghost use Rattle.space.specs.Space.{zeros};
 ghost use Rattle.book_format.specs.Format.{links, legs, samples, leg_parent, first_sample};
-ghost use Rattle.book_format.specs.Rows.{same_sample, leg_falls, leg_begins};
+ghost use Rattle.book_format.specs.Rows.{leg_falls, leg_begins};
 ghost use Rattle.book_format.specs.Chains.{Chained, with_leg, all_linked};
 ghost use Rattle.book_legs.specs.Legs.{leg_search, taken_leg, Started, samples_fail, begins_at, falls_from};
 ghost use Rattle.book_legs.specs.Legs.{named_start, Named, SameButStarts, leg_in, InCells, TakenFrom};
@@ -24,7 +24,7 @@ pub struct TakenLeg {
 
 // Whether some sample of a leg is no later than the one before it, or further back.
 fn leg_falls(book: &ReadableBook, first: usize, count: usize) -> bool
-    requires count_bound { first + count ≤ samples book.now }
+    requires samples_inside { first + count ≤ samples book.now }
     ensures { result ≡ falls_from book.now first count }
 {
     let rows = book.valid();
@@ -38,26 +38,17 @@ fn leg_falls(book: &ReadableBook, first: usize, count: usize) -> bool
     false
 }
 
-// Whether two samples are alike, bit for bit.
-fn same_sample(book: &Book, j: usize, k: usize) -> bool
-    requires j_bound { j < samples book.now }
-    requires k_bound { k < samples book.now }
-    ensures { result ≡ same_sample book.now j k }
-{
-    book.sample_patterns(j) == book.sample_patterns(k)
-}
-
-// Whether a leg's first sample is its parent's last, or a starting leg's first time the departure.
+// Whether a leg's first sample is its parent's last, bit for bit, or a starting leg's first time the departure.
 fn leg_begins(book: &Book, parent: usize, end: usize, first: usize) -> bool
-    requires end_bound { end - 1 < samples book.now }
-    requires first_bound { first < samples book.now }
+    requires last_inside { end - 1 < samples book.now }
+    requires first_inside { first < samples book.now }
     requires end_nonzero { 0 < parent → 0 < end }
     ensures { result ≡ begins_at book.now parent end first }
 {
     if parent == 0 {
         return book.sample_patterns(first).time == book.head_patterns().departure;
     }
-    same_sample(book, end - 1, first)
+    book.sample_patterns(end - 1) == book.sample_patterns(first)
 }
 
 // Puts leg number j in front of its parent's children, and notes where its samples end.
@@ -76,9 +67,9 @@ fn link_leg(cells: &mut [u32], j: usize, parent: usize, end: usize)
 
 // Row 7 for the samples of the leg in row i: whether they fall, or don't begin where they must.
 fn leg_fails(book: &ReadableBook, i: usize, end: usize, first: usize) -> bool
-    requires i_bound { i < legs book.now }
-    requires end_value { end ≡ first_sample book.now (leg_parent book.now i) }
-    requires first_value { first ≡ first_sample book.now i }
+    requires i_lt_legs { i < legs book.now }
+    requires end_is { end ≡ first_sample book.now (leg_parent book.now i) }
+    requires first_is { first ≡ first_sample book.now i }
     ensures { result ≡ (leg_falls book.now i || not (leg_begins book.now i)) }
 {
     let rows = book.book();
@@ -93,8 +84,8 @@ fn leg_fails(book: &ReadableBook, i: usize, end: usize, first: usize) -> bool
 // Links each leg to its parent in the cells, and tells whether some leg's samples fall or don't begin where they must
 // (row 7).
 pub fn link_legs(book: &ReadableBook, cells: &mut [u32]) -> bool
-    requires book_in_bounds { (legs book.now + 1) * 8 ≤ length cells.old }
-    requires cells_value { cells.old ≡ zeros (length cells.old) }
+    requires cells_room { (legs book.now + 1) * 8 ≤ length cells.old }
+    requires cells_zero { cells.old ≡ zeros (length cells.old) }
     ensures answer { result ≡ samples_fail book.now }
     ensures chains { result ≡ false → cells.new ≡ all_linked book.now cells.old }
 {
@@ -178,8 +169,8 @@ fn name_start(starts: &mut [u32], leg: Leg, number: u32)
 
 // Names each starting leg at its link, in a slice that is zero.
 fn name_starts(book: &ReadableBook, starts: &mut [u32])
-    requires book_in_bounds { links book.now ≤ length starts.old }
-    requires starts_value { starts.old ≡ zeros (length starts.old) }
+    requires starts_room { links book.now ≤ length starts.old }
+    requires starts_zero { starts.old ≡ zeros (length starts.old) }
     ensures { Named book.now (legs book.now) starts.new }
 {
     let rows = book.book();
@@ -191,7 +182,7 @@ fn name_starts(book: &ReadableBook, starts: &mut [u32])
 // Names each starting leg at its link, in the marks behind the links' own: so the leg of an origin is found without
 // a walk.
 pub fn mark_starts(book: &ReadableBook, marks: &mut [u32])
-    requires book_in_bounds { 2 * links book.now ≤ length marks.old }
+    requires marks_room { 2 * links book.now ≤ length marks.old }
     ensures starts { Started book.now marks.new }
     ensures others { SameButStarts book.now marks.old marks.new }
 {

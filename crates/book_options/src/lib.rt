@@ -23,7 +23,7 @@ struct Walk {
 // Puts the destinations on the stack, unless one is link 0.
 fn push_destinations(book: &Book, marks: &mut [u32]) -> Result<(), Refusal>
     requires room { links book.now + destinations book.now ≤ length marks.old }
-    requires marks_value { marks.old ≡ zeros (length marks.old) }
+    requires marks_zero { marks.old ≡ zeros (length marks.old) }
     ensures answer { result ≡ cond (destination_zero book.now) (Err NoPath) (Ok tt) }
     ensures pushed { OnOk result (AllStacked book.now marks.new) }
 {
@@ -107,7 +107,7 @@ pub fn get_link_idx_options(book: &ValidBook, marks: &mut [u32]) -> Result<usize
     requires counts_passed { bad_count book.now ≡ false }
     requires row6_passed { row6 book.now ≡ false }
     requires marks_len { length marks.old ≡ search_room book.now }
-    requires marks_value { marks.old ≡ zeros (length marks.old) }
+    requires marks_zero { marks.old ≡ zeros (length marks.old) }
     ensures answer { result ≡ link_options book.now }
     ensures marked { row8 book.now ≡ false → OptionsIn book.now marks.new }
 {

@@ -28,7 +28,7 @@ use Rattle.refusals.specs.declared.Refusal.TheVariants.{BadLinks, NotTimed, AllZ
 use Rattle.refusals.specs.Refusals.{refusal_number}
 use Rattle.book_options.specs.Options.{row8, kept_origins, link_options, OptionsIn}
 use Rattle.book_reader.specs.Reader.{rows_from4, rows_from6, rows_from7, read_number, Ready}
-use Rattle.book_reader.specs.Stages.{RowsPassed, ChainedOnly, LeftToRead, RepeatsPassed}
+use Rattle.book_reader.specs.Stages.{RowsPassed, ChainedOnly, legs_answer, LeftToRead, RepeatsPassed}
 use Rattle.book_reader.proofs.Rooms.{counted_of}
 
 -- ---- rows 1 to 3
@@ -105,6 +105,24 @@ four_early false false true d x rows n s = refl
 four_early false false false true x rows n s = absurd (s refl)
 four_early false false false false x rows n s = absurd (n refl)
 
+-- a single leg's refusal, by whether one is bad
+abbrev told_by : Bool → Result (Unit {0}) Refusal
+told_by t = cond t (Err BadLeg) (Ok tt)
+
+pub legs_refused : (b : List ℕ) (r : Result (Unit {0}) Refusal) (e : Refusal) → r ≡ legs_answer b → r ≡ Err e → (some_bad_leg b ≡ true) × (e ≡ BadLeg)
+legs_refused b r e d was = go (some_bad_leg b) (sym was ∙ d)
+  where
+    go : (t : Bool) → ◌≡◌ {A = Result (Unit {0}) Refusal} (Err e) (told_by t) → (t ≡ true) × (e ≡ BadLeg)
+    go true h = (refl, cc)
+    go false h = (cc, cc)
+
+pub legs_passed : (b : List ℕ) (r : Result (Unit {0}) Refusal) (u : Unit {0}) → r ≡ legs_answer b → r ≡ Ok u → some_bad_leg b ≡ false
+legs_passed b r u d was = go (some_bad_leg b) (sym was ∙ d)
+  where
+    go : (t : Bool) → ◌≡◌ {A = Result (Unit {0}) Refusal} (Ok u) (told_by t) → t ≡ false
+    go true h = cc
+    go false h = refl
+
 module _ (b : List ℕ) (p y n : ℕ) (f₁ : row1 b ≡ false) (f₂ : row2 b ≡ false) (e : row3 b p y ≡ false) (d : n ≡ single_number b) where
   pub number_early : (n ≡ 0 → ⊥) → (n ≡ 7 → ⊥) → n ≡ read_number b p y
   unfolding single_number row6 rows_from4
@@ -113,17 +131,17 @@ module _ (b : List ℕ) (p y n : ℕ) (f₁ : row1 b ≡ false) (f₂ : row2 b �
       ∙ four_early (row4 b) (row5 b) (some_bad_place b) (some_bad_leg b) (some_origin_repeats b) (rows_from7 b) (λ k. none (d ∙ k)) (λ k. seven (d ∙ k))
       ∙ sym (from_4 b p y f₁ f₂ e)
 
-  pub left_early : n ≡ 0 → LeftToRead b p y false
+  pub left_early : n ≡ 0 → LeftToRead b p y (Ok tt)
   unfolding single_number
   left_early k =
       let f = four_none (row4 b) (row5 b) (some_bad_place b) (some_bad_leg b) (sym d ∙ k) in
-      record { passed = record { row1 = f₁; row2 = f₂; counted = counted_of b p y e; row4 = f.0; row5 = f.1; places = f.2 }; row3 = e; single = sym f.3 }
+      record { passed = record { row1 = f₁; row2 = f₂; counted = counted_of b p y e; row4 = f.0; row5 = f.1; places = f.2 }; row3 = e; single = sym (ap told_by f.3) }
 
-  pub left_late : n ≡ 7 → LeftToRead b p y true
+  pub left_late : n ≡ 7 → LeftToRead b p y (Err BadLeg)
   unfolding single_number
   left_late k =
       let f = four_last (row4 b) (row5 b) (some_bad_place b) (some_bad_leg b) (sym d ∙ k) in
-      record { passed = record { row1 = f₁; row2 = f₂; counted = counted_of b p y e; row4 = f.0; row5 = f.1; places = f.2 }; row3 = e; single = sym f.3 }
+      record { passed = record { row1 = f₁; row2 = f₂; counted = counted_of b p y e; row4 = f.0; row5 = f.1; places = f.2 }; row3 = e; single = sym (ap told_by f.3) }
 
 pub readable_of : {b : List ℕ} → RowsPassed b → some_bad_leg b ≡ false → Readable b
 readable_of p e = record { counted = p.counted; floats = p.row4; indices = p.row5; single = e }

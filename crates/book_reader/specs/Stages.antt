@@ -1,9 +1,10 @@
 -- What the stages of the reader ask for and leave. Only the contracts of private functions use these words.
-use Rattle.std.specs.Prelude.{◌≡◌, Bool, false, List, ℕ, ◌+◌, ◌*◌, ◌≤◌, length, get_or, Result, Ok, Err}
+use Rattle.std.specs.Prelude.{◌≡◌, false, cond, List, ℕ, ◌+◌, ◌*◌, ◌≤◌, length, get_or, Result, Ok, Err}
 use Rattle.laws.specs.Answer.{number_of}
 use Rattle.laws.specs.Refusals.{first_of}
 use Rattle.space.specs.Space.{zeros}
 use Rattle.refusals.specs.declared.Refusal.{Refusal}
+use Rattle.refusals.specs.declared.Refusal.TheVariants.{BadLeg}
 use Rattle.refusals.specs.Refusals.{refusal_number, told}
 use Rattle.book_format.specs.Format.{legs}
 use Rattle.book_format.specs.Rows.{row1, row2, row3, row4, row5, row6, row7, some_bad_place, some_bad_leg}
@@ -37,16 +38,20 @@ pub record ChainedOnly (b cells : List ℕ) : Type 0 where
 
 -- ---- the stages
 
--- rows 1 to 5, and row 6 of a single origin, are passed; `late` says whether a single leg gives row 7
-pub record LeftToRead (b : List ℕ) (places bytes : ℕ) (late : Bool) : Type 0 where
+-- what a single leg is refused for: row 7, as far as it looks at no other
+abbrev pub legs_answer : List ℕ → Result (Unit {0}) Refusal
+legs_answer b = cond (some_bad_leg b) (Err BadLeg) (Ok tt)
+
+-- rows 1 to 5, and row 6 of a single origin, are passed; `legs` says what a single leg is refused for
+pub record LeftToRead (b : List ℕ) (places bytes : ℕ) (legs : Result (Unit {0}) Refusal) : Type 0 where
   pub passed : RowsPassed b
   pub row3 : row3 b places bytes ≡ false
-  pub single : late ≡ some_bad_leg b
+  pub single : legs ≡ legs_answer b
 
 -- the first stage: a refusal, or what is left to read of the book
 abbrev pub TestedAs : List ℕ → ℕ → ℕ → Result Tested Refusal → Type 0
 TestedAs b places bytes (Err r) = refusal_number r ≡ read_number b places bytes
-TestedAs b places bytes (Ok t) = (t.book ≡ b) × LeftToRead b places bytes t.late
+TestedAs b places bytes (Ok t) = (t.book ≡ b) × LeftToRead b places bytes t.legs
 
 -- rows 6 and 7 are passed, the legs chained, and the marks zero again
 pub record RepeatsPassed (b cells marks : List ℕ) : Type 0 where

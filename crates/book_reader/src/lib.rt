@@ -5,10 +5,10 @@ ghost use Rattle.std.specs.Prelude.{◌≡◌, false, ◌*◌, min, length};
 ghost use Rattle.space.specs.Space.{bytes_of, zeros};
 ghost use Rattle.space.specs.Lent.{work_at_entry, work_at_exit};
 ghost use Rattle.book_format.specs.Format.{links};
-ghost use Rattle.book_format.specs.Rows.{row1, row2, some_bad_leg};
+ghost use Rattle.book_format.specs.Rows.{row1, row2};
 ghost use Rattle.book_reader.specs.Reader.{BookRead, Checked};
 ghost use Rattle.book_options.specs.Options.{search_room};
-ghost use Rattle.book_reader.specs.Stages.{RowsPassed, Blank};
+ghost use Rattle.book_reader.specs.Stages.{RowsPassed, Blank, legs_answer};
 ghost use Rattle.book_reader.specs.Stages.{TestedAs, RepeatsTested, RestRead};
 
 use book_format::{Book, ReadableBook, ValidBook};
@@ -22,11 +22,11 @@ pub struct Accepted<'a> {
     pub kept: usize,
 }
 
-// A book that the first stage let through, and whether a single leg gives row 7.
+// A book that the first stage let through, and what its single legs are refused for: row 7, which is told after row 6.
 #[derive(Drop)]
 struct Tested<'a> {
     book: ValidBook<'a>,
-    late: bool,
+    legs: Result<(), Refusal>,
 }
 
 // Rows 3 to 5, and 6 and 7 as far as single rows of a section tell.
@@ -38,15 +38,15 @@ fn test_whole<'a>(book: Book<'a>, places: usize, bytes: usize) -> Result<Tested<
     if book_rows::counts_refused(&book, places, bytes) {
         return Err(Refusal::OutOfBounds);
     }
-    let late = match book_rows::lowest_row(&book) {
-        Ok(()) => false,
+    let legs = match book_rows::lowest_row(&book) {
+        Ok(()) => Ok(()),
         Err(refusal) => match refusal {
-            Refusal::BadLeg => true,
+            Refusal::BadLeg => Err(refusal),
             _ => return Err(refusal),
         },
     };
     let book = ValidBook::new(book);
-    Ok(Tested { book, late })
+    Ok(Tested { book, legs })
 }
 
 // Rows 1 and 2, then those.
@@ -58,23 +58,20 @@ fn test_rows<'a>(book: &'a [u8], places: usize, bytes: usize) -> Result<Tested<'
 
 // Rows 6 and 7 whole. The legs are chained where neither holds.
 fn test_repeats<'a>(
-    book: ValidBook<'a>,
-    late: bool,
+    tested: Tested<'a>,
     cells: &mut [u32],
     marks: &mut [u32],
 ) -> Result<ReadableBook<'a>, Refusal>
-    requires rows_passed { RowsPassed book }
-    requires late_value { late ≡ some_bad_leg book }
-    requires blank { Blank book cells.old marks.old (links book) }
-    ensures { RepeatsTested book.entry cells.new marks.new result }
+    requires rows_passed { RowsPassed tested.book }
+    requires legs_told { tested.legs ≡ legs_answer tested.book }
+    requires blank { Blank tested.book cells.old marks.old (links tested.book) }
+    ensures { RepeatsTested tested.entry.book cells.new marks.new result }
 {
-    if book_repeats::origins_repeat(&book, marks) {
+    if book_repeats::origins_repeat(&tested.book, marks) {
         return Err(Refusal::BadOrigin);
     }
-    if late {
-        return Err(Refusal::BadLeg);
-    }
-    let book = ReadableBook::new(book);
+    tested.legs?;
+    let book = ReadableBook::new(tested.book);
     Zero::clear(marks);
     if book_legs::link_legs(&book, cells) {
         return Err(Refusal::BadLeg);
@@ -89,19 +86,18 @@ fn test_repeats<'a>(
 // Rows 6 to 8, in as many marks as the options search asks for. The repeats are marked in the links' own marks; the
 // starting legs are named behind them, where the options' stack has been.
 fn read_rest<'a>(
-    book: ValidBook<'a>,
-    late: bool,
+    tested: Tested<'a>,
     cells: &mut [u32],
     marks: &mut [u32],
 ) -> Result<Accepted<'a>, Refusal>
-    requires rows_passed { RowsPassed book }
-    requires late_value { late ≡ some_bad_leg book }
-    requires blank { Blank book cells.old marks.old (search_room book) }
-    ensures { RestRead book.entry cells.new marks.new result }
+    requires rows_passed { RowsPassed tested.book }
+    requires legs_told { tested.legs ≡ legs_answer tested.book }
+    requires blank { Blank tested.book cells.old marks.old (search_room tested.book) }
+    ensures { RestRead tested.entry.book cells.new marks.new result }
 {
-    let links = book.book().links();
+    let links = tested.book.book().links();
     let own = &mut marks[..links];
-    let book = test_repeats(book, late, cells, own)?;
+    let book = test_repeats(tested, cells, own)?;
     let kept = book_options::get_link_idx_options(book.valid(), marks)?;
     book_legs::mark_starts(&book, marks);
     Ok(Accepted { book, kept })
@@ -127,8 +123,8 @@ pub fn read_book<'a>(
     cells: &mut [u32],
     marks: &mut [u32],
 ) -> Result<Accepted<'a>, Refusal>
-    requires cells_value { cells.old ≡ zeros (length cells.old) }
-    requires marks_value { marks.old ≡ zeros (length marks.old) }
+    requires cells_zero { cells.old ≡ zeros (length cells.old) }
+    requires marks_zero { marks.old ≡ zeros (length marks.old) }
     ensures { BookRead book.now places
         (bytes_of reals (length cells.old) (length marks.old))
         cells.new marks.old marks.new result }
@@ -137,7 +133,7 @@ pub fn read_book<'a>(
     let tested = test_rows(book, places, bytes)?;
     let room = book_options::search_room(tested.book.book());
     let part = &mut marks[..room];
-    read_rest(tested.book, tested.late, cells, part)
+    read_rest(tested, cells, part)
 }
 
 // The refusal that a book gets by rows 1 to 8, for a table of so many places and this work space, if one of them holds.

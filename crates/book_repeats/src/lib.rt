@@ -14,8 +14,8 @@ use book_format::{ReadableBook, ValidBook};
 
 // Row 6: whether two origins have one link.
 pub fn origins_repeat(book: &ValidBook, marks: &mut [u32]) -> bool
-    requires book_in_bounds { links book.now ≤ length marks.old }
-    requires marks_value { marks.old ≡ zeros (length marks.old) }
+    requires marks_room { links book.now ≤ length marks.old }
+    requires marks_zero { marks.old ≡ zeros (length marks.old) }
     ensures { result ≡ some_origin_repeats book.now }
 {
     let rows = book.book();
@@ -33,8 +33,8 @@ pub fn origins_repeat(book: &ValidBook, marks: &mut [u32]) -> bool
 // and each marks its link with p + 1.
 fn children_repeat(book: &ReadableBook, cells: &[u32], marks: &mut [u32], p: usize) -> bool
     requires chained { Chained book.now cells.now }
-    requires book_in_bounds { links book.now ≤ length marks.old }
-    requires p_bound { p < legs book.now }
+    requires marks_room { links book.now ≤ length marks.old }
+    requires p_lt_legs { p < legs book.now }
     requires under { Under marks.old p }
     ensures value { result ≡ some_below (legs book.now) (child_repeats book.now p) }
     ensures stamped { Under marks.new (p + 1) }
@@ -57,8 +57,8 @@ fn children_repeat(book: &ReadableBook, cells: &[u32], marks: &mut [u32], p: usi
 // legs.
 pub fn legs_repeat(book: &ReadableBook, cells: &[u32], marks: &mut [u32]) -> bool
     requires chained { Chained book.now cells.now }
-    requires book_in_bounds { links book.now ≤ length marks.old }
-    requires marks_value { marks.old ≡ zeros (length marks.old) }
+    requires marks_room { links book.now ≤ length marks.old }
+    requires marks_zero { marks.old ≡ zeros (length marks.old) }
     ensures { result ≡ some_leg_repeats book.now }
 {
     let rows = book.book();

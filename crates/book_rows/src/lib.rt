@@ -15,6 +15,7 @@ ghost use Rattle.book_rows.specs.Elements.{link_number, origin_number, destinati
 
 use book_format::Book;
 use refusals::Refusal;
+use std::cmp;
 
 // ---- row 3
 
@@ -79,16 +80,10 @@ pub fn counts_refused(book: &Book, places: usize, bytes: usize) -> bool
 fn lower_of(a: Result<(), Refusal>, b: Result<(), Refusal>) -> Result<(), Refusal>
     ensures { number_of (told result) ≡ lower (number_of (told a)) (number_of (told b)) }
 {
-    let Err(second) = b else {
-        return a;
-    };
-    let Err(first) = a else {
-        return b;
-    };
-    if u32::from(first) < u32::from(second) {
-        a
-    } else {
-        b
+    match (a, b) {
+        (Err(first), Err(second)) => Err(cmp::min_by_key(first, second, |r| u32::from(*r))),
+        (Ok(()), _) => b,
+        (Err(_), Ok(())) => a,
     }
 }
 
@@ -103,7 +98,7 @@ fn no_link(book: &Book, idx: u32) -> bool
 #[tactic(auto, unfolding(book_format::specs::Rows::bad_link, book_format::specs::Format::link_at))]
 fn bad_link(book: &Book, i: usize, length: u64) -> bool
     requires i_lt_links { i < links book.now }
-    requires i_value { book_float (link_length book.now i) ≡ true }
+    requires length_passed { book_float (link_length book.now i) ≡ true }
     requires length_is { length ≡ link_length book.now i }
     ensures { result ≡ bad_link book.now i }
 {
@@ -187,16 +182,12 @@ fn leg_row(book: &Book, i: usize) -> Result<(), Refusal>
 }
 
 // What a sample is refused for.
-#[tactic(auto, unfolding(crate::specs::Elements::sample_number, laws::specs::Refusals::first_of, book_format::specs::Rows::bad_sample, book_format::specs::Format::sample_patterns, book_format::specs::Format::sample_time, book_format::specs::Format::sample_offset, book_format::specs::Format::sample_speed,),)]
+#[tactic(auto, unfolding(crate::specs::Elements::sample_number, laws::specs::Refusals::first_of, book_format::specs::Rows::bad_sample, book_format::specs::Rows::bad_patterns, book_format::specs::Format::sample_patterns, book_format::specs::Format::sample_time, book_format::specs::Format::sample_offset, book_format::specs::Format::sample_speed,),)]
 fn sample_row(book: &Book, i: usize) -> Result<(), Refusal>
     requires i_lt_samples { i < samples book.now }
     ensures { number_of (told result) ≡ sample_number book.now i }
 {
-    let p = book.sample_patterns(i);
-    let bad = !floats::is_book_float(p.time)
-        | !floats::is_book_float(p.offset)
-        | !floats::is_book_float(p.speed);
-    if bad {
+    if book.sample_patterns(i).is_bad() {
         return Err(Refusal::BadValue);
     }
     Ok(())

@@ -25,7 +25,7 @@ use Rattle.report.specs.declared.Report.{Report}
 use Rattle.std.specs.Prelude.{Result, Ok, Err}
 use Rattle.refusals.specs.declared.Refusal.{Refusal}
 use Rattle.refusals.specs.Refusals.{refusal_number, told}
-use Rattle.refusals.proofs.Answers.{refusal_some}
+use Rattle.refusals.proofs.Numbers.{refusal_some}
 use Rattle.grow_book.specs.Answers.{WholeAs, GrownAs}
 use Rattle.est_times.specs.Network.{network}
 use Rattle.est_times.specs.Sheet.{Finished, finished_as, timed_from, job, report_of}

@@ -14,20 +14,30 @@ pub struct Passing {
     pub speed: f64,
 }
 
-// Where the next event is: at the front point, or where the train's end reaches the back point.
-#[tactic(auto, unfolding(crate::specs::Event::event_offset))]
-pub fn event_offset(front: f64, back: f64, length: f64) -> f64
-    ensures { result ≡ event_offset front back length }
-{
-    floats::smaller_offset(front, back + length)
+// The offsets of the points that a train's front and its end pass next, and its length.
+#[derive(Clone, Copy)]
+pub struct NextPoints {
+    pub front: f64,
+    pub back: f64,
+    pub length: f64,
 }
 
-// Whether the next event is a Clear.
-#[tactic(auto, unfolding(crate::specs::Event::clears))]
-pub fn is_clear(front: f64, back: f64, length: f64) -> bool
-    ensures { result ≡ clears front back length }
-{
-    back + length < front
+impl NextPoints {
+    // Where the next event is: at the front point, or where the train's end reaches the back point.
+    #[tactic(auto, unfolding(crate::specs::Event::event_offset))]
+    pub fn event_offset(self) -> f64
+        ensures { result ≡ event_offset self.front self.back self.length }
+    {
+        floats::smaller_offset(self.front, self.back + self.length)
+    }
+
+    // Whether the next event is a Clear.
+    #[tactic(auto, unfolding(crate::specs::Event::clears))]
+    pub fn is_clear(self) -> bool
+        ensures { result ≡ clears self.front self.back self.length }
+    {
+        self.back + self.length < self.front
+    }
 }
 
 // When a point is passed, by the speed there: the sample's own time where the train stands on the point, since the

@@ -7,29 +7,20 @@ use native.Mathlib.Omega.{arith}
 use lib.Dec.{T, ltb}
 use lib.ListN.{length, get_or}
 use lib.Ieee.{Float, nan, binary64, fits}
-use Rattle.std.specs.Prelude.{Result, Ok, Err}
-use Rattle.std.specs.Result.{is_err}
-use Rattle.refusals.specs.declared.Refusal.{Refusal}
-use Rattle.refusals.specs.Refusals.{told}
-use Rattle.laws.specs.Answer.{Answer, refused}
+use Rattle.laws.specs.Answer.{Answer, refused, given}
 use Rattle.laws.specs.Refusals.{row, first_of}
 use Rattle.space.specs.Space.{zero_floats}
 use Rattle.event_walk.specs.declared.Movement.{Movement}
 use Rattle.event_walk.specs.Course.{Course, course_of, Held, Walkable}
 use Rattle.event_walk.specs.Walk.{points_passed, row11}
 use Rattle.event_maker.specs.Maker.{movement_of, lent_course, bad_counts, bad_floats, falling, rows_to11, answered, answer_of, made_count, list_places, floats_as, numbers_as, LentLeg, EventList, EventsMade, course_in, places_in}
-use Rattle.event_maker.specs.Parts.{first_number, walk_answer, FloatsListed, NumbersListed, is_refused, kept_floats, kept_numbers}
+use Rattle.event_maker.specs.Parts.{first_number, walk_answer, FloatsListed, NumbersListed}
 use Rattle.event_maker.proofs.Rows.{within_counts, left_held, left_walkable, answer_refused, answer_walk}
-use Rattle.event_maker.proofs.Walks.{passed_most, floats_kept_lem, numbers_kept_lem}
+use Rattle.event_maker.proofs.Walks.{passed_most}
 
 -- what became zero is zero for its own length
 pub zero_again : (fs gs : List Float) → gs ≡ zero_floats (length fs) → length gs ≡ length fs → gs ≡ zero_floats (length gs)
 zero_again fs gs e d = e ∙ ap zero_floats (sym d)
-
--- a refusal, as the code tests for it
-pub refused_is : (r : Result ℕ Refusal) → is_err r ≡ is_refused (told r)
-refused_is (Ok n) = refl
-refused_is (Err e) = refl
 
 module _ (train : Float) (samples : List ℕ) (offsets : List Float) (links : List ℕ) (points : ℕ) (e : points ≡ min (length offsets) (length links)) where
   abbrev moved : ℕ → Movement
@@ -56,7 +47,7 @@ module _ (train : Float) (samples : List ℕ) (offsets : List Float) (links : Li
     pub lent_walkable : ((k : ℕ) → T (fits binary64 (get_or offsets k nan))) → fits binary64 train ≡ true → Walkable course
     lent_walkable f g = left_walkable samples offsets (moved points) refl d (λ k h. f k) (subst T (sym g) tt)
 
-    -- the answer and the list behind the walk
+    -- the answer behind the walk
     module _ (r : Answer ℕ) where
       pub made_answer : (f u F U : ℕ) → f ≡ F → u ≡ U → r ≡ walk_answer course (list_places f u) → r ≡ answer_of lent samples (list_places F U)
       made_answer f u F U p q w =
@@ -66,13 +57,13 @@ module _ (train : Float) (samples : List ℕ) (offsets : List Float) (links : Li
           ∙ ap (λ (n : ℕ). answer_of lent samples (list_places n u)) p
           ∙ ap (λ (n : ℕ). answer_of lent samples (list_places F n)) q
 
-      module _ (t : Bool) (a : t ≡ is_refused r) where
-        pub made-floats : (f F : ℕ) → f ≡ F → (fs gs : List Float) → FloatsListed r course f fs → gs ≡ kept_floats t fs → length fs ≡ f → gs ≡ floats_as r lent F
-        made-floats f F p fs gs l k n = floats_kept_lem r course f fs gs l (k ∙ ap (λ (x : Bool). kept_floats x fs) a) n ∙ ap (λ (c : Course). floats_as r c f) course_is ∙ ap (floats_as r lent) p
+    -- the list of an accepted leg
+    module _ (n : ℕ) where
+      pub made-floats : (f F : ℕ) → f ≡ F → (fs : List Float) → FloatsListed (given n) course f fs → fs ≡ floats_as (given n) lent F
+      made-floats f F p fs l = l ∙ ap (λ (c : Course). floats_as (given n) c f) course_is ∙ ap (floats_as (given n) lent) p
 
-        pub made-numbers : (u U : ℕ) → u ≡ U → (us vs : List ℕ) → NumbersListed r course links u us → vs ≡ kept_numbers t us → length us ≡ u → vs ≡ numbers_as r lent links U
-        made-numbers u U p us vs l k n =
-            numbers_kept_lem r course links u us vs l (k ∙ ap (λ (x : Bool). kept_numbers x us) a) n ∙ ap (λ (c : Course). numbers_as r c links u) course_is ∙ ap (numbers_as r lent links) p
+      pub made-numbers : (u U : ℕ) → u ≡ U → (us : List ℕ) → NumbersListed (given n) course links u us → us ≡ numbers_as (given n) lent links U
+      made-numbers u U p us l = l ∙ ap (λ (c : Course). numbers_as (given n) c links u) course_is ∙ ap (numbers_as (given n) lent links) p
 
 -- ---- how many events an accepted list has at most
 

@@ -28,7 +28,6 @@ use Rattle.event_walk.specs.declared.Movement.{Movement}
 use Rattle.event_walk.specs.Course.{Course, course_of, Held, Rises, Walkable}
 use Rattle.event_walk.specs.Walk.{points_passed, reaches_last, some_bad, row11}
 use Rattle.event_walk.proofs.Searches.{size_number, rises_of, samples_rise}
-use Rattle.event_walk.proofs.Steps.{reaches_is}
 use Rattle.event_maker.specs.Maker.{bad_counts, bad_floats, falling, rows_to11, answered, answer_of}
 use Rattle.event_maker.specs.Parts.{rows_number, first_number, bad_offset, offset_falls, bad_at, falls_at, count_answer, walk_answer}
 
@@ -179,9 +178,6 @@ module _ (b : List ℕ) (offsets : List Float) (m : Movement) where
       unfolding bad_at
       good_at i h = none_at m.samples (bad_at b) i h t.good_samples
 
-      pub farthest_held : m.samples * 24 ≤ length b → ((m.samples - 1) * 24 + 24 ≤ length b) × (bad_sample_from b ((m.samples - 1) * 24) ≡ false)
-      farthest_held h = let c = counts t.counted in (omega (arith, c.some), good_at (m.samples - 1) (omega (arith, c.some)))
-
       sizes : (i : ℕ) → i < m.samples → Size (course.sample i).offset
       unfolding sample_from
       sizes i h = subst (λ (s : Sample). Size s.offset) (sym (sample_is i)) (size_of_bits _ (sample_floats b (i * 24) (good_at i h)).offset)
@@ -189,12 +185,9 @@ module _ (b : List ℕ) (offsets : List Float) (m : Movement) where
       abbrev last : Float
       last = get_or offsets (m.points - 1) nan
 
-      -- the last sample tells for all
-      last_tells : (s : Sample) → s ≡ sample_from b ((m.samples - 1) * 24) → reaches_last course ≡ le last s.offset
+      samples_are_rising : Rises (λ i. (course.sample i).offset) m.samples
       unfolding course_of
-      last_tells s e =
-          reaches_is course (counts t.counted).some (samples_rise course sizes (λ i h. falls_is i ∙ none_at (m.samples - 1) (falls_at b) i h t.rising_samples))
-          ∙ ap (λ (x : Sample). le last x.offset) (sample_is (m.samples - 1) ∙ sym e)
+      samples_are_rising = samples_rise course sizes (λ i h. falls_is i ∙ none_at (m.samples - 1) (falls_at b) i h t.rising_samples)
 
       number_left : first_number course b ≡ rows_number false false false (reaches_last course)
       number_left =
@@ -205,13 +198,13 @@ module _ (b : List ℕ) (offsets : List Float) (m : Movement) where
           ∙ ap (λ (r : Bool). rows_number false false (r || points_fall) (reaches_last course)) t.rising_samples
           ∙ ap (λ (r : Bool). rows_number false false r (reaches_last course)) t.rising_points
 
-      pub first_11 : (s : Sample) → s ≡ sample_from b ((m.samples - 1) * 24) → le last s.offset ≡ true → 11 ≡ first_number course b
+      pub first_11 : (r : Bool) → r ≡ reaches_last course → r ≡ true → 11 ≡ first_number course b
       unfolding first_of
-      first_11 s e h = sym (number_left ∙ ap (rows_number false false false) (last_tells s e ∙ h))
+      first_11 r e h = sym (number_left ∙ ap (rows_number false false false) (sym e ∙ h))
 
-      pub first_0 : (s : Sample) → s ≡ sample_from b ((m.samples - 1) * 24) → le last s.offset ≡ false → 0 ≡ first_number course b
+      pub first_0 : (r : Bool) → r ≡ reaches_last course → r ≡ false → 0 ≡ first_number course b
       unfolding first_of
-      first_0 s e h = sym (number_left ∙ ap (rows_number false false false) (last_tells s e ∙ h))
+      first_0 r e h = sym (number_left ∙ ap (rows_number false false false) (sym e ∙ h))
 
       -- ---- what the number 0 leaves, for the walk
 
@@ -231,6 +224,16 @@ module _ (b : List ℕ) (offsets : List Float) (m : Movement) where
         where
           at_is : (i : ℕ) → m.at + i * 24 ≡ i * 24
           at_is i = omega arith
+
+      -- what is asked of samples and points before the last point is looked at
+      pub record MayReach : Type 0 where
+        pub held : Held b offsets m
+        pub points_nonzero : 0 < m.points
+        pub samples_nonzero : 0 < m.samples
+        pub rises : Rises (λ i. (course.sample i).offset) m.samples
+
+      pub may_reach : m.samples * 24 ≤ length b → m.points ≤ length offsets → MayReach
+      may_reach h g = record { held = held_of h g; points_nonzero = (counts t.counted).some_points; samples_nonzero = (counts t.counted).some; rises = samples_are_rising }
 
       walkable_of : reaches_last course ≡ false → ((k : ℕ) → k < m.points → T (fits binary64 (get_or offsets k nan))) → T (fits binary64 m.length) → Walkable course
       unfolding reaches_last course_of

@@ -16,8 +16,8 @@ use Rattle.event_walk.specs.declared.PassedPoint.{PassedPoint}
 use Rattle.event_walk.specs.Course.{Course, Walkable}
 use Rattle.event_walk.specs.Walk.{start, turn, emits, passed_next, walk, turns_left, passed_from, points_passed, bad_point, some_bad, Each}
 use Rattle.event_walk.proofs.Theorems.{never_the_last}
-use Rattle.event_maker.specs.Maker.{list_places, event_floats, event_numbers, floats_as, numbers_as}
-use Rattle.event_maker.specs.Parts.{count_answer, walk_answer, put_event_floats, put_event_numbers, FloatsListed, NumbersListed, is_refused, kept_floats, kept_numbers}
+use Rattle.event_maker.specs.Maker.{list_places, event_floats, event_numbers}
+use Rattle.event_maker.specs.Parts.{count_answer, walk_answer, put_event_floats, put_event_numbers, FloatsListed, NumbersListed}
 use Rattle.event_maker.proofs.Lists.{places_fit, floats_put, numbers_put}
 
 -- ---- lists of events
@@ -154,13 +154,3 @@ module _ {c : Course} {links : List ℕ} {F U places : ℕ} {floats : List Float
           ∙ ap (λ (t : List ℕ). put_event_numbers t count p (get_or links p.point 0)) (v.numbers_are (omega arith))
           ∙ numbers_put v.listed p count U v.counted links (omega (arith, v.room, (places_fit F U).1));
     }
-
--- ---- behind a refusal
-
-pub floats_kept_lem : (r : Answer ℕ) (c : Course) (size : ℕ) (fs gs : List Float) → FloatsListed r c size fs → gs ≡ kept_floats (is_refused r) fs → length fs ≡ size → gs ≡ floats_as r c size
-floats_kept_lem (given n) c size fs gs d e l = e ∙ d
-floats_kept_lem (refused n) c size fs gs d e l = e ∙ ap zero_floats l
-
-pub numbers_kept_lem : (r : Answer ℕ) (c : Course) (links : List ℕ) (size : ℕ) (us vs : List ℕ) → NumbersListed r c links size us → vs ≡ kept_numbers (is_refused r) us → length us ≡ size → vs ≡ numbers_as r c links size
-numbers_kept_lem (given n) c links size us vs d e l = e ∙ d
-numbers_kept_lem (refused n) c links size us vs d e l = e ∙ ap zeros l

@@ -1,12 +1,11 @@
 -- Words of the event maker's parts. Only the contracts of private functions use them.
-use Rattle.std.specs.Prelude.{◌≡◌, Bool, true, false, not, cond, List, ℕ, suc, ◌+◌, ◌-◌, ◌*◌, ◌<◌, ltb, length, set, get_or, Float}
+use Rattle.std.specs.Prelude.{◌≡◌, Bool, not, cond, List, ℕ, suc, ◌+◌, ◌-◌, ◌*◌, ◌<◌, ltb, length, set, get_or, Float}
 use Rattle.std.specs.Float.{nan}
 use Rattle.std.specs.Float.Ieee.{lt}
 use Rattle.laws.specs.Answer.{Answer, refused, given}
 use Rattle.laws.specs.Below.{some_below}
 use Rattle.laws.specs.Refusals.{first_of}
 use Rattle.floats.specs.Floats.{book_value}
-use Rattle.space.specs.Space.{zeros, zero_floats}
 use Rattle.book_format.specs.Format.{sample_from, sample_width}
 use Rattle.book_format.specs.Rows.{bad_sample_from, sample_falls}
 use Rattle.net_node.specs.Table.{kind_number}
@@ -71,7 +70,7 @@ put_event_numbers us k p link =
     let u = k * event_number_width in
     set (set us u link) (u + 1) (kind_number p.est_type)
 
--- the list where no refusal leaves it to be made zero
+-- the list, unless a refusal leaves it to be made zero
 abbrev pub FloatsListed : Answer ℕ → Course → ℕ → List Float → Type 0
 FloatsListed (given n) c size fs = fs ≡ floats_as (given n) c size
 FloatsListed (refused n) c size fs = Unit
@@ -85,16 +84,3 @@ pub record EventsListed (c : Course) (links : List ℕ) (lent left : EventList) 
   pub answer : r ≡ walk_answer c (places_in lent)
   pub floats : FloatsListed r c (length lent.floats) left.floats
   pub numbers : NumbersListed r c links (length lent.numbers) left.numbers
-
--- a refused list is made zero
-abbrev pub is_refused : Answer ℕ → Bool
-is_refused (given n) = false
-is_refused (refused n) = true
-
-abbrev pub kept_floats : Bool → List Float → List Float
-kept_floats false fs = fs
-kept_floats true fs = zero_floats (length fs)
-
-abbrev pub kept_numbers : Bool → List ℕ → List ℕ
-kept_numbers false us = us
-kept_numbers true us = zeros (length us)

@@ -12,7 +12,6 @@ ghost use Rattle.event_maker.specs.Maker.{lent_leg, list_at_entry, list_at_exit,
 ghost use Rattle.event_maker.specs.Maker.{event_number_width, EventsMade};
 ghost use Rattle.event_maker.specs.Parts.{first_number, Tells, sweep_answer, bad_at, falls_at};
 ghost use Rattle.event_maker.specs.Parts.{count_answer, put_event_floats, put_event_numbers, EventsListed};
-ghost use Rattle.event_maker.specs.Parts.{kept_floats, kept_numbers};
 
 use event_walk::{Course, Movement, PassedPoint};
 use refusals::Refusal;
@@ -59,24 +58,20 @@ fn sweep<B: Fn(usize) -> bool, F: Fn(usize) -> bool>(
 }
 
 // Whether sample i has a float that a book may not hold.
-#[tactic(auto, unfolding(crate::specs::Parts::bad_at, book_format::specs::Rows::bad_sample_from))]
+#[tactic(auto, unfolding(crate::specs::Parts::bad_at, book_format::specs::Format::patterns_from, book_format::specs::Rows::bad_sample_from, book_format::specs::Rows::bad_patterns,),)]
 fn is_bad_sample(samples: &[u8], i: usize) -> bool
     requires { i * sample_width + sample_width ≤ length samples.now }
     ensures { result ≡ bad_at samples.now i }
 {
-    let at = i * book_format::SAMPLE_WIDTH;
-    let time = floats::is_book_float(fields::u64_at(samples, at));
-    let offset = floats::is_book_float(fields::u64_at(samples, at + 8));
-    let speed = floats::is_book_float(fields::u64_at(samples, at + 16));
-    !time | !offset | !speed
+    book_format::patterns_from(samples, i * book_format::SAMPLE_WIDTH).is_bad()
 }
 
 // Whether the sample after number i is no later, or further back.
 #[tactic(auto, unfolding(crate::specs::Parts::bad_at, crate::specs::Parts::falls_at))]
 fn sample_falls(samples: &[u8], i: usize) -> bool
-    requires sample_width_in_bounds { suc i * sample_width + sample_width ≤ length samples.now }
-    requires i_value { bad_at samples.now i ≡ false }
-    requires i_value_2 { bad_at samples.now (i + 1) ≡ false }
+    requires next_inside { suc i * sample_width + sample_width ≤ length samples.now }
+    requires floats_passed { bad_at samples.now i ≡ false }
+    requires next_passed { bad_at samples.now (i + 1) ≡ false }
     ensures { result ≡ falls_at samples.now i }
 {
     let a = book_format::sample_from(samples, i * book_format::SAMPLE_WIDTH);
@@ -86,9 +81,9 @@ fn sample_falls(samples: &[u8], i: usize) -> bool
 
 // Rows 3, 4 and 7, and 11 for the samples, in that order.
 fn first_refusal(samples: &[u8], offsets: &[f64], m: Movement) -> Result<(), Refusal>
-    requires at_value { m.at ≡ 0 }
-    requires sample_width_in_bounds { m.samples * sample_width ≤ length samples.now }
-    requires points_in_bounds { m.points ≤ length offsets.now }
+    requires from_start { m.at ≡ 0 }
+    requires samples_inside { m.samples * sample_width ≤ length samples.now }
+    requires points_inside { m.points ≤ length offsets.now }
     ensures { number_of (told result) ≡ first_number (course_of samples.now offsets.now m) samples.now }
 {
     if book_format::is_outside(1000000, m.samples) | book_format::is_outside(65536, m.points) {
@@ -110,8 +105,7 @@ fn first_refusal(samples: &[u8], offsets: &[f64], m: Movement) -> Result<(), Ref
     if points_fall | samples_fall {
         return Err(Refusal::BadLeg);
     }
-    let farthest = book_format::sample_from(samples, (m.samples - 1) * book_format::SAMPLE_WIDTH);
-    if offsets[m.points - 1] <= farthest.offset {
+    if event_walk::reaches_last(samples, offsets, m) {
         return Err(Refusal::BadEvent);
     }
     Ok(())
@@ -129,8 +123,8 @@ fn list_event(
     p: PassedPoint,
     link: u32,
 )
-    requires event_float_width_in_bounds { places * event_float_width ≤ length floats.old }
-    requires event_number_width_in_bounds { places * event_number_width ≤ length numbers.old }
+    requires floats_room { places * event_float_width ≤ length floats.old }
+    requires numbers_room { places * event_number_width ≤ length numbers.old }
     ensures floats { k < places → floats.new ≡ put_event_floats floats.old k p }
     ensures numbers { k < places → numbers.new ≡ put_event_numbers numbers.old k p link }
 {
@@ -163,9 +157,9 @@ fn list_events(
     floats: &mut [f64],
     numbers: &mut [u32],
 ) -> Result<usize, Refusal>
-    requires points_in_bounds { course.now.movement.points ≤ length links.now }
-    requires floats_value { floats.old ≡ zero_floats (length floats.old) }
-    requires numbers_value { numbers.old ≡ zeros (length numbers.old) }
+    requires links_room { course.now.movement.points ≤ length links.now }
+    requires floats_zero { floats.old ≡ zero_floats (length floats.old) }
+    requires numbers_zero { numbers.old ≡ zeros (length numbers.old) }
     ensures { EventsListed (course_held course.now) links.now
         (list_at_entry floats numbers) (list_at_exit floats numbers) (told result) }
 {
@@ -182,19 +176,8 @@ fn list_events(
     listed(count, places)
 }
 
-// Makes the list zero again where it is refused.
-fn clear_refused(refused: bool, floats: &mut [f64], numbers: &mut [u32])
-    ensures floats { floats.new ≡ kept_floats refused floats.old }
-    ensures numbers { numbers.new ≡ kept_numbers refused numbers.old }
-{
-    if !refused {
-        return;
-    }
-    Zero::clear(floats);
-    Zero::clear(numbers);
-}
-
-// The events of one leg, into the list that is lent in two slices: how many there are, or why they are refused.
+// The events of one leg, into the list that is lent in two slices: how many there are, or why they are refused. The
+// list of a refusal is zero.
 pub fn make_events(
     train_length: f64,
     samples: &[u8],
@@ -220,7 +203,12 @@ pub fn make_events(
         offsets,
         movement,
     };
-    let made = list_events(&course, links, floats, numbers);
-    clear_refused(made.is_err(), floats, numbers);
-    made
+    match list_events(&course, links, floats, numbers) {
+        Ok(count) => Ok(count),
+        Err(refusal) => {
+            Zero::clear(floats);
+            Zero::clear(numbers);
+            Err(refusal)
+        }
+    }
 }

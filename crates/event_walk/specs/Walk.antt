@@ -10,7 +10,8 @@ use Rattle.event_formula.specs.declared.Passing.{Passing}
 use Rattle.event_formula.specs.Event.{event_offset, clears, passing_at, bad_passing}
 use Rattle.event_walk.specs.declared.Heads.{Heads}
 use Rattle.event_walk.specs.declared.PassedPoint.{PassedPoint}
-use Rattle.event_walk.specs.Course.{Course}
+use Rattle.event_walk.specs.declared.Movement.{Movement}
+use Rattle.event_walk.specs.Course.{Course, course_of}
 
 -- ---- where the walk begins
 
@@ -163,6 +164,10 @@ pub record Within (c : Course) (h : Heads) : Type 0 where
   pub after : 0 < h.i
   pub order : h.pt_idx_back ≤ h.pt_idx_front
   pub inside : h.pt_idx_front < c.points
+
+-- the same of the parts of a course that is held
+abbrev pub WithinHeld : List ℕ → List Float → Movement → Heads → Type 0
+WithinHeld b offsets m h = Within (course_of b offsets m) h
 
 -- the next point passed and the heads behind it, or that there is none
 abbrev pub NextOf : Course → Heads → Option (PassedPoint × Heads) → Type 0

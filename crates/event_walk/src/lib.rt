@@ -8,11 +8,11 @@ ghost use Rattle.book_format.specs.Format.{sample_from, sample_width};
 ghost use Rattle.book_format.specs.Rows.{bad_sample_from};
 ghost use Rattle.event_walk.specs.Course.{course_of, Held, Rises, Walkable};
 ghost use Rattle.event_walk.specs.Search.{NoneBeyond, FirstReaching, unseen, point_with};
-ghost use Rattle.event_walk.specs.Walk.{first_beyond, start, reaches_last, points_passed, bad_point, Within, NextOf};
-ghost use Rattle.event_walk.specs.Walk.{offset_next, clears_next};
+ghost use Rattle.event_walk.specs.Walk.{first_beyond, start, reaches_last, points_passed, bad_point, Within, WithinHeld};
+ghost use Rattle.event_walk.specs.Walk.{NextOf, offset_next, clears_next};
 
 use book_format::Sample;
-use event_formula::Passing;
+use event_formula::{NextPoints, Passing};
 use net_node::EstType;
 use std::marker::Model;
 
@@ -67,24 +67,29 @@ impl PassedPoint {
     }
 }
 
+// Where the walk of a course stands: its heads are where they can be.
+#[derive(Clone, Copy)]
+struct Position<'a> {
+    course: Course<'a>,
+    heads: Heads,
+    ghost within: { WithinHeld course.samples.now course.offsets.now course.movement heads } by { Prim.hlevel props },
+}
+
 // The points that a leg's samples have still to pass, in order: its events. A contract sees their list.
 #[derive(Drop)]
 pub struct PassedPoints<'a> {
-    course: Course<'a>,
-    heads: Heads,
+    position: Position<'a>,
 }
 
 impl<'a> Model for PassedPoints<'a> {
     ghost use Rattle.std.specs.Prelude.{List};
     ghost use Rattle.event_walk.specs.declared.PassedPoint.{PassedPoint};
-    ghost use Rattle.event_walk.specs.Walk.{passed_from, Within};
+    ghost use Rattle.event_walk.specs.Walk.{passed_from};
     ghost use Rattle.event_walk.specs.Held.{course_held};
 
     ghost Value = { List PassedPoint };
 
-    ghost view = { λ p. passed_from (course_held p.course) p.heads };
-
-    ghost invariant = { λ p. Within (course_held p.course) p.heads };
+    ghost view = { λ p. passed_from (course_held p.position.course) p.position.heads };
 }
 
 // The next point that is passed.
@@ -98,8 +103,9 @@ impl<'a> Iterator for PassedPoints<'a> {
     ghost remaining = { item_count (λ points. points) };
 
     fn next(&mut self) -> Option<PassedPoint> {
-        let (point, heads) = self.course.next_event(self.heads)?;
-        self.heads = heads;
+        let (point, heads) = self.position.next_event()?;
+        let course = self.position.course;
+        self.position = Position { course, heads };
         Some(point)
     }
 }
@@ -147,8 +153,8 @@ fn first_beyond(offsets: &[f64], points: usize, x: f64) -> usize
 // The offset of the sample whose first byte is at `at`.
 #[tactic(auto, using(crate::proofs::Steps::offset_number), unfolding(book_format::specs::Format::sample_from))]
 fn sample_offset(book: &[u8], at: usize) -> f64
-    requires sample_width_in_bounds { at + sample_width ≤ length book.now }
-    requires at_value { bad_sample_from book.now at ≡ false }
+    requires row_inside { at + sample_width ≤ length book.now }
+    requires floats_passed { bad_sample_from book.now at ≡ false }
     ensures { result ≡ (sample_from book.now at).offset }
 {
     f64::from_bits(fields::u64_at(book, at + 8))
@@ -162,10 +168,12 @@ impl<'a> Course<'a> {
     pub fn passed_points(&self) -> PassedPoints<'a>
         ensures { result ≡ points_passed (course_held self.now) }
     {
-        PassedPoints {
+        let heads = self.start_heads();
+        let position = Position {
             course: *self,
-            heads: self.start_heads(),
-        }
+            heads,
+        };
+        PassedPoints { position }
     }
 
     // Sample i.
@@ -231,50 +239,62 @@ impl<'a> Course<'a> {
             est_type,
         }
     }
+}
+
+impl<'a> Position<'a> {
+    ghost use Rattle.event_walk.specs.Held.{course_held};
+
+    // The points that the train's front and its end pass next.
+    #[tactic(auto, unfolding(crate::specs::Course::course_of))]
+    fn next_points(&self) -> NextPoints
+        ensures front { result.front ≡ (course_held self.now.course).offset self.now.heads.pt_idx_front }
+        ensures back { result.back ≡ (course_held self.now.course).offset self.now.heads.pt_idx_back }
+        ensures length { result.length ≡ (course_held self.now.course).length }
+    {
+        NextPoints {
+            front: self.course.offsets[self.heads.pt_idx_front],
+            back: self.course.offsets[self.heads.pt_idx_back],
+            length: self.course.movement.length,
+        }
+    }
 
     // Where the next event is.
-    #[tactic(auto, unfolding(crate::specs::Course::course_of, crate::specs::Walk::offset_next))]
-    fn offset_next(&self, h: Heads) -> f64
-        requires within { Within (course_held self.now) h }
-        ensures { result ≡ offset_next (course_held self.now) h }
+    #[tactic(auto, unfolding(crate::specs::Walk::offset_next))]
+    fn offset_next(&self) -> f64
+        ensures { result ≡ offset_next (course_held self.now.course) self.now.heads }
     {
-        let front = self.offsets[h.pt_idx_front];
-        let back = self.offsets[h.pt_idx_back];
-        event_formula::event_offset(front, back, self.movement.length)
+        self.next_points().event_offset()
     }
 
     // Whether the next event is a Clear.
-    #[tactic(auto, unfolding(crate::specs::Course::course_of, crate::specs::Walk::clears_next))]
-    fn clears_next(&self, h: Heads) -> bool
-        requires within { Within (course_held self.now) h }
-        ensures { result ≡ clears_next (course_held self.now) h }
+    #[tactic(auto, unfolding(crate::specs::Walk::clears_next))]
+    fn clears_next(&self) -> bool
+        ensures { result ≡ clears_next (course_held self.now.course) self.now.heads }
     {
-        let front = self.offsets[h.pt_idx_front];
-        let back = self.offsets[h.pt_idx_back];
-        event_formula::is_clear(front, back, self.movement.length)
+        self.next_points().is_clear()
     }
 
     // Whether the next event is that the train's end passes the first point: the back index becomes 1, and nothing is
     // emitted.
     #[tactic(auto, unfolding(crate::specs::Search::unseen))]
-    fn is_unseen(&self, h: Heads) -> bool
-        requires within { Within (course_held self.now) h }
-        ensures { result ≡ unseen (course_held self.now) h }
+    fn is_unseen(&self) -> bool
+        ensures { result ≡ unseen (course_held self.now.course) self.now.heads }
     {
-        h.pt_idx_back == 0 && self.clears_next(h)
+        self.heads.pt_idx_back == 0 && self.clears_next()
     }
 
     // The next point that is passed, where the next event is emitted.
     #[tactic(auto, using(crate::proofs::Steps::next_none), unfolding(crate::specs::Course::course_of))]
-    fn seen_event(&self, h: Heads) -> Option<(PassedPoint, Heads)>
-        requires within { Within (course_held self.now) h }
-        requires h_value { unseen (course_held self.now) h ≡ false }
-        ensures { NextOf (course_held self.now) h result }
+    fn seen_event(self) -> Option<(PassedPoint, Heads)>
+        requires emitted { unseen (course_held self.course) self.heads ≡ false }
+        ensures { NextOf (course_held self.entry.course) self.entry.heads result }
     {
-        let offset_next = self.offset_next(h);
-        let i = self.first_reaching(h.i, offset_next)?;
-        if self.clears_next(h) {
-            let p = self.passed_at(i, offset_next, h.pt_idx_back, EstType::Clear);
+        let course = self.course;
+        let h = self.heads;
+        let offset_next = self.offset_next();
+        let i = course.first_reaching(h.i, offset_next)?;
+        if self.clears_next() {
+            let p = course.passed_at(i, offset_next, h.pt_idx_back, EstType::Clear);
             let pt_idx_back = h.pt_idx_back + 1;
             return Some((
                 p,
@@ -285,7 +305,7 @@ impl<'a> Course<'a> {
                 },
             ));
         }
-        let p = self.passed_at(i, offset_next, h.pt_idx_front, EstType::Arrive);
+        let p = course.passed_at(i, offset_next, h.pt_idx_front, EstType::Arrive);
         let pt_idx_front = h.pt_idx_front + 1;
         Some((
             p,
@@ -298,19 +318,20 @@ impl<'a> Course<'a> {
     }
 
     // The next point that is passed, and the heads behind it.
-    fn next_event(&self, h: Heads) -> Option<(PassedPoint, Heads)>
-        requires within { Within (course_held self.now) h }
-        ensures { NextOf (course_held self.now) h result }
+    fn next_event(self) -> Option<(PassedPoint, Heads)>
+        ensures { NextOf (course_held self.entry.course) self.entry.heads result }
     {
-        if !self.is_unseen(h) {
-            return self.seen_event(h);
+        if !self.is_unseen() {
+            return self.seen_event();
         }
-        let i = self.first_reaching(h.i, self.offset_next(h))?;
-        let pt_idx_back = 1;
-        self.seen_event(Heads {
+        let course = self.course;
+        let i = course.first_reaching(self.heads.i, self.offset_next())?;
+        let heads = Heads {
             i,
-            pt_idx_back,
-            ..h
-        })
+            pt_idx_back: 1,
+            ..self.heads
+        };
+        let later = Position { course, heads };
+        later.seen_event()
     }
 }

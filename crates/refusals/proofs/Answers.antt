@@ -1,31 +1,12 @@
--- A refusal that `?` hands on; and that no number of a refusal is 0.
-use mathlib.Core.Path.{◌≡◌, ap}
+-- A refusal that `?` hands on.
+use mathlib.Core.Path.{◌≡◌, sym, ap, ◌∙◌}
 use Rattle.std.specs.Prelude.{Result, Ok, Err, IsErrAnd}
-use native.Mathlib.Omega.{arith}
-use Rattle.refusals.specs.Refusals.{refusal_number}
 use Rattle.refusals.specs.declared.Refusal.{Refusal}
-use Rattle.refusals.specs.declared.Refusal.TheVariants.{CutOff, LeftOver, OutOfBounds, BadValue, BadIndex, BadOrigin, BadLeg, NoPath}
-use Rattle.refusals.specs.declared.Refusal.TheVariants.{NoWayOn, MissingLeg, BadEvent, NoPlace, BadEnd, BadLinks, NotTimed, AllZero}
 
 pub handed_on : {A : Type 0} (r : Result A Refusal) (e : Refusal) → IsErrAnd r (λ (x : Refusal). x ≡ e) → r ≡ Err e
 handed_on (Ok a) e h = absurd h
 handed_on (Err x) e h = ap Err h
 
--- no row has the number 0
-pub refusal_some : (r : Refusal) → refusal_number r ≡ 0 → ⊥
-refusal_some CutOff e = omega arith
-refusal_some LeftOver e = omega arith
-refusal_some OutOfBounds e = omega arith
-refusal_some BadValue e = omega arith
-refusal_some BadIndex e = omega arith
-refusal_some BadOrigin e = omega arith
-refusal_some BadLeg e = omega arith
-refusal_some NoPath e = omega arith
-refusal_some NoWayOn e = omega arith
-refusal_some MissingLeg e = omega arith
-refusal_some BadEvent e = omega arith
-refusal_some NoPlace e = omega arith
-refusal_some BadEnd e = omega arith
-refusal_some BadLinks e = omega arith
-refusal_some NotTimed e = omega arith
-refusal_some AllZero e = omega arith
+-- what `?` hands on of an answer x that is told by f, which leaves a refusal as it is
+pub handed_as : {A B : Type 0} (f : Result A Refusal → Result B Refusal) (x : Result A Refusal) (r : Result B Refusal) (e : Refusal) → f (Err e) ≡ Err e → x ≡ Err e → IsErrAnd r (λ (y : Refusal). y ≡ e) → r ≡ f x
+handed_as f x r e k was h = handed_on r e h ∙ sym k ∙ sym (ap f was)

@@ -1,11 +1,10 @@
 -- No refusal has the number 0, which is told where nothing is refused.
-use Rattle.std.proofs.Common.{◌≡◌, ℕ, Result, Ok, Err, arith}
-use Rattle.laws.specs.Answer.{number_of}
+use Rattle.std.proofs.Common.{◌≡◌, arith}
 use Rattle.refusals.specs.declared.Refusal.{Refusal}
 use Rattle.refusals.specs.declared.Refusal.TheVariants.{CutOff, LeftOver, OutOfBounds, BadValue, BadIndex, BadOrigin}
 use Rattle.refusals.specs.declared.Refusal.TheVariants.{BadLeg, NoPath, NoWayOn, MissingLeg, BadEvent, NoPlace, BadEnd}
 use Rattle.refusals.specs.declared.Refusal.TheVariants.{BadLinks, NotTimed, AllZero}
-use Rattle.refusals.specs.Refusals.{refusal_number, told}
+use Rattle.refusals.specs.Refusals.{refusal_number}
 
 pub refusal_some : (r : Refusal) → refusal_number r ≡ 0 → ⊥
 refusal_some CutOff e = omega arith

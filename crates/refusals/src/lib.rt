@@ -81,7 +81,8 @@ impl fmt::Display for Refusal {
     }
 }
 
-// The number of an answer: 0 where something is given.
+// The number of an answer: 0 where something is given. It stays a function: Result and u32 are both std's, so no From
+// can stand here.
 pub fn number_of<T: Copy>(answer: Result<T, Refusal>) -> u32
     ensures { result ≡ number_of (told answer) }
 {

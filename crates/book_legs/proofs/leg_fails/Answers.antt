@@ -14,31 +14,31 @@ pub leg_begins-requires : goal.leg_begins-requires
 leg_begins-requires c =
     let q = c.requires in
     let e = c.book-rows.ensures.is in
-    let l = leg_of_rows e c.book-rows.ensures.readable q.i_bound in
+    let l = leg_of_rows e c.book-rows.ensures.readable q.i_lt_legs in
     let p = rw e at (leg_parent_lem _ _ _ c.leg_at-leg.ensures) in
     record {
-      end_bound = rw e (omega (arith, q.end_value, q.first_value, l.within, l.some, l.end));
-      first_bound = rw e (omega (arith, q.first_value, l.within, l.some));
-      end_nonzero = (λ (h : 0 < c.leg_at-leg.result.parent). omega (arith, q.end_value, l.begun (subst (λ (n : ℕ). 0 < n) p h)));
+      last_inside = rw e (omega (arith, q.end_is, q.first_is, l.within, l.some, l.end));
+      first_inside = rw e (omega (arith, q.first_is, l.within, l.some));
+      end_nonzero = (λ (h : 0 < c.leg_at-leg.result.parent). omega (arith, q.end_is, l.begun (subst (λ (n : ℕ). 0 < n) p h)));
     }
 
 pub leg_falls-requires : goal.leg_falls-requires
 leg_falls-requires c =
     let q = c.requires in
     let e = c.book-rows.ensures.is in
-    let l = leg_of_rows e c.book-rows.ensures.readable q.i_bound in
-    record { count_bound = omega (arith, q.first_value, l.within, rw e at (leg_samples_lem _ _ _ c.leg_at-leg.ensures)) }
+    let l = leg_of_rows e c.book-rows.ensures.readable q.i_lt_legs in
+    record { samples_inside = omega (arith, q.first_is, l.within, rw e at (leg_samples_lem _ _ _ c.leg_at-leg.ensures)) }
 
 pub returns-then-leg_begins : goal.returns-then-leg_begins
 returns-then-leg_begins c =
     let q = c.requires in
     let e = c.book-rows.ensures.is in
-    fails_begun _ _ _ _ c.leg_at-leg.result (rw e at c.leg_at-leg.ensures) q.end_value q.first_value
+    fails_begun _ _ _ _ c.leg_at-leg.result (rw e at c.leg_at-leg.ensures) q.end_is q.first_is
     c.leg_begins.result c.leg_falls.result (rw e at c.leg_begins.ensures) c.if-leg_begins.true c.leg_falls.ensures
 
 pub returns-else-leg_begins : goal.returns-else-leg_begins
 returns-else-leg_begins c =
     let q = c.requires in
     let e = c.book-rows.ensures.is in
-    fails_elsewhere _ _ _ _ c.leg_at-leg.result (rw e at c.leg_at-leg.ensures) q.end_value q.first_value
+    fails_elsewhere _ _ _ _ c.leg_at-leg.result (rw e at c.leg_at-leg.ensures) q.end_is q.first_is
     c.leg_begins.result (rw e at c.leg_begins.ensures) c.if-leg_begins.false

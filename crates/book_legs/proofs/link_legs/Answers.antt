@@ -7,18 +7,18 @@ use Rattle.book_legs.proofs.Linking.{linking_start, room_of, linking_end, linkin
 use Rattle.book_legs.proofs.link_legs.Goals as goal
 
 pub loop-i-init : goal.loop-i-init
-loop-i-init c = linking_start _ _ c.requires.cells_value
+loop-i-init c = linking_start _ _ c.requires.cells_zero
 
 pub bounds-cells-parent : goal.bounds-cells-parent
 bounds-cells-parent c =
     let l = leg_in_lem c.book-rows.ensures.readable c.loop-i.i (omega arith) in
     omega (arith, l.parent, leg_parent_lem _ _ _ c.leg_at-leg.ensures, ap legs c.book-rows.ensures.is)
 
-pub leg_fails-requires-clause-end_value : goal.leg_fails-requires-clause-end_value
-leg_fails-requires-clause-end_value c =
+pub leg_fails-requires-clause-end_is : goal.leg_fails-requires-clause-end_is
+leg_fails-requires-clause-end_is c =
     let e = c.book-rows.ensures.is in
     rw (← e)
-    (linking_end (room_of c.book-rows.ensures.readable _ (rw e c.requires.book_in_bounds)) c.loop-i.invariant (omega arith) _ (leg_parent_lem _ _ _ c.leg_at-leg.ensures))
+    (linking_end (room_of c.book-rows.ensures.readable _ (rw e c.requires.cells_room)) c.loop-i.invariant (omega arith) _ (leg_parent_lem _ _ _ c.leg_at-leg.ensures))
 
 pub returns-then-leg_fails-clause-answer : goal.returns-then-leg_fails-clause-answer
 returns-then-leg_fails-clause-answer c =
@@ -48,7 +48,7 @@ loop-i-preserved c =
 
 pub returns : goal.returns
 returns c =
-    let d = rw c.book-rows.ensures.is at (linking_done c.loop-i.invariant c.requires.cells_value (omega arith)) in
+    let d = rw c.book-rows.ensures.is at (linking_done c.loop-i.invariant c.requires.cells_zero (omega arith)) in
     record {
       answer = d.0;
       chains = λ e. d.1;

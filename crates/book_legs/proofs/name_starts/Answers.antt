@@ -7,7 +7,7 @@ use Rattle.book_legs.proofs.Starts.{named_none, named_more}
 use Rattle.book_legs.proofs.name_starts.Goals as goal
 
 pub loop-i-init : goal.loop-i-init
-loop-i-init c = named_none _ _ c.requires.starts_value
+loop-i-init c = named_none _ _ c.requires.starts_zero
 
 pub overflow_cast-i : goal.overflow_cast-i
 overflow_cast-i c = omega (arith, (leg_in_lem c.book-rows.ensures.readable c.loop-i.i (omega arith)).number)

@@ -1,7 +1,7 @@
 -- `book_options::get_link_idx_options` meets its contract: `Walking` is the loop's invariant, and the measure is how many
 -- pops are left at most.
 use Rattle.std.proofs.Common.{◌≡◌, refl, sym, subst, ◌∙◌, ap, ℕ, List, Bool, true, false, cond, Result, Ok, Err, arith}
-use Rattle.std.proofs.lemmas.Result.{err_from_is_err_and}
+use Rattle.refusals.proofs.Answers.{handed_on}
 use Rattle.refusals.specs.declared.Refusal.{Refusal}
 use Rattle.refusals.specs.declared.Refusal.TheVariants.{NoPath}
 use Rattle.book_format.specs.Format.{destinations}
@@ -19,10 +19,9 @@ pub returns-in_err-push_destinations : goal.returns-in_err-push_destinations
 returns-in_err-push_destinations c =
     let r = c.book-rows.ensures in
     let z = zero_met _ _ c.in_err-push_destinations.ensures.answer in
-    let p = err_from_is_err_and c.from_residual.result c.from_residual.ensures.1 in
     let all = refused c.args.book.now c.push_destinations.new.marks (zero_refused _ (rw r.is at z.0)) in
     record {
-      answer = rw (p.1, p.2, z.1) all.0;
+      answer = rw (handed_on _ _ c.from_residual.ensures.1, z.1) all.0;
       marked = all.1;
     }
 

@@ -4,7 +4,7 @@ use Rattle.book_options.proofs.Starts.{pushed_none, pushed_more, zero_met}
 use Rattle.book_options.proofs.push_destinations.Goals as goal
 
 pub loop-i-init : goal.loop-i-init
-loop-i-init c = pushed_none _ _ (omega arith) c.requires.marks_value
+loop-i-init c = pushed_none _ _ (omega arith) c.requires.marks_zero
 
 pub returns-then-l-eq0-clause-answer : goal.returns-then-l-eq0-clause-answer
 returns-then-l-eq0-clause-answer c =

@@ -1,7 +1,7 @@
 -- `book_reader::read_book` meets its contract.
 use Rattle.std.proofs.Common.{◌≡◌, refl, sym, ◌∙◌, ap, subst, ℕ, List, length, take, drop, arith}
-use Rattle.std.proofs.lemmas.Result.{err_from_is_err_and}
 use lib.Seq.{length-take-le}
+use Rattle.refusals.proofs.Answers.{handed_on}
 use Rattle.book_options.specs.Options.{search_room}
 use Rattle.book_format.proofs.Given.{limits}
 use Rattle.book_reader.specs.Stages.{Blank, RestRead}
@@ -13,8 +13,7 @@ use Rattle.book_reader.proofs.read_book.Goals.{After-part-1, After-search_room-r
 
 pub returns-in_err-tested : goal.returns-in_err-tested
 returns-in_err-tested c =
-    let p = err_from_is_err_and c.from_residual.result c.from_residual.ensures.1 in
-    rw (p.1, p.2)
+    rw (handed_on _ _ c.from_residual.ensures.1)
     (record {
       number = c.in_err-tested.ensures ∙ number_capped _ _ _ _ _ _ _ c.units.ensures c.lent_bytes-bytes.ensures;
       into = tt;
@@ -51,7 +50,7 @@ pub read_rest-requires-clause-blank : goal.read_rest-requires-clause-blank
 read_rest-requires-clause-blank c =
     let t = c.in_ok-tested.ensures in
     subst (λ (b : List ℕ). Blank b c.args.cells.now (take c.search_room-room.result c.args.marks.now) (search_room b)) (sym t.0)
-    (blank_of _ _ _ _ _ _ _ c.lent_bytes-bytes.ensures t.1.row3 c.units.ensures c.requires.cells_value c.requires.marks_value _ (asked (goal.at.read_rest-requires-clause-blank c).After-search_room-room))
+    (blank_of _ _ _ _ _ _ _ c.lent_bytes-bytes.ensures t.1.row3 c.units.ensures c.requires.cells_zero c.requires.marks_zero _ (asked (goal.at.read_rest-requires-clause-blank c).After-search_room-room))
 
 pub returns : goal.returns
 returns c =

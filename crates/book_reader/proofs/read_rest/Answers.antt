@@ -1,6 +1,6 @@
 -- `book_reader::read_rest` meets its contract.
 use Rattle.std.proofs.Common.{◌≡◌, refl, sym, ◌∙◌, ap, subst, false, ℕ, List, ◌≤◌, length, arith}
-use Rattle.std.proofs.lemmas.Result.{err_from_is_err_and}
+use Rattle.refusals.proofs.Answers.{handed_on}
 use lib.Seq.{length-take-le}
 use Rattle.space.proofs.Zeros.{zeros_front, zeros_back}
 use Rattle.book_format.specs.Format.{links}
@@ -13,7 +13,7 @@ pub test_repeats-requires-clause-blank : goal.test_repeats-requires-clause-blank
 test_repeats-requires-clause-blank c =
     let p = c.requires.blank in
     let n = c.links-links.result in
-    let e : n ≡ links c.args.book = c.links-links.ensures ∙ ap links c.book.ensures.is in
+    let e : n ≡ links c.args.tested.book = c.links-links.ensures ∙ ap links c.book.ensures.is in
     let h : n ≤ length c.args.marks.now = omega (arith, p.marks_room) in
     record {
       cells_room = p.cells_room;
@@ -22,16 +22,15 @@ test_repeats-requires-clause-blank c =
       marks_zero = zeros_front n p.marks_zero;
     }
 
-pub get_link_idx_options-requires-clause-marks_value : goal.get_link_idx_options-requires-clause-marks_value
-get_link_idx_options-requires-clause-marks_value c =
+pub get_link_idx_options-requires-clause-marks_zero : goal.get_link_idx_options-requires-clause-marks_zero
+get_link_idx_options-requires-clause-marks_zero c =
     zeros_back c.links-links.result c.requires.blank.marks_zero c.in_ok-book.ensures.1.marks_zero refl
 
 pub returns-in_err-kept : goal.returns-in_err-kept
 returns-in_err-kept c =
     let q = c.in_ok-book.ensures in
-    let p = err_from_is_err_and c.from_residual-in_err-kept.result c.from_residual-in_err-kept.ensures.1 in
     let n = no_path _ _ (sym (c.in_err-kept.ensures.answer ∙ ap link_options (c.valid.ensures.is ∙ q.0))) in
-    rw (p.1, p.2, n.1) (record { number = from_6_third _ q.1.row6 q.1.row7 n.0; into = tt })
+    rw (handed_on _ _ c.from_residual-in_err-kept.ensures.1, n.1) (record { number = from_6_third _ q.1.row6 q.1.row7 n.0; into = tt })
 
 pub returns : goal.returns
 returns c =

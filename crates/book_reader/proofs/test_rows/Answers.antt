@@ -1,6 +1,6 @@
 -- `book_reader::test_rows` meets its contract.
 use Rattle.std.proofs.Common.{sym, ◌∙◌, ap, subst, List, ℕ}
-use Rattle.std.proofs.lemmas.Result.{err_from_is_err_and}
+use Rattle.refusals.proofs.Answers.{handed_on}
 use Rattle.book_format.specs.Rows.{row1, row2}
 use Rattle.book_format.proofs.Measures.{measured_whole}
 use Rattle.book_reader.specs.Stages.{TestedAs}
@@ -9,8 +9,7 @@ use Rattle.book_reader.proofs.test_rows.Goals as goal
 
 pub returns-in_err-measure : goal.returns-in_err-measure
 returns-in_err-measure c =
-    let p = err_from_is_err_and c.from_residual.result c.from_residual.ensures.1 in
-    rw (p.1, p.2) (number_measured _ _ _ _ c.in_err-measure.ensures)
+    rw (handed_on _ _ c.from_residual.ensures.1) (number_measured _ _ _ _ c.in_err-measure.ensures)
 
 pub test_whole-requires : goal.test_whole-requires
 test_whole-requires c =

@@ -1,5 +1,6 @@
 -- `book_reader::test_whole` meets its contract.
-use Rattle.std.proofs.Common.{sym, ◌∙◌, ap, subst, refl, Bool}
+use Rattle.std.proofs.Common.{sym, ◌∙◌, ap, subst, refl, Result, Err}
+use Rattle.refusals.specs.declared.Refusal.{Refusal}
 use Rattle.refusals.specs.Refusals.{refusal_number}
 use Rattle.refusals.proofs.Numbers.{refusal_some}
 use Rattle.book_reader.specs.Stages.{LeftToRead}
@@ -21,14 +22,14 @@ returns-in_default c =
     c.in-Err.ensures (refusal_some _) (λ e. c.in_default.not-BadLeg (leg_alone _ e))
 
 -- what is left to read, whichever way the single rows let the book through
-left : (c : Joined-lowest_row) → LeftToRead c.args.book c.args.places c.args.bytes c.match-lowest_row.late
+left : (c : Joined-lowest_row) → LeftToRead c.args.book c.args.places c.args.bytes c.match-lowest_row.legs
 left c =
     let q = c.requires in
     let e = sym c.counts_refused.ensures ∙ c.if-counts_refused.false in
-    let P : Bool → Type 0 = λ t. LeftToRead c.args.book c.args.places c.args.bytes t in
+    let P : Result (Unit {0}) Refusal → Type 0 = λ t. LeftToRead c.args.book c.args.places c.args.bytes t in
     elim c.match-lowest_row.branch [
-      | in-Ok w ↦ subst P (sym w.late-is) (left_early _ _ _ 0 q.row1_passed q.row2_passed e w.in-Ok.ensures refl)
-      | in-Err+in-BadLeg w ↦ subst P (sym w.late-is) (left_late _ _ _ _ q.row1_passed q.row2_passed e w.in-Err.ensures (ap refusal_number w.in-BadLeg.is))
+      | in-Ok w ↦ subst P (sym w.legs-is) (left_early _ _ _ 0 q.row1_passed q.row2_passed e w.in-Ok.ensures refl)
+      | in-Err+in-BadLeg w ↦ subst P (sym (w.legs-is ∙ ap Err w.in-BadLeg.is)) (left_late _ _ _ _ q.row1_passed q.row2_passed e w.in-Err.ensures (ap refusal_number w.in-BadLeg.is))
     ]
 
 pub new-book-requires : goal.new-book-requires

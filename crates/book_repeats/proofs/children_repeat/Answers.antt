@@ -12,12 +12,12 @@ overflow_cast-mark c =
     omega (arith, (limits _ r.readable.counted.counts).legs_most, ap legs r.is)
 
 pub loop-j-init : goal.loop-j-init
-loop-j-init c = let q = c.requires in walk_start q.chained q.p_bound q.under
+loop-j-init c = let q = c.requires in walk_start q.chained q.p_lt_legs q.under
 
 pub bounds-marks-link : goal.bounds-marks-link
 bounds-marks-link c =
     let r = c.book-rows.ensures in
-    walk_link c.loop-j.invariant c.loop-j-test.true _ (rw r.is at c.leg_at-link.ensures) (subst Readable r.is r.readable) c.requires.book_in_bounds
+    walk_link c.loop-j.invariant c.loop-j-test.true _ (rw r.is at c.leg_at-link.ensures) (subst Readable r.is r.readable) c.requires.marks_room
 
 pub returns-then-marks-link-clause-value : goal.returns-then-marks-link-clause-value
 returns-then-marks-link-clause-value c =
@@ -26,7 +26,7 @@ returns-then-marks-link-clause-value c =
 pub bounds-marks-link-in-loop-j : goal.bounds-marks-link-in-loop-j
 bounds-marks-link-in-loop-j c =
     let r = c.book-rows.ensures in
-    walk_link c.loop-j.invariant c.loop-j-test.true _ (rw r.is at c.leg_at-link.ensures) (subst Readable r.is r.readable) c.requires.book_in_bounds
+    walk_link c.loop-j.invariant c.loop-j-test.true _ (rw r.is at c.leg_at-link.ensures) (subst Readable r.is r.readable) c.requires.marks_room
 
 pub loop-j-smaller : goal.loop-j-smaller
 loop-j-smaller c = next_less c.requires.chained c.loop-j.invariant c.loop-j-test.true
@@ -37,7 +37,7 @@ loop-j-preserved c =
     let h = c.loop-j-test.true in
     let r = c.book-rows.ensures in
     let e = rw r.is at c.leg_at-link.ensures in
-    walk_on w h _ e _ (walk_link w h _ e (subst Readable r.is r.readable) c.requires.book_in_bounds) c.if-marks-link.false (next_child c.requires.chained w h)
+    walk_on w h _ e _ (walk_link w h _ e (subst Readable r.is r.readable) c.requires.marks_room) c.if-marks-link.false (next_child c.requires.chained w h)
 
 pub returns-clause-value : goal.returns-clause-value
 returns-clause-value c = walk_none c.loop-j.invariant c.loop-j-test.false

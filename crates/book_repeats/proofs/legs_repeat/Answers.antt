@@ -6,7 +6,7 @@ use Rattle.book_repeats.proofs.Children.{parents_start, parents_found, parents_o
 use Rattle.book_repeats.proofs.legs_repeat.Goals as goal
 
 pub loop-p-init : goal.loop-p-init
-loop-p-init c = parents_start _ _ c.requires.marks_value
+loop-p-init c = parents_start _ _ c.requires.marks_zero
 
 pub returns-then-children_repeat : goal.returns-then-children_repeat
 returns-then-children_repeat c = parents_found _ _ (sym c.if-children_repeat.true ∙ c.children_repeat.ensures.value)

@@ -9,5 +9,5 @@ zero_float : (n m : ℕ) → m ≡ n → m ≡ 0 → book_float n ≡ true
 unfolding book_float table_float of_bits le
 zero_float n m e z = rw (← e, z)
 
-pub link_at-l-requires-clause-i_value : goal.link_at-l-requires-clause-i_value
-link_at-l-requires-clause-i_value c = zero_float _ _ c.link_length.ensures c.if-link_length-ne0.false
+pub link_at-l-requires-clause-length_passed : goal.link_at-l-requires-clause-length_passed
+link_at-l-requires-clause-length_passed c = zero_float _ _ c.link_length.ensures c.if-link_length-ne0.false

@@ -14,7 +14,7 @@ use Rattle.est_times.proofs.Networks.{network_refused, grown_network}
 use Rattle.est_times.proofs.read_and_grow.Goals as goal
 
 pub read_book-requires : goal.read_book-requires
-read_book-requires c = record { cells_value = c.requires.cells; marks_value = c.requires.marks }
+read_book-requires c = record { cells_zero = c.requires.cells; marks_zero = c.requires.marks }
 
 pub returns-in_err-accepted : goal.returns-in_err-accepted
 returns-in_err-accepted c =

@@ -6,7 +6,7 @@ use Rattle.event_maker.proofs.Walks.{listing_start, listing_room, end_answer, en
 use Rattle.event_maker.proofs.list_events.Goals as goal
 
 pub loop-p-init : goal.loop-p-init
-loop-p-init c = listing_start _ _ _ _ _ _ c.requires.floats_value c.requires.numbers_value (c.into_iter-p-iterator.ensures.into_iter_gives ∙ c.passed_points-p-items.ensures) c.list_places-places.ensures
+loop-p-init c = listing_start _ _ _ _ _ _ c.requires.floats_zero c.requires.numbers_zero (c.into_iter-p-iterator.ensures.into_iter_gives ∙ c.passed_points-p-items.ensures) c.list_places-places.ensures
 
 pub returns-then-is_bad : goal.returns-then-is_bad
 returns-then-is_bad c = record {
@@ -17,18 +17,18 @@ returns-then-is_bad c = record {
 
 pub offset_bounds-links-p : goal.offset_bounds-links-p
 unfolding course_of
-offset_bounds-links-p c = omega (arith, point_before c.loop-p.invariant c.in-Some.p _ c.in-Some.ensures.steps c.args.course.now.walkable, c.requires.points_in_bounds)
+offset_bounds-links-p c = omega (arith, point_before c.loop-p.invariant c.in-Some.p _ c.in-Some.ensures.steps c.args.course.now.walkable, c.requires.links_room)
 
 pub bounds-links-p : goal.bounds-links-p
 unfolding course_of
-bounds-links-p c = omega (arith, point_before c.loop-p.invariant c.in-Some.p _ c.in-Some.ensures.steps c.args.course.now.walkable, c.requires.points_in_bounds)
+bounds-links-p c = omega (arith, point_before c.loop-p.invariant c.in-Some.p _ c.in-Some.ensures.steps c.args.course.now.walkable, c.requires.links_room)
 
 pub list_event-requires : goal.list_event-requires
 list_event-requires c =
     let r = listing_room c.loop-p.invariant in
     record {
-      event_float_width_in_bounds = r.0;
-      event_number_width_in_bounds = r.1;
+      floats_room = r.0;
+      numbers_room = r.1;
     }
 
 pub overflow_add-count : goal.overflow_add-count

@@ -19,12 +19,6 @@ loop-i-init g c = record {
 pub returns-then-is_bad-2 : goal.returns-then-is_bad-2
 returns-then-is_bad-2 g c = λ bad fallen b f. sweep_bad _ bad fallen c.loop-i.i c.loop-i-test.true (sym (b c.loop-i.i true c.loop-i-test.true c.if-is_bad-2.ensures))
 
-pub falls-fell-requires : goal.falls-fell-requires
-falls-fell-requires g c =
-    let i = c.loop-i.i in
-    let e : i ≡ i - 1 + 1 = omega (arith, c.loop-i.auto.i) in
-    c.requires.falls (i - 1) (omega (arith, c.loop-i.auto.i, c.loop-i-test.true)) c.loop-i.invariant.before (subst (λ (k : ℕ). g.B.Fn.post c.args.is_bad (k, tt) false) e c.if-is_bad-2.ensures)
-
 pub loop-i-preserved : goal.loop-i-preserved
 loop-i-preserved g c =
     let i = c.loop-i.i in
