@@ -53,9 +53,6 @@ unfolding driven_from
 driven_is b places g = refl
 
 -- reals of the same length fit the plan
-pub all_plan : {b : List ℕ} {p : Plan} {n m : ℕ} → PlanIn b p n → m ≡ n → PlanIn b p m
-all_plan {b} {p} plan e = subst (PlanIn b p) (sym e) plan
-
 pub all_start : (fs : List Float) (us : List ℕ) (g : Rest) → g ≡ start_state → OnlyStart (node_at fs us) 2 → OnlyStart (node_at fs us) g.counts.nodes
 unfolding start_state
 all_start fs us g first s = subst (λ (x : Rest). OnlyStart (node_at fs us) x.counts.nodes) (sym first) s

@@ -43,10 +43,6 @@ pub front_link : {b : List ℕ} {p : Plan} {fs : List Float} {us : List ℕ} {re
     → PlanIn b p (length reals) → AtEnd b p (lists fs us reals cells joins) g front net run rest → (link : ℕ) → link ≡ link_of b front.leg → link < links b
 front_link {b} {front = front} plan a link e = subst (λ (l : ℕ). l < links b) (sym e) (link_named b plan.readable.indices front.leg (front_some plan a) (front_leg plan a))
 
--- a plan for a slice as long
-pub plan_same : {b : List ℕ} {p : Plan} {n m : ℕ} → m ≡ n → PlanIn b p n → PlanIn b p m
-plan_same {b} {p} e a = subst (PlanIn b p) (sym e) a
-
 -- ---- going on
 
 module _ {b : List ℕ} {p : Plan} {fs : List Float} {us : List ℕ} {reals : List Float} {cells : List ℕ} {joins : List EstJoinPath} {g : Rest} {front : Front} {net : Net} {run : Run} {rest : List Run}

@@ -20,7 +20,7 @@ use Rattle.grow_waiting.proofs.Kept.{Undisturbed, saved_same}
 use Rattle.grow_rules.specs.Run.{Run}
 use Rattle.grow_events.proofs.Kept.{valid_more}
 use Rattle.grow_state.specs.declared.Plan.{Plan}
-use Rattle.grow_state.specs.Held.{PlanIn, WaitIn, AllSound, Lists, TurnedAs}
+use Rattle.grow_state.specs.Held.{PlanIn, RealsRoom, WaitIn, AllSound, Lists, TurnedAs}
 
 -- ---- the plan
 
@@ -31,6 +31,28 @@ module _ {b : List ℕ} {p : Plan} {n : ℕ} (a : PlanIn b p n) where
   -- the legs' units stand before the nodes'
   pub plan_room : (p.r.legs + 1) * 8 ≤ p.r.nodes_at
   plan_room = omega (arith, a.all_legs, a.nodes_at, a.same_nodes)
+
+  -- more reals have room too
+  pub plan_more : (m : ℕ) → n ≤ m → PlanIn b p m
+  plan_more m h = record {
+    whole = a.whole;
+    readable = a.readable;
+    row7 = a.row7;
+    join = a.join;
+    departs = a.departs;
+    train = a.train;
+    all_links = a.all_links;
+    all_legs = a.all_legs;
+    nodes_at = a.nodes_at;
+    same_nodes = a.same_nodes;
+    same_places = a.same_places;
+    pairs_at = a.pairs_at;
+    pairs = omega (arith, a.pairs, h);
+  }
+
+-- what a planned book says of reals that have its room
+pub planned_in : {b : List ℕ} {p : Plan} (reals : List Float) → PlanIn b p (legs b * 3 + 4) → RealsRoom b reals → PlanIn b p (length reals)
+planned_in reals a h = plan_more a (length reals) h
 
 -- ---- the chains: all cells of the legs' units but the path's
 

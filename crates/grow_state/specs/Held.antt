@@ -79,6 +79,11 @@ pub record PlanIn (b : List ℕ) (p : Plan) (reals : ℕ) : Type 0 where
   pub pairs_at : p.r.pairs_at ≡ legs b + 2
   pub pairs : p.r.pairs_at + p.r.legs * 2 + 2 ≤ reals
 
+-- The room that a book's plan takes of the reals. Stands in contracts, not in PlannedBook: the reals are lent to be
+-- written, and a struct that held them would be taken apart at each call that writes them.
+abbrev pub RealsRoom : List ℕ → List Float → Type 0
+RealsRoom b reals = legs b * 3 + 4 ≤ length reals
+
 -- ---- the runs
 
 -- the path of a run before its leg, and how many legs that has

@@ -9,6 +9,10 @@ use grow_waiting::Rooms;
 use net_event_map::Layout;
 use net_join_paths::JoinPaths;
 
+mod planned_book;
+
+pub use planned_book::PlannedBook;
+
 // What growth goes by: where the work space has what, and the three floats at the book's head.
 #[derive(Clone, Copy)]
 pub struct Plan {

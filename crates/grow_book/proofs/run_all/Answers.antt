@@ -1,19 +1,15 @@
 -- `grow_book::run_all` meets its contract: proofs/Growing.antt.
 use native.Mathlib.Omega.{arith}
 use Rattle.grow_book.proofs.Closing.{grown_refused}
-use Rattle.grow_book.proofs.Growing.{all_some, all_start, all_plan, all_stopped, all_from, all-refused, all-closing, all_grown}
+use Rattle.grow_book.proofs.Growing.{all_some, all_start, all_stopped, all_from, all-refused, all-closing, all_grown}
 use Rattle.grow_book.proofs.run_all.Goals as goal
 
 pub origins-requires : goal.origins-requires
 origins-requires c = let r = c.requires in
     record {
-      plan_in = r.plan_in;
-      options_in = r.options_in;
-      book_in_bounds = r.book_in_bounds;
-      kept_value = r.kept_value;
+      reals_room = r.reals_room;
       some_origins = all_some _ _ _ _ _ _ _ _ c.first_state-g.ensures r.at_start;
       only_start = all_start _ _ _ c.first_state-g.ensures r.only_start;
-      started = r.started;
     }
 
 pub returns-in_err-rest : goal.returns-in_err-rest
@@ -25,9 +21,7 @@ drive-requires c =
     let r = c.requires in
     let o = c.origins in
     record {
-      plan_in = all_plan r.plan_in (omega (arith, o.auto));
-      options_in = r.options_in;
-      book_in_bounds = omega (arith, r.book_in_bounds);
+      reals_room = omega (arith, r.reals_room, o.auto);
       from_origins = all_from _ _ _ _ _ _ _ _ c.first_state-g.ensures _ _ _ _ _ o.result o.ensures _ c.in_ok-rest.was r.at_start;
     }
 
