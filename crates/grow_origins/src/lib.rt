@@ -33,7 +33,7 @@ pub use starting_book::StartingBook;
 // What growth goes by. The legs' units of cells stand first, then the nodes', then the links'; the path's points stand
 // first in the reals, then the pairs of the runs that wait.
 pub fn plan_of(book: &ReadableBook, places: usize) -> Plan
-    requires book_value { row7 book.now ≡ false }
+    requires row7 { row7 book.now ≡ false }
     requires places_bound { places ≤ 65535 }
     ensures plan { (reals : ℕ) → legs book.now * 3 + 4 ≤ reals
         → PlanIn book.now result reals }

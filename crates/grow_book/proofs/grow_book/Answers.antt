@@ -10,7 +10,7 @@ returns-then-places-lt2 c = book_small _ _ c.places-places.ensures c.if-places-l
 pub plan_of-plan-requires : goal.plan_of-plan-requires
 plan_of-plan-requires c = let r = c.requires.ready in
     record {
-      book_value = r.row7;
+      row7 = r.row7;
       places_bound = (places_fit c.places-places.ensures).most;
     }
 
@@ -51,8 +51,10 @@ run_all-requires c =
     let plan = p.plan (length c.start_path.new.reals) (omega (arith, r.reals_room, c.start_path.auto)) in
     record {
       reals_room = omega (arith, r.reals_room, c.start_path.auto);
-      at_start = book_at_start r.ready _ _ plan c.start_path.ensures c.args.floats.now c.args.numbers.now _ c.places-places.ensures p.places c.if-places-lt2.false p.links r.cells_room _ _ f.floats f.numbers _;
-      only_start = book_start c.args.floats.now c.args.numbers.now _ c.places-places.ensures c.if-places-lt2.false _ _ _ f.floats f.numbers;
+      at_start = book_at_start r.ready _ _ plan c.start_path.ensures c.args.floats.now c.args.numbers.now _
+          c.places-places.ensures p.places c.if-places-lt2.false p.links r.cells_room _ _ f.floats f.numbers _;
+      only_start = book_start c.args.floats.now c.args.numbers.now _ c.places-places.ensures c.if-places-lt2.false _ _ _
+          f.floats f.numbers;
     }
 
 pub returns : goal.returns
@@ -61,4 +63,6 @@ returns c =
     let p = c.plan_of-plan.ensures in
     let f = c.first_nodes.ensures in
     let a = c.run_all in
-    book_grown r.ready _ _ (p.plan (length c.start_path.new.reals) (omega (arith, r.reals_room, c.start_path.auto))) c.start_path.ensures c.args.floats.now c.args.numbers.now _ c.places-places.ensures p.places c.if-places-lt2.false p.links r.cells_room _ _ f.floats f.numbers _ _ _ a.result a.ensures
+    book_grown r.ready _ _ (p.plan (length c.start_path.new.reals) (omega (arith, r.reals_room, c.start_path.auto)))
+    c.start_path.ensures c.args.floats.now c.args.numbers.now _ c.places-places.ensures p.places c.if-places-lt2.false
+    p.links r.cells_room _ _ f.floats f.numbers _ _ _ a.result a.ensures

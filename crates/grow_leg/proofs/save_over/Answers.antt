@@ -6,7 +6,8 @@ use native.Mathlib.Omega.{arith}
 use Rattle.book_format.specs.Format.{legs}
 use Rattle.book_format.specs.Chains.{Chained}
 use Rattle.grow_state.proofs.Keeping.{plan_legs, plan_room, planned_in}
-use Rattle.grow_leg.proofs.GoingOn.{saved_refused, front_leg, front_depth, front_used, save_none, save_full, save_leg, save-gives}
+use Rattle.grow_leg.proofs.GoingOn.{saved_refused, front_leg, front_depth, front_used, save_none, save_full, save_leg}
+use Rattle.grow_leg.proofs.GoingOn.{save-gives}
 use Rattle.grow_leg.proofs.save_over.Goals as goal
 
 pub take_leg-requires : goal.take_leg-requires
@@ -23,7 +24,8 @@ pub returns-in_err-leg : goal.returns-in_err-leg
 returns-in_err-leg c =
     let plan = planned_in _ c.args.p.now.planned c.requires.reals_room in
     λ fs us net run rest a f.
-    saved_refused _ _ _ _ _ _ _ _ _ c.from_residual.result _ c.from_residual.ensures.1 (save_none plan a _ c.book.ensures.is c.take_leg.result c.take_leg.ensures _ c.in_err-leg.was)
+    saved_refused _ _ _ _ _ _ _ _ _ c.from_residual.result _ c.from_residual.ensures.1
+    (save_none plan a _ c.book.ensures.is c.take_leg.result c.take_leg.ensures _ c.in_err-leg.was)
 
 pub waiting_entries-used-requires : goal.waiting_entries-used-requires
 waiting_entries-used-requires c =
@@ -35,7 +37,8 @@ waiting_entries-used-requires c =
 pub returns-then-r-used : goal.returns-then-r-used
 returns-then-r-used c =
     let plan = planned_in _ c.args.p.now.planned c.requires.reals_room in
-    λ fs us net run rest a f. save_full plan a _ c.book.ensures.is c.take_leg.result c.take_leg.ensures _ c.in_ok-leg.was (omega (arith, c.if-r-used.true, c.waiting_entries-used.ensures, c.len.ensures.value))
+    λ fs us net run rest a f. save_full plan a _ c.book.ensures.is c.take_leg.result c.take_leg.ensures _
+    c.in_ok-leg.was (omega (arith, c.if-r-used.true, c.waiting_entries-used.ensures, c.len.ensures.value))
 
 pub overflow_add-front : goal.overflow_add-front
 overflow_add-front c =
@@ -51,7 +54,7 @@ save-requires c =
     record {
       places_in_bounds = omega (arith, a.grown.apart.nodes_inside, plan.same_nodes, plan.same_places);
       legs_bound = plan_room plan;
-      legs_in_bounds = plan.pairs;
+      pairs_in_bounds = plan.pairs;
       leg_le_legs = l.1;
       leg_nonzero = l.0;
       all_legs_bound = omega (arith, plan.all_legs, plan_legs plan);
@@ -66,4 +69,6 @@ returns c =
     let v = c.save in
     let n = c.waiting_entries-used.ensures in
     let m = c.len.ensures.value in
-    λ fs us net run rest a f. save-gives plan a _ c.book.ensures.is c.take_leg.result c.take_leg.ensures _ c.in_ok-leg.was (omega (arith, c.if-r-used.false, n, m)) _ _ (omega (arith, v.auto)) v.ensures.elsewhere v.ensures.saved f _ (omega (arith, n, m))
+    λ fs us net run rest a f. save-gives plan a _ c.book.ensures.is c.take_leg.result c.take_leg.ensures _
+    c.in_ok-leg.was (omega (arith, c.if-r-used.false, n, m)) _ _
+    (omega (arith, v.auto)) v.ensures.elsewhere v.ensures.saved f _ (omega (arith, n, m))

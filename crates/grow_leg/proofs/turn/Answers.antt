@@ -19,7 +19,8 @@ end_leg-requires c =
     let d = (some_front s.driving).holds in
     record {
       reals_room = omega (arith, s.reals_room, v.auto);
-      some_way = took_way plan d _ _ _ _ _ (omega (arith, v.auto)) v.result (v.ensures.walked _ _ _ _ d) v.ensures.more _ _ (c.in_ok-became.was ∙ ap Ok c.in-On.is);
+      some_way = took_way plan d _ _ _ _ _ (omega (arith, v.auto)) v.result
+          (v.ensures.walked _ _ _ _ d) v.ensures.more _ _ (c.in_ok-became.was ∙ ap Ok c.in-On.is);
     }
 
 pub returns-in_err-became : goal.returns-in_err-became
@@ -29,14 +30,16 @@ returns-in_err-became c =
     let v = c.walk_leg in
     λ path net run saved d.
     turned_refused _ _ _ _ c.from_residual.result _ c.from_residual.ensures.1
-    (take_refused plan d _ _ _ _ _ (omega (arith, v.auto)) v.result (v.ensures.walked path net run saved d) v.ensures.more _ c.in_err-became.was)
+    (take_refused plan d _ _ _ _ _ (omega (arith, v.auto)) v.result
+    (v.ensures.walked path net run saved d) v.ensures.more _ c.in_err-became.was)
 
 pub returns-in-Ended : goal.returns-in-Ended
 returns-in-Ended c =
     let plan = planned_in _ c.args.p.now.planned c.requires.reals_room in
     let s = c.requires in
     let v = c.walk_leg in
-    λ path net run saved d. take_ended plan d _ _ _ _ _ (omega (arith, v.auto)) v.result (v.ensures.walked path net run saved d) v.ensures.more _ (c.in_ok-became.was ∙ ap Ok c.in-Ended.is)
+    λ path net run saved d. take_ended plan d _ _ _ _ _ (omega (arith, v.auto)) v.result
+    (v.ensures.walked path net run saved d) v.ensures.more _ (c.in_ok-became.was ∙ ap Ok c.in-Ended.is)
 
 pub returns-in-On : goal.returns-in-On
 returns-in-On c =
@@ -45,6 +48,9 @@ returns-in-On c =
     let v = c.walk_leg in
     let e = c.end_leg in
     λ path net run saved d.
-    take_on plan d _ _ _ _ _ (omega (arith, v.auto)) v.result (v.ensures.walked path net run saved d) v.ensures.more _ _ (c.in_ok-became.was ∙ ap Ok c.in-On.is) _ _ e.result
-    (e.ensures _ _ saved (took_ends plan d _ _ _ _ _ (omega (arith, v.auto)) v.result (v.ensures.walked path net run saved d) v.ensures.more _ _ (c.in_ok-became.was ∙ ap Ok c.in-On.is))
-    (took_free plan d _ _ _ _ _ (omega (arith, v.auto)) v.result (v.ensures.walked path net run saved d) v.ensures.more _ _ (c.in_ok-became.was ∙ ap Ok c.in-On.is)))
+    take_on plan d _ _ _ _ _ (omega (arith, v.auto)) v.result (v.ensures.walked path net run saved d) v.ensures.more _ _
+    (c.in_ok-became.was ∙ ap Ok c.in-On.is) _ _ e.result
+    (e.ensures _ _ saved (took_ends plan d _ _ _ _ _ (omega (arith, v.auto)) v.result
+    (v.ensures.walked path net run saved d) v.ensures.more _ _ (c.in_ok-became.was ∙ ap Ok c.in-On.is))
+    (took_free plan d _ _ _ _ _ (omega (arith, v.auto)) v.result
+    (v.ensures.walked path net run saved d) v.ensures.more _ _ (c.in_ok-became.was ∙ ap Ok c.in-On.is)))

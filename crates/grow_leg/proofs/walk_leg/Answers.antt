@@ -7,12 +7,16 @@ use Rattle.book_format.specs.Format.{legs, leg_at, samples_at_of}
 use Rattle.event_walk.specs.Course.{course_of}
 use Rattle.grow_path.specs.Kept.{movement_on}
 use Rattle.grow_state.proofs.Keeping.{plan_legs, planned_in}
-use Rattle.grow_leg.proofs.Walking.{Looks, some_front, some_leg, leg_inside, depth_inside, link_inside, samples_inside, section_inside, walk_held, walk_sound, walk_refused, walk_walkable, walk_path, walk_moving, walk_goes}
+use Rattle.grow_leg.proofs.Walking.{Looks, some_front, some_leg, leg_inside, depth_inside, link_inside, samples_inside}
+use Rattle.grow_leg.proofs.Walking.{section_inside, walk_held, walk_sound, walk_refused, walk_walkable, walk_path}
+use Rattle.grow_leg.proofs.Walking.{walk_moving, walk_goes}
 use Rattle.grow_leg.proofs.walk_leg.Goals as goal
 use Rattle.grow_leg.proofs.walk_leg.Goals.{After-movement_of-movement}
 
 -- what was read of the leg
-abbrev looks : (c : After-movement_of-movement) → Looks c.args.p.now.book.now c.args.p.now.plan c.args.reals.now c.args.cells.now c.args.front c.extend_path.new.reals c.extend_path.new.cells c.movement_of-movement.result
+abbrev looks : (c : After-movement_of-movement)
+    → Looks c.args.p.now.book.now c.args.p.now.plan c.args.reals.now c.args.cells.now c.args.front
+    c.extend_path.new.reals c.extend_path.new.cells c.movement_of-movement.result
 looks c =
     let e = c.book-rows.ensures.is in
     record {
@@ -24,7 +28,8 @@ looks c =
       cells_then = c.extend_path.ensures.cells;
       bytes = c.bytes-samples.result.now;
       same = c.bytes-samples.ensures.is ∙ e;
-      moves = c.movement_of-movement.ensures ∙ ap (λ (b : List ℕ). movement_on b c.leg_samples-taken.result (c.args.front.depth + 1) c.args.p.now.plan.length) e;
+      moves = c.movement_of-movement.ensures ∙ ap (λ (b : List ℕ). movement_on b c.leg_samples-taken.result
+          (c.args.front.depth + 1) c.args.p.now.plan.length) e;
     }
 
 pub overflow_sub-front : goal.overflow_sub-front
@@ -53,9 +58,10 @@ extend_path-requires c =
     let d = (some_front s.driving).holds in
     let n = depth_inside plan d in
     record {
-      depth_in_bounds = omega (arith, n, plan.pairs, plan.pairs_at);
-      depth_in_bounds_2 = omega (arith, n, d.chained.room);
-      link_idx_bound = link_inside plan d c.leg_at-leg.result (c.leg_at-leg.ensures ∙ ap (λ (b : List ℕ). leg_at b (c.args.front.leg - 1)) c.book-rows.ensures.is);
+      point_in_bounds = omega (arith, n, plan.pairs, plan.pairs_at);
+      cell_in_bounds = omega (arith, n, d.chained.room);
+      link_idx_bound = link_inside plan d c.leg_at-leg.result
+          (c.leg_at-leg.ensures ∙ ap (λ (b : List ℕ). leg_at b (c.args.front.leg - 1)) c.book-rows.ensures.is);
     }
 
 pub overflow_add-front : goal.overflow_add-front
@@ -84,14 +90,20 @@ reaches_last-requires c =
     let d = (some_front s.driving).holds in
     let k = looks (goal.at.reaches_last-requires c).After-movement_of-movement in
     let w = walk_sound plan d k in
-    record { held = walk_held plan d k; points_nonzero = w.some_points; samples_nonzero = w.some; rises = w.samples_rise }
+    record {
+      held = walk_held plan d k;
+      points_nonzero = w.some_points;
+      samples_nonzero = w.some;
+      rises = w.samples_rise;
+    }
 
 pub returns-then-reaches_last : goal.returns-then-reaches_last
 returns-then-reaches_last c =
     let plan = planned_in _ c.args.p.now.planned c.requires.reals_room in
     let k = looks (goal.at.returns-then-reaches_last c).After-movement_of-movement in
     record {
-      walked = λ path net run saved d. walk_refused plan d k c.reaches_last.result c.reaches_last.ensures c.if-reaches_last.true _ _ _;
+      walked = λ path net run saved d. walk_refused plan d k c.reaches_last.result c.reaches_last.ensures
+          c.if-reaches_last.true _ _ _;
       more = tt;
     }
 
@@ -101,7 +113,11 @@ invariant_of-course c =
     let s = c.requires in
     let d = (some_front s.driving).holds in
     let k = looks (goal.at.invariant_of-course c).After-movement_of-movement in
-    record { held = walk_held plan d k; walkable = walk_walkable plan d k c.reaches_last.result c.reaches_last.ensures c.if-reaches_last.false }
+    record {
+      held = walk_held plan d k;
+      walkable = walk_walkable plan d k c.reaches_last.result c.reaches_last.ensures
+          c.if-reaches_last.false;
+    }
 
 pub run_events-requires : goal.run_events-requires
 run_events-requires c =
@@ -121,6 +137,7 @@ returns c =
     let v = c.run_events in
     record {
       walked = λ path net run saved d.
-          walk_goes plan d k c.reaches_last.result c.reaches_last.ensures c.if-reaches_last.false v.new.floats v.new.numbers v.new.cells v.new.joins.items v.result v.ensures.outcome;
+          walk_goes plan d k c.reaches_last.result c.reaches_last.ensures c.if-reaches_last.false v.new.floats
+          v.new.numbers v.new.cells v.new.joins.items v.result v.ensures.outcome;
       more = v.ensures.more;
     }
