@@ -17,7 +17,8 @@ use Rattle.arcs_growth.specs.Read.{SomeKept, Read}
 pub read_rows_lem : (b : List ℕ) → row5 b ≡ false → some_below (legs b) (bad_leg b) ≡ false → row8 b ≡ false → Read b
 unfolding row8
 read_rows_lem b five seven eight = record {
-  kept = some (kept_origins b) (none_right (some_below (destinations b) (λ i. eqb (destination_link b i) 0)) (none (kept_origins b)) eight);
+  kept = some (kept_origins b) (none_right (some_below (destinations b) (λ i. eqb (destination_link b i) 0))
+      (none (kept_origins b)) eight);
   parents = leg_above b seven;
   forks = λ i h e. next_alone b five (leg_link b i) (leg_named b five i h) e;
 }

@@ -1,4 +1,5 @@
--- What the definitions of arcs, runs and ends tell apart, in small cases: networks of a few nodes, and one arc or run each that is right or wrong in one thing.
+-- What the definitions of arcs, runs and ends tell apart, in small cases: networks of a few nodes, and one arc or run
+-- each that is right or wrong in one thing.
 use mathlib.Core.Path.{◌≡◌, refl, ap}
 use mathlib.Core.Logic.{◌⊎◌, inl, inr}
 use mathlib.Core.List.{List, [], ◌∷◌}
@@ -57,7 +58,8 @@ unfolding source_of is_owned owners alternative_of blank
 source_start = refl
 
 -- of node 2, an event, over another split Fake
-source_event : source_of (network (fake 1 0 ∷ fake 2 0 ∷ with_next_alt (event 5) 3 ∷ fake 5 4 ∷ fake 5 0 ∷ fake 0 0 ∷ [])) 6 6 4 ≡ 2
+source_event : source_of (network (fake 1 0 ∷ fake 2 0 ∷ with_next_alt
+    (event 5) 3 ∷ fake 5 4 ∷ fake 5 0 ∷ fake 0 0 ∷ [])) 6 6 4 ≡ 2
 unfolding source_of is_owned owners alternative_of blank
 source_event = refl
 
@@ -85,7 +87,12 @@ source_ring = refl
 
 -- an event on a link, at so many seconds and metres by their patterns
 abbrev happens : ℕ → ℕ → ℕ → TimedEvent
-happens link time offset = record { time = of_bits binary64 time; offset = of_bits binary64 offset; speed = of_bits binary64 0; link_event = record { link_idx = link; est_type = Arrive } }
+happens link time offset = record {
+  time = of_bits binary64 time;
+  offset = of_bits binary64 offset;
+  speed = of_bits binary64 0;
+  link_event = record { link_idx = link; est_type = Arrive };
+}
 
 -- 1, 2 and 3 as patterns
 abbrev one : ℕ
@@ -102,7 +109,12 @@ abbrev nodes : List ℕ
 nodes = 2 ∷ 3 ∷ 5 ∷ []
 
 abbrev arc_with : ℕ → ℕ → ℕ → ℕ → Arc
-arc_with from to time distance = record { from = from; to = to; time = of_bits binary64 time; distance = of_bits binary64 distance }
+arc_with from to time distance = record {
+  from = from;
+  to = to;
+  time = of_bits binary64 time;
+  distance = of_bits binary64 distance;
+}
 
 -- the second arc: from node 3 to node 5 in 2 s over 2 m
 leads_second : LeadsOn events nodes (arc_with 3 5 two two)

@@ -18,7 +18,8 @@ use Rattle.grow_rules.specs.Run.{Arc, EndedRun, member_of}
 use Rattle.grow_rules.specs.Growth.{fake_node, leads_to_end, room_for, end_fakes}
 use Rattle.net_node.specs.Left.{Network}
 use Rattle.laws.proofs.Members.{All}
-use Rattle.arcs_growth.proofs.Labels.{stop, base_role, receives, itself, Labels, Extends, labelled, labelled_old, new_role, new_goal}
+use Rattle.arcs_growth.proofs.Labels.{stop, base_role, receives, itself, Labels, Extends, labelled, labelled_old}
+use Rattle.arcs_growth.proofs.Labels.{new_role, new_goal}
 use Rattle.arcs_growth.proofs.NewNodes.{Attached}
 use Rattle.arcs_growth.proofs.Weights.{arc_there, arc_out}
 use Rattle.arcs_growth.proofs.Graphs.{Graph, Timed, stop_graph}
@@ -36,13 +37,15 @@ pub record Linked (node : ℕ → EstTime) (n m : ℕ) : Type 0 where
   pub prev_alt : (i : ℕ) → i < n → (node i).idx_prev_alt < n
 
 -- the network with these ends left; the last end Fake's next is the node to come
-pub record Ending (b : List ℕ) (places : ℕ) (runs : List EndedRun) (arcs : List Arc) (k : ℕ) (is : List ℕ) (alt : ℕ) (t : Network) : Type 0 where
+pub record Ending (b : List ℕ) (places : ℕ) (runs : List EndedRun) (arcs : List Arc) (k : ℕ) (is : List ℕ) (alt : ℕ)
+    (t : Network) : Type 0 where
   pub labels : Labels
   pub room : RoomIn t.table places
   pub graph : Graph labels (at t.table) t.nodes is arcs k
   pub ended : (i : ℕ) → member_of is i ≡ true → EndAt labels (at t.table) t.nodes i
   pub distinct : Distinct is
-  pub closed : (i : ℕ) → i < t.nodes → base_role (labels.role i) ≡ true → (at t.table i).idx_next ≡ 0 → member_of is i ≡ true
+  pub closed : (i : ℕ) → i < t.nodes → base_role (labels.role i) ≡ true → (at t.table i).idx_next ≡ 0
+      → member_of is i ≡ true
   pub notes : All (Notes b (at t.table) t.nodes [] runs) arcs
   pub taken : AllTaken b (at t.table) t.nodes runs
   pub before : 0 < alt → (alt < t.nodes) × (receives (labels.role alt) ≡ true)
@@ -54,7 +57,8 @@ end_table i alt t =
     put (put t.table t.nodes (fake_node (suc t.nodes) i alt (of_bits binary64 0))) i
     (leads_to_end (at (put t.table t.nodes (fake_node (suc t.nodes) i alt (of_bits binary64 0))) i) t.nodes)
 
-module _ {b : List ℕ} {places : ℕ} {runs : List EndedRun} {arcs : List Arc} {k : ℕ} (i : ℕ) (is : List ℕ) (alt : ℕ) (t : Network) (d : Ending b places runs arcs k (i ∷ is) alt t) (more : t.nodes < places) where
+module _ {b : List ℕ} {places : ℕ} {runs : List EndedRun} {arcs : List Arc} {k : ℕ} (i : ℕ) (is : List ℕ) (alt : ℕ)
+    (t : Network) (d : Ending b places runs arcs k (i ∷ is) alt t) (more : t.nodes < places) where
   abbrev n : ℕ
   n = t.nodes
 
@@ -92,15 +96,19 @@ module _ {b : List ℕ} {places : ℕ} {runs : List EndedRun} {arcs : List Arc} 
   one_room = put_room t.table n fake places d.room
 
   at_new : at two n ≡ fake
-  at_new = put_other one i (leads_to_end (at one i) n) n (λ (q : n ≡ i). omega (arith, inside)) ∙ put_same t.table n fake places d.room more
+  at_new = put_other one i (leads_to_end (at one i) n) n (λ (q : n ≡ i). omega (arith, inside))
+      ∙ put_same t.table n fake places d.room more
 
   at_end : at two i ≡ leads_to_end (node i) n
-  at_end = put_same one i (leads_to_end (at one i) n) places one_room (omega (arith, inside)) ∙ ap (λ (z : EstTime). leads_to_end z n) (put_other t.table n fake i (λ (q : i ≡ n). omega (arith, inside)))
+  at_end = put_same one i (leads_to_end (at one i) n) places one_room (omega (arith, inside))
+      ∙ ap (λ (z : EstTime). leads_to_end z n) (put_other t.table n fake i (λ (q : i ≡ n). omega (arith, inside)))
 
   at_other : (j : ℕ) → j < n → (j ≡ i → ⊥) → at two j ≡ node j
-  at_other j h q = put_other one i (leads_to_end (at one i) n) j q ∙ put_other t.table n fake j (λ (e : j ≡ n). omega arith)
+  at_other j h q = put_other one i (leads_to_end (at one i) n) j q
+      ∙ put_other t.table n fake j (λ (e : j ≡ n). omega arith)
 
-  column : {A : Type 0} (f : EstTime → A) → f (leads_to_end (node i) n) ≡ f (node i) → (j : ℕ) → j < n → f (at two j) ≡ f (node j)
+  column : {A : Type 0} (f : EstTime → A) → f (leads_to_end (node i) n) ≡ f (node i) → (j : ℕ) → j < n
+      → f (at two j) ≡ f (node j)
   column f s j h = go (equal_or_not j i)
     where
       go : (j ≡ i) ⊎ (j ≡ i → ⊥) → f (at two j) ≡ f (node j)
@@ -119,14 +127,20 @@ module _ {b : List ℕ} {places : ℕ} {runs : List EndedRun} {arcs : List Arc} 
     other = λ j h q. ap (λ (z : EstTime). z.idx_next) (at_other j h q);
     alt = column (λ (z : EstTime). z.idx_next_alt) refl;
     prev = column (λ (z : EstTime). z.idx_prev) refl;
-    kept = record { event = column (λ (z : EstTime). z.link_event) refl; speed = column (λ (z : EstTime). z.speed) refl };
+    kept = record {
+      event = column (λ (z : EstTime). z.link_event) refl;
+      speed = column (λ (z : EstTime). z.speed) refl;
+    };
     prev_alt = λ j h. inl (column (λ (z : EstTime). z.idx_prev_alt) refl j h);
     new_alt = ap (λ (z : EstTime). z.idx_next_alt) at_new;
     new_prev = ap (λ (z : EstTime). z.idx_prev) at_new;
   }
 
   timed : Timed node (at two) n i
-  timed = record { time = λ j h q. ap (λ (z : EstTime). z.time_to_next) (at_other j h q); distance = λ j h q. ap (λ (z : EstTime). z.dist_to_next) (at_other j h q) }
+  timed = record {
+    time = λ j h q. ap (λ (z : EstTime). z.time_to_next) (at_other j h q);
+    distance = λ j h q. ap (λ (z : EstTime). z.dist_to_next) (at_other j h q);
+  }
 
   arc_is : arc_out L i ≡ arc_there M (at two) i
   unfolding arc_out arc_there leads_to_end
@@ -162,31 +176,41 @@ module _ {b : List ℕ} {places : ℕ} {runs : List EndedRun} {arcs : List Arc} 
   }
     where
       next : (j : ℕ) → (j < n) ⊎ (j ≡ n) → (j ≡ i) ⊎ (j ≡ i → ⊥) → (at two j).idx_next < suc (suc n)
-      next j (inr e) q = let c : (at two j).idx_next ≡ suc n = ap (λ (m : ℕ). (at two m).idx_next) e ∙ new_fake.1 in omega arith
-      next j (inl h) (inl q) = let c : (at two j).idx_next ≡ n = ap (λ (m : ℕ). (at two m).idx_next) q ∙ attached.here in omega arith
+      next j (inr e) q = let c : (at two j).idx_next ≡ suc n = ap (λ (m : ℕ). (at two m).idx_next) e ∙ new_fake.1 in
+          omega arith
+      next j (inl h) (inl q) = let c : (at two j).idx_next ≡ n =
+          ap (λ (m : ℕ). (at two m).idx_next) q ∙ attached.here in omega arith
       next j (inl h) (inr q) = let c = attached.other j h q in let l = d.linked.next j h in omega arith
 
       next_alt : (j : ℕ) → (j < n) ⊎ (j ≡ n) → (at two j).idx_next_alt < suc n
-      next_alt j (inr e) = let c : (at two j).idx_next_alt ≡ 0 = ap (λ (m : ℕ). (at two m).idx_next_alt) e ∙ attached.new_alt in omega arith
+      next_alt j (inr e) = let c : (at two j).idx_next_alt ≡ 0 =
+          ap (λ (m : ℕ). (at two m).idx_next_alt) e ∙ attached.new_alt in omega arith
       next_alt j (inl h) = let c = attached.alt j h in let l = d.linked.next_alt j h in omega arith
 
       prev : (j : ℕ) → (j < n) ⊎ (j ≡ n) → (at two j).idx_prev < suc n
-      prev j (inr e) = let c : (at two j).idx_prev ≡ i = ap (λ (m : ℕ). (at two m).idx_prev) e ∙ attached.new_prev in let l = inside in omega arith
+      prev j (inr e) = let c : (at two j).idx_prev ≡ i = ap (λ (m : ℕ). (at two m).idx_prev) e ∙ attached.new_prev in
+          let l = inside in omega arith
       prev j (inl h) = let c = attached.prev j h in let l = d.linked.prev j h in omega arith
 
       named : (at two n).idx_prev_alt ≡ alt
       named = ap (λ (z : EstTime). z.idx_prev_alt) at_new
 
       prev_alt : (j : ℕ) → (j < n) ⊎ (j ≡ n) → (alt ≡ 0) ⊎ (alt ≡ 0 → ⊥) → (at two j).idx_prev_alt < suc n
-      prev_alt j (inr e) (inl z) = let c : (at two j).idx_prev_alt ≡ alt = ap (λ (m : ℕ). (at two m).idx_prev_alt) e ∙ named in omega arith
-      prev_alt j (inr e) (inr z) = let c : (at two j).idx_prev_alt ≡ alt = ap (λ (m : ℕ). (at two m).idx_prev_alt) e ∙ named in let l : alt < n = (d.before (omega arith)).0 in omega arith
-      prev_alt j (inl h) z = let c : (at two j).idx_prev_alt ≡ (node j).idx_prev_alt = column (λ (y : EstTime). y.idx_prev_alt) alt_stays j h in let l = d.linked.prev_alt j h in omega arith
+      prev_alt j (inr e) (inl z) = let c : (at two j).idx_prev_alt ≡ alt =
+          ap (λ (m : ℕ). (at two m).idx_prev_alt) e ∙ named in omega arith
+      prev_alt j (inr e) (inr z) = let c : (at two j).idx_prev_alt ≡ alt =
+          ap (λ (m : ℕ). (at two m).idx_prev_alt) e ∙ named in let l : alt < n = (d.before (omega arith)).0 in
+          omega arith
+      prev_alt j (inl h) z = let c : (at two j).idx_prev_alt ≡ (node j).idx_prev_alt =
+          column (λ (y : EstTime). y.idx_prev_alt) alt_stays j h in let l = d.linked.prev_alt j h in omega arith
 
   end_keeps : Ending b places runs arcs k is n (record { table = two; nodes = suc n })
   end_keeps = record {
     labels = M;
     room = put_room one i (leads_to_end (at one i) n) places one_room;
-    graph = subst (Graph M (at two) (suc n) is arcs) (omega arith) (stop_graph d.graph attached timed (self_base (L.role i) end.self) end.empty (λ a q r. chained a q r) is head rest new_fake.0 new_fake.1 arc_is);
+    graph = subst (Graph M (at two) (suc n) is arcs) (omega arith)
+        (stop_graph d.graph attached timed (self_base (L.role i) end.self) end.empty
+        (λ a q r. chained a q r) is head rest new_fake.0 new_fake.1 arc_is);
     ended = λ j m. ended j m (equal_or_not j i);
     distinct = d.distinct.1;
     closed = λ j h p z. closed j p z (below j n h) (equal_or_not j i);
@@ -201,25 +225,36 @@ module _ {b : List ℕ} {places : ℕ} {runs : List EndedRun} {arcs : List Arc} 
       ended j m (inr q) =
           let o = d.ended j (or_right (eqb i j) (member_of is j) m) in
           let w = o.within in
-          record { within = omega arith; empty = attached.other j o.within q ∙ o.empty; self = ap itself (x.role j o.within) ∙ o.self }
+          record {
+            within = omega arith;
+            empty = attached.other j o.within q ∙ o.empty;
+            self = ap itself (x.role j o.within) ∙ o.self;
+          }
 
-      closed : (j : ℕ) → base_role (M.role j) ≡ true → (at two j).idx_next ≡ 0 → (j < n) ⊎ (j ≡ n) → (j ≡ i) ⊎ (j ≡ i → ⊥) → member_of is j ≡ true
+      closed : (j : ℕ) → base_role (M.role j) ≡ true → (at two j).idx_next ≡ 0 → (j < n) ⊎ (j ≡ n)
+          → (j ≡ i) ⊎ (j ≡ i → ⊥) → member_of is j ≡ true
       closed j p z (inr e) q = not_both p (ap base_role (ap M.role e ∙ new_role L n stop 0 0 0))
-      closed j p z (inl h) (inl q) = let c : (at two j).idx_next ≡ n = ap (λ (m : ℕ). (at two m).idx_next) q ∙ attached.here in let w = d.graph.laid.two in absurd (omega arith)
-      closed j p z (inl h) (inr q) = rest j q ∙ d.closed j h (ap base_role (sym (x.role j h)) ∙ p) (sym (attached.other j h q) ∙ z)
+      closed j p z (inl h) (inl q) = let c : (at two j).idx_next ≡ n =
+          ap (λ (m : ℕ). (at two m).idx_next) q ∙ attached.here in let w = d.graph.laid.two in absurd (omega arith)
+      closed j p z (inl h) (inr q) = rest j q ∙ d.closed j h (ap base_role (sym (x.role j h)) ∙ p)
+          (sym (attached.other j h q) ∙ z)
 
 -- no end is left
 pub record Ended (b : List ℕ) (places : ℕ) (runs : List EndedRun) (arcs : List Arc) (k : ℕ) (t : Network) : Type 0 where
   pub alt : ℕ
   pub ending : Ending b places runs arcs k [] alt t
 
-pub ends_keep : {b : List ℕ} {places : ℕ} {runs : List EndedRun} {arcs : List Arc} {k : ℕ} (is : List ℕ) (alt : ℕ) (t : Network) → Ending b places runs arcs k is alt t → Holds (Ended b places runs arcs k) (end_fakes places is alt t)
+pub ends_keep : {b : List ℕ} {places : ℕ} {runs : List EndedRun} {arcs : List Arc} {k : ℕ} (is : List ℕ) (alt : ℕ)
+    (t : Network) → Ending b places runs arcs k is alt t
+    → Holds (Ended b places runs arcs k) (end_fakes places is alt t)
 unfolding end_fakes
 ends_keep [] alt t d = record { alt = alt; ending = d }
 ends_keep {b} {places} {runs} {arcs} {k} (i ∷ is) alt t d =
     holds_then (Ending b places runs arcs k is t.nodes) (Ended b places runs arcs k)
-    (room_for (ltb t.nodes places) (record { table = end_table i alt t; nodes = suc t.nodes })) (end_fakes places is t.nodes) (go (ltb t.nodes places) refl) (λ u e. ends_keep is t.nodes u e)
+    (room_for (ltb t.nodes places) (record { table = end_table i alt t; nodes = suc t.nodes }))
+    (end_fakes places is t.nodes) (go (ltb t.nodes places) refl) (λ u e. ends_keep is t.nodes u e)
   where
-    go : (r : Bool) → ltb t.nodes places ≡ r → Holds (Ending b places runs arcs k is t.nodes) (room_for r (record { table = end_table i alt t; nodes = suc t.nodes }))
+    go : (r : Bool) → ltb t.nodes places ≡ r → Holds (Ending b places runs arcs k is t.nodes)
+        (room_for r (record { table = end_table i alt t; nodes = suc t.nodes }))
     go true e = end_keeps i is alt t d (ltb-true t.nodes places e)
     go false e = tt

@@ -1,4 +1,5 @@
--- A finish keeps the invariant: the run's place, open, becomes an end, and its arc leads out with zeros. The run is over.
+-- A finish keeps the invariant: the run's place, open, becomes an end, and its arc leads out with zeros. The run is
+-- over.
 use mathlib.Core.Path.{◌≡◌, refl, sym, ap, ◌∙◌, subst}
 use mathlib.Core.Logic.{◌⊎◌, inl, inr}
 use mathlib.Core.Bool.{Bool, true, false, not, ◌||◌}
@@ -33,10 +34,16 @@ finish_tip net run h e =
     let x : Bool = not (eqb run.place.idx_prev last) in
     let y : Bool = not (eqb (at net.table last).idx_next 0) in
     let c = none_left (x || y) (member_of net.ends last) e in
-    let q : run.place.idx_prev ≡ last = eqb-true run.place.idx_prev last (not-false (eqb run.place.idx_prev last) (none_left x y c)) in
-    let z : (at net.table last).idx_next ≡ 0 = eqb-true (at net.table last).idx_next 0 (not-false (eqb (at net.table last).idx_next 0) (none_right x y c)) in
+    let q : run.place.idx_prev ≡ last = eqb-true run.place.idx_prev last
+    (not-false (eqb run.place.idx_prev last) (none_left x y c)) in
+    let z : (at net.table last).idx_next ≡ 0 = eqb-true (at net.table last).idx_next 0
+    (not-false (eqb (at net.table last).idx_next 0) (none_right x y c)) in
     let o : member_of net.ends last ≡ false = none_right (x || y) (member_of net.ends last) e in
-    record { last = ends q; empty = ap (λ (k : ℕ). (at net.table k).idx_next) q ∙ z; no_end = ap (member_of net.ends) q ∙ o }
+    record {
+      last = ends q;
+      empty = ap (λ (k : ℕ). (at net.table k).idx_next) q ∙ z;
+      no_end = ap (member_of net.ends) q ∙ o;
+    }
   where
     ends : run.place.idx_prev ≡ net.nodes - 1 → suc run.place.idx_prev ≡ net.nodes
     ends q = omega arith
@@ -46,7 +53,8 @@ pub record Finishes (L : Labels) (places : ℕ) (net : Net) (saved : List Run) (
   pub grows : Grows L places more
   pub waits : Waits L more saved
 
-module _ {L : Labels} {places : ℕ} {net : Net} {run : Run} {saved : List Run} (g : Grows L places net) (u : Waits L net (run ∷ saved)) (tip : Tip net run) where
+module _ {L : Labels} {places : ℕ} {net : Net} {run : Run} {saved : List Run} (g : Grows L places net)
+    (u : Waits L net (run ∷ saved)) (tip : Tip net run) where
   abbrev p : ℕ
   p = run.place.idx_prev
 
@@ -77,13 +85,20 @@ module _ {L : Labels} {places : ℕ} {net : Net} {run : Run} {saved : List Run} 
 
   arc_is : arc_to_end run.place ≡ arc_out L p
   unfolding arc_to_end arc_out
-  arc_is = λ z. record { from = sym ((v.each p s.within).own s.self) z; to = 0; time = of_bits binary64 0; distance = of_bits binary64 0 }
+  arc_is = λ z. record {
+    from = sym ((v.each p s.within).own s.self) z;
+    to = 0;
+    time = of_bits binary64 0;
+    distance = of_bits binary64 0;
+  }
 
   noted : (w : Arc → ℕ) → total w (arc_to_end run.place ∷ net.noted) ≡ sum_below n (weigh L node (p ∷ net.ends) w)
   noted w =
       let a = weigh_empty L node net.ends w p base tip.empty tip.no_end in
       let c = weigh_ended L node (p ∷ net.ends) w p base tip.empty here in
-      let d = sum_point n (weigh L node net.ends w) (weigh L node (p ∷ net.ends) w) p (w (arc_out L p)) s.within (λ i h q. weigh_same node node x net.ends (p ∷ net.ends) w i h refl refl refl (next_within v i h) (beside i q)) (omega arith) in
+      let d = sum_point n (weigh L node net.ends w) (weigh L node (p ∷ net.ends) w) p (w (arc_out L p)) s.within
+      (λ i h q. weigh_same node node x net.ends (p ∷ net.ends) w i h refl refl refl (next_within v i h)
+      (beside i q)) (omega arith) in
       let f = g.body.graph.noted w in
       let k : w (arc_to_end run.place) ≡ w (arc_out L p) = ap w arc_is in
       let j = total_more w (arc_to_end run.place) net.noted in
@@ -109,7 +124,8 @@ module _ {L : Labels} {places : ℕ} {net : Net} {run : Run} {saved : List Run} 
       distinct = (tip.no_end, g.distinct);
     };
     waits = record {
-      owned = λ i h b z o. owned_popped L run saved (u.owned i h b z (none_right (eqb p i) (member_of net.ends i) o)) (λ (q : i ≡ p). not_both (ap (member_of (p ∷ net.ends)) q ∙ here) o);
+      owned = λ i h b z o. owned_popped L run saved (u.owned i h b z (none_right (eqb p i) (member_of net.ends i) o))
+          (λ (q : i ≡ p). not_both (ap (member_of (p ∷ net.ends)) q ∙ here) o);
       stand = all_so (Stands L net) (Stands L more) (stands_more later) saved u.stand.1;
       last = last_popped more saved u.last.1;
     };
@@ -119,8 +135,14 @@ module _ {L : Labels} {places : ℕ} {net : Net} {run : Run} {saved : List Run} 
       more = finished_at net run
 
       later : Later L L net more
-      later = record { labels = x; nodes = omega arith; ends = λ i o. none_right (eqb p i) (member_of net.ends i) o; still = λ i h z. (z, (refl, refl)) }
+      later = record {
+        labels = x;
+        nodes = omega arith;
+        ends = λ i o. none_right (eqb p i) (member_of net.ends i) o;
+        still = λ i h z. (z, (refl, refl));
+      }
 
       ended : (i : ℕ) → member_of (p ∷ net.ends) i ≡ true → (i ≡ p) ⊎ (i ≡ p → ⊥) → EndAt L node n i
-      ended i o (inl q) = subst (EndAt L node n) (sym q) (record { within = s.within; empty = tip.empty; self = s.self })
+      ended i o (inl q) = subst (EndAt L node n) (sym q)
+          (record { within = s.within; empty = tip.empty; self = s.self })
       ended i o (inr d) = g.body.ended i (sym (beside i d) ∙ o)

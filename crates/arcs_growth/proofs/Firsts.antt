@@ -61,7 +61,8 @@ module _ (b : List ℕ) (t : Table) (places : ℕ) (room : RoomIn t places) (mor
   after = put (put t 0 zeroth) 1 first
 
   at_zero : at after 0 ≡ zeroth
-  at_zero = put_other (put t 0 zeroth) 1 first 0 (λ (q : 0 ≡ 1). omega arith) ∙ put_same t 0 zeroth places room (omega arith)
+  at_zero = put_other (put t 0 zeroth) 1 first 0 (λ (q : 0 ≡ 1). omega arith)
+      ∙ put_same t 0 zeroth places room (omega arith)
 
   at_one : at after 1 ≡ first
   at_one = put_same (put t 0 zeroth) 1 first places (put_room t 0 zeroth places room) more
@@ -69,14 +70,22 @@ module _ (b : List ℕ) (t : Table) (places : ℕ) (room : RoomIn t places) (mor
   first_indexed : Indexed (at after) 2
   unfolding fake_node
   first_indexed = record {
-    next = both (λ (i : ℕ). (at after i).idx_next < 2) (omega (arith, ap (λ (x : EstTime). x.idx_next) at_zero)) (omega (arith, ap (λ (x : EstTime). x.idx_next) at_one));
-    next_alt = both (λ (i : ℕ). (at after i).idx_next_alt < 2) (omega (arith, ap (λ (x : EstTime). x.idx_next_alt) at_zero)) (omega (arith, ap (λ (x : EstTime). x.idx_next_alt) at_one));
-    prev = both (λ (i : ℕ). (at after i).idx_prev < 2) (omega (arith, ap (λ (x : EstTime). x.idx_prev) at_zero)) (omega (arith, ap (λ (x : EstTime). x.idx_prev) at_one));
-    prev_alt = both (λ (i : ℕ). (at after i).idx_prev_alt < 2) (omega (arith, ap (λ (x : EstTime). x.idx_prev_alt) at_zero)) (omega (arith, ap (λ (x : EstTime). x.idx_prev_alt) at_one));
+    next = both (λ (i : ℕ). (at after i).idx_next < 2) (omega (arith, ap (λ (x : EstTime). x.idx_next) at_zero))
+        (omega (arith, ap (λ (x : EstTime). x.idx_next) at_one));
+    next_alt = both (λ (i : ℕ). (at after i).idx_next_alt < 2)
+        (omega (arith, ap (λ (x : EstTime). x.idx_next_alt) at_zero))
+        (omega (arith, ap (λ (x : EstTime). x.idx_next_alt) at_one));
+    prev = both (λ (i : ℕ). (at after i).idx_prev < 2) (omega (arith, ap (λ (x : EstTime). x.idx_prev) at_zero))
+        (omega (arith, ap (λ (x : EstTime). x.idx_prev) at_one));
+    prev_alt = both (λ (i : ℕ). (at after i).idx_prev_alt < 2)
+        (omega (arith, ap (λ (x : EstTime). x.idx_prev_alt) at_zero))
+        (omega (arith, ap (λ (x : EstTime). x.idx_prev_alt) at_one));
     next_alt_rises = both (λ (i : ℕ). 0 < (at after i).idx_next_alt → i < (at after i).idx_next_alt)
-        (λ h. absurd (omega (arith, ap (λ (x : EstTime). x.idx_next_alt) at_zero))) (λ h. absurd (omega (arith, ap (λ (x : EstTime). x.idx_next_alt) at_one)));
+        (λ h. absurd (omega (arith, ap (λ (x : EstTime). x.idx_next_alt) at_zero)))
+        (λ h. absurd (omega (arith, ap (λ (x : EstTime). x.idx_next_alt) at_one)));
     prev_alt_rises = both (λ (i : ℕ). 0 < (at after i).idx_prev_alt → i < (at after i).idx_prev_alt)
-        (λ h. absurd (omega (arith, ap (λ (x : EstTime). x.idx_prev_alt) at_zero))) (λ h. absurd (omega (arith, ap (λ (x : EstTime). x.idx_prev_alt) at_one)));
+        (λ h. absurd (omega (arith, ap (λ (x : EstTime). x.idx_prev_alt) at_zero)))
+        (λ h. absurd (omega (arith, ap (λ (x : EstTime). x.idx_prev_alt) at_one)));
   }
 
   no_alt_zero : (a : ℕ) → (at after 0).idx_next_alt ≡ a → 0 < a → ⊥
@@ -153,8 +162,10 @@ module _ (b : List ℕ) (t : Table) (places : ℕ) (room : RoomIn t places) (mor
       room = put_room (put t 0 zeroth) 1 first places (put_room t 0 zeroth places room);
       indexed = first_indexed;
       graph = record { laid = first_laid; bases = refl; noted = first_noted };
-      no_stops = both (λ (i : ℕ). first_role i ≡ stop → ⊥) (λ q. apart is_nought {m = nought} refl q refl refl) (λ q. apart is_start {m = start} refl q refl refl);
-      chains = λ i a h e p q. both (λ (j : ℕ). lands (first_role j) ≡ true → (lands (first_role a) ≡ true) × (◌≡◌ {A = ℕ} 0 0)) (λ z. not_both z refl) (λ z. not_both z refl) i h q;
+      no_stops = both (λ (i : ℕ). first_role i ≡ stop → ⊥) (λ q. apart is_nought {m = nought} refl q refl refl)
+          (λ q. apart is_start {m = start} refl q refl refl);
+      chains = λ i a h e p q. both (λ (j : ℕ). lands (first_role j) ≡ true
+          → (lands (first_role a) ≡ true) × (◌≡◌ {A = ℕ} 0 0)) (λ z. not_both z refl) (λ z. not_both z refl) i h q;
       ended = λ i o. not_both o refl;
       bottom = refl;
     };
@@ -167,7 +178,16 @@ module _ (b : List ℕ) (t : Table) (places : ℕ) (room : RoomIn t places) (mor
   pub first_waits : Waits first_labels (first_nodes b t) (origin_run b ∷ [])
   unfolding first_nodes origin_run fake_node blank
   first_waits = record {
-    owned = both (λ (i : ℕ). base_role (first_role i) ≡ true → (at after i).idx_next ≡ 0 → false ≡ false → (i ≡ 1) ⊎ (((0 ≡ 2) × ⊥))) (λ q z o. not_both q refl) (λ q z o. inl refl);
-    stand = (record { within = omega arith; self = refl; holds = λ z o. (ap (λ (x : EstTime). x.time_to_next) at_one, ap (λ (x : EstTime). x.dist_to_next) at_one); listed = tt }, tt);
+    owned = both (λ (i : ℕ). base_role (first_role i) ≡ true → (at after i).idx_next ≡ 0 → false ≡ false
+        → (i ≡ 1) ⊎ (((0 ≡ 2) × ⊥))) (λ q z o. not_both q refl) (λ q z o. inl refl);
+    stand = (
+      record {
+        within = omega arith;
+        self = refl;
+        holds = λ z o. (ap (λ (x : EstTime). x.time_to_next) at_one, ap (λ (x : EstTime). x.dist_to_next) at_one);
+        listed = tt;
+      },
+      tt,
+    );
     last = ((λ w. not_both w refl), tt);
   }

@@ -1,5 +1,8 @@
--- The invariant of growth, in two halves: the network (Grows) and the runs (Waits). An open event that is no end is the running run's place, or lies as deep as an origin's Clear and is the place of a run that waits; and it holds its run's own numbers.
--- A run that has added stands on the last node, open and no end. The runs are the running one and those that wait, the last saved first.
+-- The invariant of growth, in two halves: the network (Grows) and the runs (Waits). An open event that is no end is the
+-- running run's place, or lies as deep as an origin's Clear and is the place of a run that waits; and it holds its
+-- run's own numbers.
+-- A run that has added stands on the last node, open and no end. The runs are the running one and those that wait, the
+-- last saved first.
 use mathlib.Core.Path.{◌≡◌, sym, ap, ◌∙◌}
 use mathlib.Core.Logic.{◌⊎◌, inl, inr}
 use mathlib.Core.Bool.{true, false}
@@ -34,7 +37,8 @@ pub record Stands (L : Labels) (net : Net) (run : Run) : Type 0 where
   pub within : run.place.idx_prev < net.nodes
   pub self : itself (L.role run.place.idx_prev) ≡ true
   pub holds : (at net.table run.place.idx_prev).idx_next ≡ 0 → member_of net.ends run.place.idx_prev ≡ false
-      → ((at net.table run.place.idx_prev).time_to_next ≡ run.place.time_to_next) × ((at net.table run.place.idx_prev).dist_to_next ≡ run.place.dist_to_next)
+      → ((at net.table run.place.idx_prev).time_to_next ≡ run.place.time_to_next)
+      × ((at net.table run.place.idx_prev).dist_to_next ≡ run.place.dist_to_next)
   pub listed : Listed net.nodes run.joins
 
 -- whose an open node is
@@ -54,7 +58,8 @@ Last net (r ∷ rs) = (r.has_split ≡ true → Tip net r) × All (λ (s : Run).
 
 -- the runs
 pub record Waits (L : Labels) (net : Net) (runs : List Run) : Type 0 where
-  pub owned : (i : ℕ) → i < net.nodes → base_role (L.role i) ≡ true → (at net.table i).idx_next ≡ 0 → member_of net.ends i ≡ false → Owned L i runs
+  pub owned : (i : ℕ) → i < net.nodes → base_role (L.role i) ≡ true → (at net.table i).idx_next ≡ 0
+      → member_of net.ends i ≡ false → Owned L i runs
   pub stand : All (Stands L net) runs
   pub last : Last net runs
 
@@ -66,12 +71,15 @@ pub record Later (L M : Labels) (net more : Net) : Type 0 where
   pub nodes : net.nodes ≤ more.nodes
   pub ends : (i : ℕ) → member_of more.ends i ≡ false → member_of net.ends i ≡ false
   pub still : (i : ℕ) → i < net.nodes → (at more.table i).idx_next ≡ 0
-      → ((at net.table i).idx_next ≡ 0) × (((at more.table i).time_to_next ≡ (at net.table i).time_to_next) × ((at more.table i).dist_to_next ≡ (at net.table i).dist_to_next))
+      → ((at net.table i).idx_next ≡ 0) × (((at more.table i).time_to_next ≡ (at net.table i).time_to_next)
+      × ((at more.table i).dist_to_next ≡ (at net.table i).dist_to_next))
 
 pub listed_more : (n m : ℕ) → n ≤ m → (es : List EstJoinPath) → Listed n es → Listed m es
-listed_more n m h = all_so (λ (x : EstJoinPath). x.est_idx_next < n) (λ (x : EstJoinPath). x.est_idx_next < m) (λ x l. omega arith)
+listed_more n m h = all_so (λ (x : EstJoinPath). x.est_idx_next < n) (λ (x : EstJoinPath). x.est_idx_next < m)
+    (λ x l. omega arith)
 
-pub stands_more : {L M : Labels} {net more : Net} → Later L M net more → (run : Run) → Stands L net run → Stands M more run
+pub stands_more : {L M : Labels} {net more : Net} → Later L M net more → (run : Run) → Stands L net run
+    → Stands M more run
 stands_more {L} {M} {net} {more} f run s =
     let p = run.place.idx_prev in
     let w = s.within in
@@ -84,20 +92,24 @@ stands_more {L} {M} {net} {more} f run s =
     }
 
 -- an open node that is not the running run's belongs to one that waits, also with more labels
-pub owned_by_waiting : {L M : Labels} {n i : ℕ} → Extends L M n → i < n → (r q : Run) (saved : List Run) → Owned L i (r ∷ saved) → (i ≡ r.place.idx_prev → ⊥) → Owned M i (q ∷ saved)
+pub owned_by_waiting : {L M : Labels} {n i : ℕ} → Extends L M n → i < n → (r q : Run) (saved : List Run)
+    → Owned L i (r ∷ saved) → (i ≡ r.place.idx_prev → ⊥) → Owned M i (q ∷ saved)
 owned_by_waiting x h r q saved (inl e) d = absurd (d e)
 owned_by_waiting {i = i} x h r q saved (inr s) d = inr (x.depth i h ∙ s.0, s.1)
 
 -- the running run is over: its place is open no more
-pub owned_popped : (L : Labels) {i : ℕ} (r : Run) (saved : List Run) → Owned L i (r ∷ saved) → (i ≡ r.place.idx_prev → ⊥) → Owned L i saved
+pub owned_popped : (L : Labels) {i : ℕ} (r : Run) (saved : List Run) → Owned L i (r ∷ saved)
+    → (i ≡ r.place.idx_prev → ⊥) → Owned L i saved
 owned_popped L r saved (inl e) d = absurd (d e)
 owned_popped L r [] (inr s) d = s.1
 owned_popped L r (q ∷ saved) (inr (c, inl e)) d = inl e
 owned_popped L r (q ∷ saved) (inr (c, inr s)) d = inr (c, s)
 
 -- the running run stands on a new last node
-pub waits_added : {L M : Labels} {net : Net} (run : Run) (saved : List Run) → Waits L net (run ∷ saved) → (more : Net) → Later L M net more → (next : Run)
-    → ((i : ℕ) → i < more.nodes → base_role (M.role i) ≡ true → (at more.table i).idx_next ≡ 0 → (i ≡ next.place.idx_prev) ⊎ ((i < net.nodes) × (i ≡ run.place.idx_prev → ⊥)))
+pub waits_added : {L M : Labels} {net : Net} (run : Run) (saved : List Run) → Waits L net (run ∷ saved) → (more : Net)
+    → Later L M net more → (next : Run)
+    → ((i : ℕ) → i < more.nodes → base_role (M.role i) ≡ true → (at more.table i).idx_next ≡ 0
+    → (i ≡ next.place.idx_prev) ⊎ ((i < net.nodes) × (i ≡ run.place.idx_prev → ⊥)))
     → Stands M more next → Tip more next → Waits M more (next ∷ saved)
 waits_added {L} {M} {net} run saved u more f next which stands tip = record {
   owned = λ i h b z o. go i b z o (which i h b z);
@@ -105,6 +117,8 @@ waits_added {L} {M} {net} run saved u more f next which stands tip = record {
   last = (λ w. tip, u.last.1);
 }
   where
-    go : (i : ℕ) → base_role (M.role i) ≡ true → (at more.table i).idx_next ≡ 0 → member_of more.ends i ≡ false → (i ≡ next.place.idx_prev) ⊎ ((i < net.nodes) × (i ≡ run.place.idx_prev → ⊥)) → Owned M i (next ∷ saved)
+    go : (i : ℕ) → base_role (M.role i) ≡ true → (at more.table i).idx_next ≡ 0 → member_of more.ends i ≡ false
+        → (i ≡ next.place.idx_prev) ⊎ ((i < net.nodes) × (i ≡ run.place.idx_prev → ⊥)) → Owned M i (next ∷ saved)
     go i b z o (inl q) = inl q
-    go i b z o (inr (h, d)) = owned_by_waiting f.labels h run next saved (u.owned i h (ap base_role (sym (f.labels.role i h)) ∙ b) (f.still i h z).0 (f.ends i o)) d
+    go i b z o (inr (h, d)) = owned_by_waiting f.labels h run next saved
+        (u.owned i h (ap base_role (sym (f.labels.role i h)) ∙ b) (f.still i h z).0 (f.ends i o)) d

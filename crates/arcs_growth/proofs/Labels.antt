@@ -1,4 +1,5 @@
--- Labels of the nodes under growth, each fixed when its node is made: its role, the event or start whose alternatives reach it, where it leads if an arc's next names it, and how deep it lies.
+-- Labels of the nodes under growth, each fixed when its node is made: its role, the event or start whose alternatives
+-- reach it, where it leads if an arc's next names it, and how deep it lies.
 use mathlib.Core.Path.{◌≡◌, refl, ap}
 use mathlib.Core.Bool.{Bool, true, false, cond}
 use Prim.Native.Nat.{ℕ, ◌<◌}

@@ -1,4 +1,5 @@
--- How the first n nodes of a network under growth are laid: the shape of specs/Shape.antt for bases that have a next, said by labels. A step adds one node, n, and changes at most one next and one
+-- How the first n nodes of a network under growth are laid: the shape of specs/Shape.antt for bases that have a next,
+-- said by labels. A step adds one node, n, and changes at most one next and one
 -- next alternative, from 0 to n: all that is said of the nodes before stays true.
 use mathlib.Core.Path.{◌≡◌, refl, sym, ap, ◌∙◌, subst}
 use mathlib.Core.Logic.{◌⊎◌, inl, inr}
@@ -10,7 +11,8 @@ use Rattle.laws.proofs.Truth.{not_both}
 use Rattle.net_node.specs.Table.{is_fake, fake_kind}
 use Rattle.net_node.specs.declared.EstTime.{EstTime}
 use Rattle.net_node.specs.declared.LinkEvent.{LinkEvent}
-use Rattle.arcs_growth.proofs.Labels.{Role, nought, start, event, split, join, stop, fake_role, base_role, receives, lands, itself, Labels, Extends}
+use Rattle.arcs_growth.proofs.Labels.{Role, nought, start, event, split, join, stop, fake_role, base_role, receives}
+use Rattle.arcs_growth.proofs.Labels.{lands, itself, Labels, Extends}
 
 -- a is the next alternative of i: a later node, a split's Fake, whose prev is i
 pub record AltOf (L : Labels) (node : ℕ → EstTime) (n i a : ℕ) : Type 0 where
@@ -87,7 +89,8 @@ pub record Laid (L : Labels) (node : ℕ → EstTime) (n : ℕ) : Type 0 where
   pub each : (i : ℕ) → i < n → Each L node n i
 
 -- a receiver is neither node 0 nor the start, and no more is a split's Fake
-pub past_first : {L : Labels} {node : ℕ → EstTime} {n : ℕ} → Laid L node n → (P : Role → Bool) → P nought ≡ false → P start ≡ false → (i : ℕ) → P (L.role i) ≡ true → 1 < i
+pub past_first : {L : Labels} {node : ℕ → EstTime} {n : ℕ} → Laid L node n → (P : Role → Bool) → P nought ≡ false
+    → P start ≡ false → (i : ℕ) → P (L.role i) ≡ true → 1 < i
 past_first v P p q zero h = not_both h (ap P v.zeroth ∙ p)
 past_first v P p q (suc zero) h = not_both h (ap P v.first ∙ q)
 past_first v P p q (suc (suc i)) h = omega arith
@@ -99,11 +102,14 @@ pub record Step (L M : Labels) (node after : ℕ → EstTime) (n : ℕ) : Type 0
   pub labels : Extends L M n
   pub prev : (i : ℕ) → i < n → (after i).idx_prev ≡ (node i).idx_prev
   pub happens : (i : ℕ) → i < n → (after i).link_event ≡ (node i).link_event
-  pub next : (i : ℕ) → i < n → ((after i).idx_next ≡ (node i).idx_next) ⊎ (((node i).idx_next ≡ 0) × (((after i).idx_next ≡ n) × (((after n).idx_prev ≡ i) × (receives (M.role n) ≡ true))))
+  pub next : (i : ℕ) → i < n → ((after i).idx_next ≡ (node i).idx_next) ⊎
+      (((node i).idx_next ≡ 0) × (((after i).idx_next ≡ n) × (((after n).idx_prev ≡ i) × (receives (M.role n) ≡ true))))
   pub alt : (i : ℕ) → i < n
       → ((after i).idx_next_alt ≡ (node i).idx_next_alt)
-      ⊎ (((node i).idx_next_alt ≡ 0) × (((after i).idx_next_alt ≡ n) × (((after n).idx_prev ≡ i) × ((M.role n ≡ split) × (base_role (L.role i) ≡ true)))))
-  pub prev_alt : (i : ℕ) → i < n → ((after i).idx_prev_alt ≡ (node i).idx_prev_alt) ⊎ (((after i).idx_prev_alt ≡ n) × (receives (M.role n) ≡ true))
+      ⊎ (((node i).idx_next_alt ≡ 0) × (((after i).idx_next_alt ≡ n)
+      × (((after n).idx_prev ≡ i) × ((M.role n ≡ split) × (base_role (L.role i) ≡ true)))))
+  pub prev_alt : (i : ℕ) → i < n → ((after i).idx_prev_alt ≡ (node i).idx_prev_alt) ⊎
+      (((after i).idx_prev_alt ≡ n) × (receives (M.role n) ≡ true))
   pub joins : (i : ℕ) → i < n → L.role i ≡ join → (after i).idx_next ≡ (node i).idx_next
   pub stops : (i : ℕ) → i < n → L.role i ≡ stop → ((after i).idx_next ≡ (node i).idx_next) × (M.role n ≡ stop)
 
@@ -112,7 +118,9 @@ module _ {L M : Labels} {node after : ℕ → EstTime} {n : ℕ} (v : Laid L nod
   next_stays : (i r : ℕ) → i < n → 0 < r → (node i).idx_next ≡ r → (after i).idx_next ≡ r
   next_stays i r h p e = go (s.next i h)
     where
-      go : ((after i).idx_next ≡ (node i).idx_next) ⊎ (((node i).idx_next ≡ 0) × (((after i).idx_next ≡ n) × (((after n).idx_prev ≡ i) × (receives (M.role n) ≡ true)))) → (after i).idx_next ≡ r
+      go : ((after i).idx_next ≡ (node i).idx_next) ⊎
+          (((node i).idx_next ≡ 0) × (((after i).idx_next ≡ n)
+          × (((after n).idx_prev ≡ i) × (receives (M.role n) ≡ true)))) → (after i).idx_next ≡ r
       go (inl q) = q ∙ e
       go (inr q) = let z = q.0 in absurd (omega arith)
 
@@ -120,7 +128,9 @@ module _ {L M : Labels} {node after : ℕ → EstTime} {n : ℕ} (v : Laid L nod
   alt_stays i r h p e = go (s.alt i h)
     where
       go : ((after i).idx_next_alt ≡ (node i).idx_next_alt)
-          ⊎ (((node i).idx_next_alt ≡ 0) × (((after i).idx_next_alt ≡ n) × (((after n).idx_prev ≡ i) × ((M.role n ≡ split) × (base_role (L.role i) ≡ true))))) → (after i).idx_next_alt ≡ r
+          ⊎ (((node i).idx_next_alt ≡ 0) × (((after i).idx_next_alt ≡ n)
+          × (((after n).idx_prev ≡ i) × ((M.role n ≡ split) × (base_role (L.role i) ≡ true)))))
+          → (after i).idx_next_alt ≡ r
       go (inl q) = q ∙ e
       go (inr q) = let z = q.0 in absurd (omega arith)
 
@@ -135,31 +145,59 @@ module _ {L M : Labels} {node after : ℕ → EstTime} {n : ℕ} (v : Laid L nod
     step_alt a e p = go (s.alt i h)
       where
         go : ((after i).idx_next_alt ≡ (node i).idx_next_alt)
-            ⊎ (((node i).idx_next_alt ≡ 0) × (((after i).idx_next_alt ≡ n) × (((after n).idx_prev ≡ i) × ((M.role n ≡ split) × (base_role (L.role i) ≡ true))))) → AltOf M after (suc n) i a
+            ⊎ (((node i).idx_next_alt ≡ 0) × (((after i).idx_next_alt ≡ n)
+            × (((after n).idx_prev ≡ i) × ((M.role n ≡ split) × (base_role (L.role i) ≡ true)))))
+            → AltOf M after (suc n) i a
         go (inl q) =
             let o = old.alt a (sym q ∙ e) p in
-            record { rises = o.rises; inside = omega (arith, o.inside); base = ap base_role role_is ∙ o.base; fake = s.labels.role a o.inside ∙ o.fake; back = s.prev a o.inside ∙ o.back }
+            record {
+              rises = o.rises;
+              inside = omega (arith, o.inside);
+              base = ap base_role role_is ∙ o.base;
+              fake = s.labels.role a o.inside ∙ o.fake;
+              back = s.prev a o.inside ∙ o.back;
+            }
         go (inr (z, (q, (b, (m, c))))) =
             let d : a ≡ n = sym e ∙ q in
-            record { rises = omega arith; inside = omega arith; base = ap base_role role_is ∙ c; fake = ap M.role d ∙ m; back = ap (λ (k : ℕ). (after k).idx_prev) d ∙ b }
+            record {
+              rises = omega arith;
+              inside = omega arith;
+              base = ap base_role role_is ∙ c;
+              fake = ap M.role d ∙ m;
+              back = ap (λ (k : ℕ). (after k).idx_prev) d ∙ b;
+            }
 
     step_next : (r : ℕ) → (after i).idx_next ≡ r → 0 < r → base_role (M.role i) ≡ true → NextOf M after (suc n) i r
     step_next r e p b = go (s.next i h)
       where
-        go : ((after i).idx_next ≡ (node i).idx_next) ⊎ (((node i).idx_next ≡ 0) × (((after i).idx_next ≡ n) × (((after n).idx_prev ≡ i) × (receives (M.role n) ≡ true)))) → NextOf M after (suc n) i r
+        go : ((after i).idx_next ≡ (node i).idx_next) ⊎
+            (((node i).idx_next ≡ 0) × (((after i).idx_next ≡ n)
+            × (((after n).idx_prev ≡ i) × (receives (M.role n) ≡ true)))) → NextOf M after (suc n) i r
         go (inl q) =
             let o = old.next r (sym q ∙ e) p (ap base_role (sym role_is) ∙ b) in
-            record { inside = omega (arith, o.inside); receiver = ap receives (s.labels.role r o.inside) ∙ o.receiver; back = s.prev r o.inside ∙ o.back }
+            record {
+              inside = omega (arith, o.inside);
+              receiver = ap receives (s.labels.role r o.inside) ∙ o.receiver;
+              back = s.prev r o.inside ∙ o.back;
+            }
         go (inr (z, (q, (c, m)))) =
             let d : r ≡ n = sym e ∙ q in
-            record { inside = omega arith; receiver = ap (λ (k : ℕ). receives (M.role k)) d ∙ m; back = ap (λ (k : ℕ). (after k).idx_prev) d ∙ c }
+            record {
+              inside = omega arith;
+              receiver = ap (λ (k : ℕ). receives (M.role k)) d ∙ m;
+              back = ap (λ (k : ℕ). (after k).idx_prev) d ∙ c;
+            }
 
     step_prev : (b : ℕ) → (after i).idx_prev ≡ b → receives (M.role i) ≡ true → PrevOf M after (suc n) i b
     step_prev b e c =
         let d : receives (L.role i) ≡ true = ap receives (sym role_is) ∙ c in
         let o = old.prev b (sym (s.prev i h) ∙ e) d in
         let p = past_first v receives refl refl i d in
-        record { inside = omega (arith, o.inside); base = ap base_role (s.labels.role b o.inside) ∙ o.base; forth = next_stays b i o.inside (omega arith) o.forth }
+        record {
+          inside = omega (arith, o.inside);
+          base = ap base_role (s.labels.role b o.inside) ∙ o.base;
+          forth = next_stays b i o.inside (omega arith) o.forth;
+        }
 
     step_splits : (p : ℕ) → (after i).idx_prev ≡ p → M.role i ≡ split → SplitOf M after i p
     step_splits p e m =
@@ -181,20 +219,29 @@ module _ {L M : Labels} {node after : ℕ → EstTime} {n : ℕ} (v : Laid L nod
         deep b e o =
             let q : PrevOf L node n i b = old.prev b (sym (s.prev i h) ∙ e) (ap receives (sym role_is ∙ m)) in
             let w : L.owner b < n = omega (arith, (v.each b q.inside).owned q.base, q.inside) in
-            s.labels.depth i h ∙ o.depth b (sym (s.prev i h) ∙ e) ∙ ap suc (sym (s.labels.depth (L.owner b) w) ∙ ap M.depth (sym (s.labels.owner b q.inside)))
+            s.labels.depth i h ∙ o.depth b (sym (s.prev i h) ∙ e)
+            ∙ ap suc (sym (s.labels.depth (L.owner b) w) ∙ ap M.depth (sym (s.labels.owner b q.inside)))
 
     step_joins : (r : ℕ) → (after i).idx_next ≡ r → M.role i ≡ join → JoinOf M i r
     step_joins r e m =
         let j = sym role_is ∙ m in
         let o = old.joins r (sym (s.joins i h j) ∙ e) j in
         let l : r < n = omega (arith, o.earlier) in
-        record { earlier = o.earlier; lands = ap lands (s.labels.role r l) ∙ o.lands; goal = s.labels.goal i h ∙ o.goal ∙ sym (s.labels.goal r l) }
+        record {
+          earlier = o.earlier;
+          lands = ap lands (s.labels.role r l) ∙ o.lands;
+          goal = s.labels.goal i h ∙ o.goal ∙ sym (s.labels.goal r l);
+        }
 
     step_stops : M.role i ≡ stop → StopOf M after (suc n) i
     step_stops m =
         let j = sym role_is ∙ m in
         let o = old.stops j in
-        record { goal = s.labels.goal i h ∙ o.goal; next = (s.stops i h j).0 ∙ o.next; later = λ k a b. after-it o j k a (below k n b) }
+        record {
+          goal = s.labels.goal i h ∙ o.goal;
+          next = (s.stops i h j).0 ∙ o.next;
+          later = λ k a b. after-it o j k a (below k n b);
+        }
       where
         after-it : StopOf L node n i → L.role i ≡ stop → (k : ℕ) → i < k → (k < n) ⊎ (k ≡ n) → M.role k ≡ stop
         after-it o j k a (inl l) = s.labels.role k l ∙ o.later k a l
@@ -203,8 +250,10 @@ module _ {L M : Labels} {node after : ℕ → EstTime} {n : ℕ} (v : Laid L nod
     step_prev_alt : (a : ℕ) → (after i).idx_prev_alt ≡ a → 0 < a → (a < suc n) × (receives (M.role a) ≡ true)
     step_prev_alt a e p = go (s.prev_alt i h)
       where
-        go : ((after i).idx_prev_alt ≡ (node i).idx_prev_alt) ⊎ (((after i).idx_prev_alt ≡ n) × (receives (M.role n) ≡ true)) → (a < suc n) × (receives (M.role a) ≡ true)
-        go (inl q) = let o = old.prev_alt a (sym q ∙ e) p in (omega (arith, o.0), ap receives (s.labels.role a o.0) ∙ o.1)
+        go : ((after i).idx_prev_alt ≡ (node i).idx_prev_alt) ⊎
+            (((after i).idx_prev_alt ≡ n) × (receives (M.role n) ≡ true)) → (a < suc n) × (receives (M.role a) ≡ true)
+        go (inl q) = let o = old.prev_alt a (sym q ∙ e) p in
+            (omega (arith, o.0), ap receives (s.labels.role a o.0) ∙ o.1)
         go (inr q) = let d : a ≡ n = sym e ∙ q.0 in (omega arith, ap (λ (k : ℕ). receives (M.role k)) d ∙ q.1)
 
     step_each : Each M after (suc n) i

@@ -1,4 +1,5 @@
--- A new node of each role: an event, a join's Fake or an end Fake behind an open base, and a split's Fake as a base's alternative. The network stays laid.
+-- A new node of each role: an event, a join's Fake or an end Fake behind an open base, and a split's Fake as a base's
+-- alternative. The network stays laid.
 use mathlib.Core.Path.{◌≡◌, refl, sym, ap, ◌∙◌, subst}
 use mathlib.Core.Logic.{◌⊎◌, inl, inr}
 use mathlib.Core.Bool.{Bool, true, false}
@@ -7,7 +8,9 @@ use native.Mathlib.Omega.{arith}
 use Rattle.laws.proofs.Truth.{not_both, equal_or_not}
 use Rattle.net_node.specs.Table.{is_fake}
 use Rattle.net_node.specs.declared.EstTime.{EstTime}
-use Rattle.arcs_growth.proofs.Labels.{Role, nought, start, event, split, join, stop, fake_role, base_role, receives, lands, itself, Labels, Extends, labelled, labelled_old, new_role, new_owner, new_goal, new_depth}
+use Rattle.arcs_growth.proofs.Labels.{Role, nought, start, event, split, join, stop, fake_role, base_role, receives}
+use Rattle.arcs_growth.proofs.Labels.{lands, itself, Labels, Extends, labelled, labelled_old, new_role, new_owner}
+use Rattle.arcs_growth.proofs.Labels.{new_goal, new_depth}
 use Rattle.arcs_growth.proofs.Laid.{SplitOf, PrevOf, JoinOf, Laid, Step, later_role, step_laid}
 
 abbrev is_split : Role → Bool
@@ -69,8 +72,10 @@ NewPrevAlt L after n = (a : ℕ) → (after n).idx_prev_alt ≡ a → 0 < a → 
 abbrev pub NoStops : Labels → ℕ → Type 0
 NoStops L n = (i : ℕ) → i < n → L.role i ≡ stop → ⊥
 
-module _ {L : Labels} {node after : ℕ → EstTime} {n b : ℕ} (v : Laid L node n) (a : Attached node after n b) (base : base_role (L.role b) ≡ true) (empty : (node b).idx_next ≡ 0) where
-  attached_step : (M : Labels) → Extends L M n → receives (M.role n) ≡ true → ((i : ℕ) → i < n → L.role i ≡ stop → M.role n ≡ stop) → Step L M node after n
+module _ {L : Labels} {node after : ℕ → EstTime} {n b : ℕ} (v : Laid L node n) (a : Attached node after n b)
+    (base : base_role (L.role b) ≡ true) (empty : (node b).idx_next ≡ 0) where
+  attached_step : (M : Labels) → Extends L M n → receives (M.role n) ≡ true
+      → ((i : ℕ) → i < n → L.role i ≡ stop → M.role n ≡ stop) → Step L M node after n
   attached_step M x r s = record {
     labels = x;
     prev = a.prev;
@@ -78,20 +83,32 @@ module _ {L : Labels} {node after : ℕ → EstTime} {n b : ℕ} (v : Laid L nod
     next = λ i h. next i h (equal_or_not i b);
     alt = λ i h. inl (a.alt i h);
     prev_alt = λ i h. prev_alt i h (a.prev_alt i h);
-    joins = λ i h e. a.other i h (λ (q : i ≡ b). not_both base (ap (λ (k : ℕ). base_role (L.role k)) (sym q) ∙ ap base_role e));
-    stops = λ i h e. (a.other i h (λ (q : i ≡ b). not_both base (ap (λ (k : ℕ). base_role (L.role k)) (sym q) ∙ ap base_role e)), s i h e);
+    joins = λ i h e. a.other i h (λ (q : i ≡ b). not_both base
+        (ap (λ (k : ℕ). base_role (L.role k)) (sym q) ∙ ap base_role e));
+    stops = λ i h e. (
+      a.other i h (λ (q : i ≡ b). not_both base
+          (ap (λ (k : ℕ). base_role (L.role k)) (sym q) ∙ ap base_role e)),
+      s i h e,
+    );
   }
     where
       next : (i : ℕ) → i < n → (i ≡ b) ⊎ (i ≡ b → ⊥)
-          → ((after i).idx_next ≡ (node i).idx_next) ⊎ (((node i).idx_next ≡ 0) × (((after i).idx_next ≡ n) × (((after n).idx_prev ≡ i) × (receives (M.role n) ≡ true))))
-      next i h (inl e) = inr (ap (λ (k : ℕ). (node k).idx_next) e ∙ empty, (ap (λ (k : ℕ). (after k).idx_next) e ∙ a.here, (a.new_prev ∙ sym e, r)))
+          → ((after i).idx_next ≡ (node i).idx_next) ⊎ (((node i).idx_next ≡ 0)
+          × (((after i).idx_next ≡ n) × (((after n).idx_prev ≡ i) × (receives (M.role n) ≡ true))))
+      next i h (inl e) = inr (
+        ap (λ (k : ℕ). (node k).idx_next) e ∙ empty,
+        (ap (λ (k : ℕ). (after k).idx_next) e ∙ a.here, (a.new_prev ∙ sym e, r)),
+      )
       next i h (inr d) = inl (a.other i h d)
 
-      prev_alt : (i : ℕ) → i < n → ((after i).idx_prev_alt ≡ (node i).idx_prev_alt) ⊎ ((after i).idx_prev_alt ≡ n) → ((after i).idx_prev_alt ≡ (node i).idx_prev_alt) ⊎ (((after i).idx_prev_alt ≡ n) × (receives (M.role n) ≡ true))
+      prev_alt : (i : ℕ) → i < n → ((after i).idx_prev_alt ≡ (node i).idx_prev_alt) ⊎ ((after i).idx_prev_alt ≡ n)
+          → ((after i).idx_prev_alt ≡ (node i).idx_prev_alt) ⊎
+          (((after i).idx_prev_alt ≡ n) × (receives (M.role n) ≡ true))
       prev_alt i h (inl q) = inl q
       prev_alt i h (inr q) = inr (q, r)
 
-  new_prev_alt_of : (M : Labels) → Extends L M n → NewPrevAlt L after n → (c : ℕ) → (after n).idx_prev_alt ≡ c → 0 < c → (c < suc n) × (receives (M.role c) ≡ true)
+  new_prev_alt_of : (M : Labels) → Extends L M n → NewPrevAlt L after n → (c : ℕ) → (after n).idx_prev_alt ≡ c → 0 < c
+      → (c < suc n) × (receives (M.role c) ≡ true)
   new_prev_alt_of M x w c e p = let o = w c e p in (omega (arith, o.0), ap receives (x.role c o.0) ∙ o.1)
 
   -- what the new node's prev says
@@ -104,20 +121,22 @@ module _ {L : Labels} {node after : ℕ → EstTime} {n b : ℕ} (v : Laid L nod
         forth = ap (λ (k : ℕ). (after k).idx_next) d ∙ a.here;
       }
 
-  pub event_laid : NewPrevAlt L after n → NoStops L n → is_fake (after n) ≡ false → (after n).idx_next ≡ 0 → Laid (labelled L n event n n (suc (L.depth (L.owner b)))) after (suc n)
-  event_laid w s k z = step_laid v (attached_step M x (ap receives m) (λ i h e. absurd (s i h e))) (ap later_role m) (record {
-    kind = k ∙ ap fake_role (sym m);
-    alt = λ c e p. absurd (none c e p);
-    splits = λ p e q. apart is_split q m refl refl;
-    own = λ q. new_owner L n event n n (suc (L.depth (L.owner b)));
-    owned = λ q. subst (λ (k : ℕ). k ≤ n) (sym (new_owner L n event n n (suc (L.depth (L.owner b))))) (omega arith);
-    next = λ r e p q. absurd (closed r e p);
-    prev = λ c e q. new_prev_of M x c e;
-    events = λ q. record { goal = new_goal L n event n n (suc (L.depth (L.owner b))); depth = λ c e. deep c e };
-    joins = λ r e q. apart base_role m q refl refl;
-    stops = λ q. apart base_role m q refl refl;
-    prev_alt = new_prev_alt_of M x w;
-  })
+  pub event_laid : NewPrevAlt L after n → NoStops L n → is_fake (after n) ≡ false → (after n).idx_next ≡ 0
+      → Laid (labelled L n event n n (suc (L.depth (L.owner b)))) after (suc n)
+  event_laid w s k z = step_laid v (attached_step M x (ap receives m) (λ i h e. absurd (s i h e))) (ap later_role m)
+      (record {
+        kind = k ∙ ap fake_role (sym m);
+        alt = λ c e p. absurd (none c e p);
+        splits = λ p e q. apart is_split q m refl refl;
+        own = λ q. new_owner L n event n n (suc (L.depth (L.owner b)));
+        owned = λ q. subst (λ (k : ℕ). k ≤ n) (sym (new_owner L n event n n (suc (L.depth (L.owner b))))) (omega arith);
+        next = λ r e p q. absurd (closed r e p);
+        prev = λ c e q. new_prev_of M x c e;
+        events = λ q. record { goal = new_goal L n event n n (suc (L.depth (L.owner b))); depth = λ c e. deep c e };
+        joins = λ r e q. apart base_role m q refl refl;
+        stops = λ q. apart base_role m q refl refl;
+        prev_alt = new_prev_alt_of M x w;
+      })
     where
       M : Labels
       M = labelled L n event n n (suc (L.depth (L.owner b)))
@@ -138,22 +157,25 @@ module _ {L : Labels} {node after : ℕ → EstTime} {n b : ℕ} (v : Laid L nod
       deep c e =
           let d : c ≡ b = sym e ∙ a.new_prev in
           let w : L.owner b < n = omega (arith, (v.each b a.within).owned base, a.within) in
-          new_depth L n event n n (suc (L.depth (L.owner b))) ∙ ap suc (sym (x.depth (L.owner b) w) ∙ ap M.depth (sym (x.owner b a.within) ∙ ap M.owner (sym d)))
+          new_depth L n event n n (suc (L.depth (L.owner b)))
+          ∙ ap suc (sym (x.depth (L.owner b) w) ∙ ap M.depth (sym (x.owner b a.within) ∙ ap M.owner (sym d)))
 
-  pub join_laid : NewPrevAlt L after n → NoStops L n → (r : ℕ) → r < n → lands (L.role r) ≡ true → is_fake (after n) ≡ true → (after n).idx_next ≡ r → Laid (labelled L n join 0 (L.goal r) 0) after (suc n)
-  join_laid w s r l t k z = step_laid v (attached_step M x (ap receives m) (λ i h e. absurd (s i h e))) (ap later_role m) (record {
-    kind = k ∙ ap fake_role (sym m);
-    alt = λ c e p. absurd (none c e p);
-    splits = λ p e q. apart is_split q m refl refl;
-    own = λ q. not_both q (ap itself m);
-    owned = λ q. not_both q (ap base_role m);
-    next = λ c e p q. not_both q (ap base_role m);
-    prev = λ c e q. new_prev_of M x c e;
-    events = λ q. apart base_role q m refl refl;
-    joins = λ c e q. joins c e;
-    stops = λ q. apart is_stop q m refl refl;
-    prev_alt = new_prev_alt_of M x w;
-  })
+  pub join_laid : NewPrevAlt L after n → NoStops L n → (r : ℕ) → r < n → lands (L.role r) ≡ true
+      → is_fake (after n) ≡ true → (after n).idx_next ≡ r → Laid (labelled L n join 0 (L.goal r) 0) after (suc n)
+  join_laid w s r l t k z = step_laid v (attached_step M x (ap receives m) (λ i h e. absurd (s i h e)))
+      (ap later_role m) (record {
+        kind = k ∙ ap fake_role (sym m);
+        alt = λ c e p. absurd (none c e p);
+        splits = λ p e q. apart is_split q m refl refl;
+        own = λ q. not_both q (ap itself m);
+        owned = λ q. not_both q (ap base_role m);
+        next = λ c e p q. not_both q (ap base_role m);
+        prev = λ c e q. new_prev_of M x c e;
+        events = λ q. apart base_role q m refl refl;
+        joins = λ c e q. joins c e;
+        stops = λ q. apart is_stop q m refl refl;
+        prev_alt = new_prev_alt_of M x w;
+      })
     where
       M : Labels
       M = labelled L n join 0 (L.goal r) 0
@@ -176,7 +198,8 @@ module _ {L : Labels} {node after : ℕ → EstTime} {n b : ℕ} (v : Laid L nod
             goal = new_goal L n join 0 (L.goal r) 0 ∙ sym (x.goal r l) ∙ ap M.goal (sym d);
           }
 
-  pub stop_laid : NewPrevAlt L after n → is_fake (after n) ≡ true → (after n).idx_next ≡ suc n → Laid (labelled L n stop 0 0 0) after (suc n)
+  pub stop_laid : NewPrevAlt L after n → is_fake (after n) ≡ true → (after n).idx_next ≡ suc n
+      → Laid (labelled L n stop 0 0 0) after (suc n)
   stop_laid w k z = step_laid v (attached_step M x (ap receives m) (λ i h e. m)) (ap later_role m) (record {
     kind = k ∙ ap fake_role (sym m);
     alt = λ c e p. absurd (none c e p);
@@ -203,7 +226,8 @@ module _ {L : Labels} {node after : ℕ → EstTime} {n b : ℕ} (v : Laid L nod
       none : (c : ℕ) → (after n).idx_next_alt ≡ c → 0 < c → ⊥
       none c e p = let d = a.new_alt in omega arith
 
-pub split_laid : {L : Labels} {node after : ℕ → EstTime} {n p : ℕ} → Laid L node n → Alternated node after n p → base_role (L.role p) ≡ true → (node p).idx_next_alt ≡ 0 → NoStops L n → is_fake (after n) ≡ true
+pub split_laid : {L : Labels} {node after : ℕ → EstTime} {n p : ℕ} → Laid L node n → Alternated node after n p
+    → base_role (L.role p) ≡ true → (node p).idx_next_alt ≡ 0 → NoStops L n → is_fake (after n) ≡ true
     → Laid (labelled L n split (L.owner p) 0 0) after (suc n)
 split_laid {L} {node} {after} {n} {p} v a base empty s k = step_laid v (record {
   labels = x;
@@ -242,9 +266,16 @@ split_laid {L} {node} {after} {n} {p} v a base empty s k = step_laid v (record {
 
     alt : (i : ℕ) → i < n → (i ≡ p) ⊎ (i ≡ p → ⊥)
         → ((after i).idx_next_alt ≡ (node i).idx_next_alt)
-        ⊎ (((node i).idx_next_alt ≡ 0) × (((after i).idx_next_alt ≡ n) × (((after n).idx_prev ≡ i) × ((M.role n ≡ split) × (base_role (L.role i) ≡ true)))))
+        ⊎ (((node i).idx_next_alt ≡ 0) × (((after i).idx_next_alt ≡ n)
+        × (((after n).idx_prev ≡ i) × ((M.role n ≡ split) × (base_role (L.role i) ≡ true)))))
     alt i h (inl e) =
-        inr (ap (λ (j : ℕ). (node j).idx_next_alt) e ∙ empty, (ap (λ (j : ℕ). (after j).idx_next_alt) e ∙ a.here, (a.new_prev ∙ sym e, (m, ap (λ (j : ℕ). base_role (L.role j)) e ∙ base))))
+        inr (
+          ap (λ (j : ℕ). (node j).idx_next_alt) e ∙ empty,
+          (
+            ap (λ (j : ℕ). (after j).idx_next_alt) e ∙ a.here,
+            (a.new_prev ∙ sym e, (m, ap (λ (j : ℕ). base_role (L.role j)) e ∙ base)),
+          ),
+        )
     alt i h (inr d) = inl (a.other i h d)
 
     none : (c : ℕ) → (after n).idx_next_alt ≡ c → 0 < c → ⊥

@@ -1,4 +1,5 @@
--- Sums over the numbers below n: the same terms, one more term, and one term changed. The total weight of a list of arcs.
+-- Sums over the numbers below n: the same terms, one more term, and one term changed. The total weight of a list of
+-- arcs.
 use mathlib.Core.Path.{◌≡◌, refl, subst}
 use mathlib.Core.Logic.{◌⊎◌, inl, inr}
 use mathlib.Core.List.{List, [], ◌∷◌}
@@ -21,18 +22,21 @@ unfolding sum_below
 sum_suc n f = refl
 
 -- one term has become greater by x
-pub sum_point : (n : ℕ) (f g : ℕ → ℕ) (j x : ℕ) → j < n → ((i : ℕ) → i < n → (i ≡ j → ⊥) → g i ≡ f i) → g j ≡ f j + x → sum_below n g ≡ sum_below n f + x
+pub sum_point : (n : ℕ) (f g : ℕ → ℕ) (j x : ℕ) → j < n → ((i : ℕ) → i < n → (i ≡ j → ⊥) → g i ≡ f i) → g j ≡ f j + x
+    → sum_below n g ≡ sum_below n f + x
 unfolding sum_below
 sum_point zero f g j x h o e = absurd (omega arith)
 sum_point (suc n) f g j x h o e = go (below j n h) (sum_point n f g j x)
   where
-    go : (j < n) ⊎ (j ≡ n) → (j < n → ((i : ℕ) → i < n → (i ≡ j → ⊥) → g i ≡ f i) → g j ≡ f j + x → sum_below n g ≡ sum_below n f + x) → sum_below n g + g n ≡ sum_below n f + f n + x
+    go : (j < n) ⊎ (j ≡ n) → (j < n → ((i : ℕ) → i < n → (i ≡ j → ⊥) → g i ≡ f i) → g j ≡ f j + x
+        → sum_below n g ≡ sum_below n f + x) → sum_below n g + g n ≡ sum_below n f + f n + x
     go (inl l) ih =
         let a : sum_below n g ≡ sum_below n f + x = ih l (λ i k. o i (omega arith)) e in
         let c : g n ≡ f n = o n (omega arith) (λ (q : n ≡ j). omega arith) in
         omega arith
     go (inr q) ih =
-        let a : sum_below n g ≡ sum_below n f = sum_same n f g (λ i k. o i (omega arith) (λ (r : i ≡ j). omega arith)) in
+        let a : sum_below n g ≡ sum_below n f = sum_same n f g
+        (λ i k. o i (omega arith) (λ (r : i ≡ j). omega arith)) in
         let c : g n ≡ f n + x = subst (λ (k : ℕ). g k ≡ f k + x) q e in
         omega arith
 

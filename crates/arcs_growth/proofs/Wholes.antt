@@ -31,7 +31,8 @@ use Rattle.arcs_growth.proofs.AtEvents.{Notes, notes_more}
 use Rattle.arcs_growth.proofs.Ends.{Linked, Ending}
 
 -- what is laid in n nodes is laid wherever these are the same
-pub laid_same : {L : Labels} {node after : ℕ → EstTime} {n : ℕ} → Laid L node n → ((i : ℕ) → i < n → after i ≡ node i) → Laid L after n
+pub laid_same : {L : Labels} {node after : ℕ → EstTime} {n : ℕ} → Laid L node n → ((i : ℕ) → i < n → after i ≡ node i)
+    → Laid L after n
 laid_same {L} {node} {after} {n} v f = record {
   two = v.two;
   zeroth = v.zeroth;
@@ -47,18 +48,46 @@ laid_same {L} {node} {after} {n} v f = record {
         record {
           kind = ap (λ (x : EstTime). is_fake x) (f i h) ∙ o.kind;
           alt = λ a e p. let q = o.alt a (sym (ap (λ (x : EstTime). x.idx_next_alt) (f i h)) ∙ e) p in
-              record { rises = q.rises; inside = q.inside; base = q.base; fake = q.fake; back = ap (λ (x : EstTime). x.idx_prev) (f a q.inside) ∙ q.back };
+              record {
+                rises = q.rises;
+                inside = q.inside;
+                base = q.base;
+                fake = q.fake;
+                back = ap (λ (x : EstTime). x.idx_prev) (f a q.inside) ∙ q.back;
+              };
           splits = λ p e m. let q = o.splits p (sym (ap (λ (x : EstTime). x.idx_prev) (f i h)) ∙ e) m in
-              record { earlier = q.earlier; alt = ap (λ (x : EstTime). x.idx_next_alt) (f p (omega (arith, q.earlier))) ∙ q.alt; base = q.base; owner = q.owner };
+              record {
+                earlier = q.earlier;
+                alt = ap (λ (x : EstTime). x.idx_next_alt) (f p (omega (arith, q.earlier)))
+                    ∙ q.alt;
+                base = q.base;
+                owner = q.owner;
+              };
           own = o.own;
           owned = o.owned;
           next = λ r e p m. let q = o.next r (sym (ap (λ (x : EstTime). x.idx_next) (f i h)) ∙ e) p m in
-              record { inside = q.inside; receiver = q.receiver; back = ap (λ (x : EstTime). x.idx_prev) (f r q.inside) ∙ q.back };
+              record {
+                inside = q.inside;
+                receiver = q.receiver;
+                back = ap (λ (x : EstTime). x.idx_prev) (f r q.inside) ∙ q.back;
+              };
           prev = λ c e m. let q = o.prev c (sym (ap (λ (x : EstTime). x.idx_prev) (f i h)) ∙ e) m in
-              record { inside = q.inside; base = q.base; forth = ap (λ (x : EstTime). x.idx_next) (f c q.inside) ∙ q.forth };
-          events = λ m. let q = o.events m in record { goal = q.goal; depth = λ c e. q.depth c (sym (ap (λ (x : EstTime). x.idx_prev) (f i h)) ∙ e) };
+              record {
+                inside = q.inside;
+                base = q.base;
+                forth = ap (λ (x : EstTime). x.idx_next) (f c q.inside)
+                    ∙ q.forth;
+              };
+          events = λ m. let q = o.events m in record {
+            goal = q.goal;
+            depth = λ c e. q.depth c (sym (ap (λ (x : EstTime). x.idx_prev) (f i h)) ∙ e);
+          };
           joins = λ r e m. o.joins r (sym (ap (λ (x : EstTime). x.idx_next) (f i h)) ∙ e) m;
-          stops = λ m. let q = o.stops m in record { goal = q.goal; next = ap (λ (x : EstTime). x.idx_next) (f i h) ∙ q.next; later = q.later };
+          stops = λ m. let q = o.stops m in record {
+            goal = q.goal;
+            next = ap (λ (x : EstTime). x.idx_next) (f i h) ∙ q.next;
+            later = q.later;
+          };
           prev_alt = λ a e p. o.prev_alt a (sym (ap (λ (x : EstTime). x.idx_prev_alt) (f i h)) ∙ e) p;
         }
 
@@ -73,7 +102,8 @@ pub record Whole (L : Labels) (node : ℕ → EstTime) (n : ℕ) (arcs : List Ar
   pub last_prev : (node n).idx_prev ≡ n - 1
   pub last_prev_alt : (node n).idx_prev_alt ≡ 0
 
-pub record Finished (b : List ℕ) (places : ℕ) (runs : List EndedRun) (arcs : List Arc) (k : ℕ) (t : Network) : Type 0 where
+pub record Finished (b : List ℕ) (places : ℕ) (runs : List EndedRun) (arcs : List Arc) (k : ℕ)
+    (t : Network) : Type 0 where
   pub room : RoomIn t.table places
   pub inside : t.nodes ≤ places
   pub labels : Labels
@@ -84,7 +114,8 @@ pub record Finished (b : List ℕ) (places : ℕ) (runs : List EndedRun) (arcs :
   pub taken : AllTaken b (at t.table) t.nodes runs
   pub linked : Linked (at t.table) t.nodes t.nodes
 
-pub last_keeps : {b : List ℕ} {places : ℕ} {runs : List EndedRun} {arcs : List Arc} {k : ℕ} (alt : ℕ) (t : Network) → Ending b places runs arcs k [] alt t → Holds (Finished b places runs arcs k) (last_node places t)
+pub last_keeps : {b : List ℕ} {places : ℕ} {runs : List EndedRun} {arcs : List Arc} {k : ℕ} (alt : ℕ) (t : Network)
+    → Ending b places runs arcs k [] alt t → Holds (Finished b places runs arcs k) (last_node places t)
 unfolding last_node fake_node blank no_link_event
 last_keeps {b} {places} {runs} {arcs} {k} alt t d = go (ltb t.nodes places) refl
   where
@@ -101,16 +132,24 @@ last_keeps {b} {places} {runs} {arcs} {k} alt t d = go (ltb t.nodes places) refl
     same i h = put_other t.table n last i (λ (q : i ≡ n). omega arith)
 
     kept : EventsKept n (at t.table) (at after)
-    kept = record { event = λ i h. ap (λ (y : EstTime). y.link_event) (same i h); speed = λ i h. ap (λ (y : EstTime). y.speed) (same i h) }
+    kept = record {
+      event = λ i h. ap (λ (y : EstTime). y.link_event) (same i h);
+      speed = λ i h. ap (λ (y : EstTime). y.speed) (same i h);
+    }
 
     x : Extends d.labels d.labels n
     x = record { role = λ i h. refl; owner = λ i h. refl; goal = λ i h. refl; depth = λ i h. refl }
 
-    closed : (i : ℕ) → i < n → base_role (d.labels.role i) ≡ true → ((at after i).idx_next ≡ 0) ⊎ ((at after i).idx_next ≡ 0 → ⊥) → 0 < (at after i).idx_next
+    closed : (i : ℕ) → i < n → base_role (d.labels.role i) ≡ true
+        → ((at after i).idx_next ≡ 0) ⊎ ((at after i).idx_next ≡ 0 → ⊥) → 0 < (at after i).idx_next
     closed i h p (inl z) = not_both (d.closed i h p (sym (ap (λ (y : EstTime). y.idx_next) (same i h)) ∙ z)) refl
     closed i h p (inr z) = omega arith
 
-    go : (r : Bool) → ltb t.nodes places ≡ r → Holds (Finished b places runs arcs k) (room_for r (record { table = put t.table t.nodes (fake_node 0 (t.nodes - 1) 0 (of_bits binary64 0)); nodes = suc t.nodes }))
+    go : (r : Bool) → ltb t.nodes places ≡ r → Holds (Finished b places runs arcs k)
+        (room_for r (record {
+          table = put t.table t.nodes (fake_node 0 (t.nodes - 1) 0 (of_bits binary64 0));
+          nodes = suc t.nodes;
+        }))
     go false e = tt
     go true e = record {
       room = put_room t.table t.nodes last places d.room;
@@ -121,15 +160,19 @@ last_keeps {b} {places} {runs} {arcs} {k} alt t d = go (ltb t.nodes places) refl
       whole = record {
         laid = laid_same d.graph.laid same;
         bases = d.graph.bases;
-        noted = λ w. d.graph.noted w ∙ sym (sum_same n (weigh d.labels (at t.table) [] w) (weigh d.labels (at after) [] w)
-            (λ i h. weigh_same (at t.table) (at after) x [] [] w i h (ap (λ (y : EstTime). y.idx_next) (same i h)) (ap (λ (y : EstTime). y.time_to_next) (same i h)) (ap (λ (y : EstTime). y.dist_to_next) (same i h)) (next_within d.graph.laid i h) refl));
+        noted = λ w. d.graph.noted w ∙ sym (sum_same n (weigh d.labels (at t.table) [] w)
+            (weigh d.labels (at after) [] w)
+            (λ i h. weigh_same (at t.table) (at after) x [] [] w i h (ap (λ (y : EstTime). y.idx_next) (same i h))
+            (ap (λ (y : EstTime). y.time_to_next) (same i h)) (ap (λ (y : EstTime). y.dist_to_next) (same i h))
+            (next_within d.graph.laid i h) refl));
         closed = λ i h p. closed i h p (equal_or_not (at after i).idx_next 0);
         last_kind = ap (λ (y : EstTime). is_fake y) there;
         last_alt = ap (λ (y : EstTime). y.idx_next_alt) there;
         last_prev = ap (λ (y : EstTime). y.idx_prev) there;
         last_prev_alt = ap (λ (y : EstTime). y.idx_prev_alt) there;
       };
-      notes = notes_more b (at t.table) (at after) (omega (arith, d.graph.laid.two)) (omega arith) kept [] runs arcs d.notes;
+      notes = notes_more b (at t.table) (at after) (omega (arith, d.graph.laid.two))
+          (omega arith) kept [] runs arcs d.notes;
       taken = taken_more b (at t.table) (at after) (omega arith) kept runs d.taken;
       linked = record {
         next = λ i h. next i (below i n h);
@@ -147,16 +190,22 @@ last_keeps {b} {places} {runs} {arcs} {k} alt t d = go (ltb t.nodes places) refl
 
         next : (i : ℕ) → (i < n) ⊎ (i ≡ n) → (at after i).idx_next < suc n
         next i (inl h) = let c = ap (λ (y : EstTime). y.idx_next) (same i h) in let l = d.linked.next i h in omega arith
-        next i (inr q) = let c : (at after i).idx_next ≡ 0 = ap (λ (m : ℕ). (at after m).idx_next) q ∙ ap (λ (y : EstTime). y.idx_next) there in omega arith
+        next i (inr q) = let c : (at after i).idx_next ≡ 0 =
+            ap (λ (m : ℕ). (at after m).idx_next) q ∙ ap (λ (y : EstTime). y.idx_next) there in omega arith
 
         next_alt : (i : ℕ) → (i < n) ⊎ (i ≡ n) → (at after i).idx_next_alt < suc n
-        next_alt i (inl h) = let c = ap (λ (y : EstTime). y.idx_next_alt) (same i h) in let l = d.linked.next_alt i h in omega arith
-        next_alt i (inr q) = let c : (at after i).idx_next_alt ≡ 0 = ap (λ (m : ℕ). (at after m).idx_next_alt) q ∙ ap (λ (y : EstTime). y.idx_next_alt) there in omega arith
+        next_alt i (inl h) = let c = ap (λ (y : EstTime). y.idx_next_alt) (same i h) in let l = d.linked.next_alt i h in
+            omega arith
+        next_alt i (inr q) = let c : (at after i).idx_next_alt ≡ 0 =
+            ap (λ (m : ℕ). (at after m).idx_next_alt) q ∙ ap (λ (y : EstTime). y.idx_next_alt) there in omega arith
 
         prev : (i : ℕ) → (i < n) ⊎ (i ≡ n) → (at after i).idx_prev < suc n
         prev i (inl h) = let c = ap (λ (y : EstTime). y.idx_prev) (same i h) in let l = d.linked.prev i h in omega arith
-        prev i (inr q) = let c : (at after i).idx_prev ≡ n - 1 = ap (λ (m : ℕ). (at after m).idx_prev) q ∙ ap (λ (y : EstTime). y.idx_prev) there in omega arith
+        prev i (inr q) = let c : (at after i).idx_prev ≡ n - 1 =
+            ap (λ (m : ℕ). (at after m).idx_prev) q ∙ ap (λ (y : EstTime). y.idx_prev) there in omega arith
 
         prev_alt : (i : ℕ) → (i < n) ⊎ (i ≡ n) → (at after i).idx_prev_alt < suc n
-        prev_alt i (inl h) = let c = ap (λ (y : EstTime). y.idx_prev_alt) (same i h) in let l = d.linked.prev_alt i h in omega arith
-        prev_alt i (inr q) = let c : (at after i).idx_prev_alt ≡ 0 = ap (λ (m : ℕ). (at after m).idx_prev_alt) q ∙ ap (λ (y : EstTime). y.idx_prev_alt) there in omega arith
+        prev_alt i (inl h) = let c = ap (λ (y : EstTime). y.idx_prev_alt) (same i h) in let l = d.linked.prev_alt i h in
+            omega arith
+        prev_alt i (inr q) = let c : (at after i).idx_prev_alt ≡ 0 =
+            ap (λ (m : ℕ). (at after m).idx_prev_alt) q ∙ ap (λ (y : EstTime). y.idx_prev_alt) there in omega arith

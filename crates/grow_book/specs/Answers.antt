@@ -3,7 +3,8 @@ use Rattle.std.specs.Prelude.{◌≡◌, List, [], ◌∷◌, ℕ, ◌<◌, Floa
 use Rattle.laws.specs.Answer.{Answer, refused, given, and_then}
 use Rattle.book_format.specs.Format.{legs}
 use Rattle.grow_rules.specs.Run.{Net, Run}
-use Rattle.grow_rules.specs.Growth.{first_nodes, grow_origins, take_leg, drive, end_fakes, last_node, grown_with, Growth}
+use Rattle.grow_rules.specs.Growth.{first_nodes, grow_origins, take_leg, drive, end_fakes, last_node, grown_with}
+use Rattle.grow_rules.specs.Growth.{Growth}
 use Rattle.net_node.specs.Left.{Network}
 use Rattle.book_options.specs.Options.{kept_origins}
 use Rattle.net_event_map.specs.declared.Layout.{Layout}
@@ -31,7 +32,8 @@ next_turn b places net [] = given (record { net = net; saved = [] })
 next_turn b places net (run ∷ saved) = take_leg b places net run saved
 
 -- the run that takes its leg next is at the front of the same network and runs; or no run is left
-abbrev pub NextRun : Plan → List Float → List ℕ → List EstJoinPath → List EstJoinPath → State → Option (Rest × Front) → Type 0
+abbrev pub NextRun : Plan → List Float → List ℕ → List EstJoinPath → List EstJoinPath → State → Option (Rest × Front)
+    → Type 0
 NextRun p reals cells joins joins' g None =
     (b : List ℕ) (fs : List Float) (us path : List ℕ) (net : Net) (runs : List Run)
     → DriveIn b p (lists fs us reals cells joins) path g net runs → runs ≡ []

@@ -2,22 +2,23 @@
 // specs/Answers.antt.
 #![tactic(auto)]
 
-ghost use Rattle.std.specs.Prelude.{◌≡◌, ℕ, ◌+◌, ◌*◌, ◌≤◌, length};
+ghost use Rattle.std.specs.Prelude.{ℕ, ◌+◌, ◌*◌, ◌≤◌, length};
 ghost use Rattle.net_node.specs.Left.{places_of};
 ghost use Rattle.net_node.specs.Table.{node_at};
 ghost use Rattle.book_format.specs.Format.{links, legs};
-ghost use Rattle.book_legs.specs.Legs.{Started};
-ghost use Rattle.book_options.specs.Options.{OptionsIn, kept_origins, search_room};
+ghost use Rattle.book_options.specs.Options.{search_room};
 ghost use Rattle.book_reader.specs.Reader.{Ready};
 ghost use Rattle.grow_rules.specs.Growth.{grow};
-ghost use Rattle.grow_state.specs.Held.{PlanIn, SomeDrive, lists_at_entry, lists_at_exit, lists};
+ghost use Rattle.grow_state.specs.Held.{RealsRoom, SomeDrive, lists_at_entry, lists_at_exit, lists};
 ghost use Rattle.grow_origins.specs.Origins.{OnlyStart};
 ghost use Rattle.net_node.specs.Lent.{table_at_entry, table_at_exit};
-ghost use Rattle.grow_book.specs.Answers.{SomeClosing, GrownAs, Drives, Closes, GrowsFirst, NextRun, AtStart, FromOrigins};
+ghost use Rattle.grow_book.specs.Answers.{SomeClosing, GrownAs, Drives, Closes, GrowsFirst, NextRun};
+ghost use Rattle.grow_book.specs.Answers.{AtStart, FromOrigins};
 
 use book_format::ReadableBook;
 use grow_events::Counts;
-use grow_state::{Front, Plan, Rest, State};
+use grow_origins::StartingBook;
+use grow_state::{Front, Plan, PlannedBook, Rest, State};
 use net_event_map::Layout;
 use net_join_paths::JoinPaths;
 use net_stack::Stack;
@@ -48,36 +49,33 @@ fn next_run(
 // All runs, a leg to a turn: "last saved run first". A leg is taken at most once, so as many turns as there are legs
 // are enough: no run is left then. What is counted of the network.
 fn drive(
-    book: &ReadableBook,
+    p: &PlannedBook,
     floats: &mut [f64],
     numbers: &mut [u32],
     reals: &mut [f64],
     cells: &mut [u32],
-    marks: &[u32],
     joins: &mut JoinPaths,
     scratch: &mut JoinPaths,
     stack: &mut Stack,
-    p: Plan,
     g: Rest,
 ) -> Result<Counts, Refusal>
-    requires plan_in { PlanIn book.now p (length reals.old) }
-    requires options_in { OptionsIn book.now marks.now }
-    requires book_in_bounds { links book.now ≤ length marks.now }
-    requires from_origins { FromOrigins book.now p (lists floats.old numbers.old reals.old cells.old joins.old.items) g }
-    ensures { Drives book.now p g (lists_at_entry floats numbers reals cells joins)
+    requires reals_room { RealsRoom p.now.book.now reals.old }
+    requires from_origins { FromOrigins p.now.book.now p.now.plan
+        (lists floats.old numbers.old reals.old cells.old joins.old.items) g }
+    ensures { Drives p.now.book.now p.now.plan g (lists_at_entry floats numbers reals cells joins)
         (lists_at_exit floats numbers reals cells joins) result }
 {
     let mut state = State {
         rest: g,
         front: None,
     };
-    for _ in 0..book.book().legs() {
-        let next = next_run(reals, cells, joins, p, state);
+    for _ in 0..p.book.book().legs() {
+        let next = next_run(reals, cells, joins, p.plan, state);
         let Some((rest, front)) = next else {
             return Ok(state.rest.counts);
         };
         state = grow_leg::turn(
-            book, floats, numbers, reals, cells, marks, joins, scratch, stack, p, rest, front,
+            p, floats, numbers, reals, cells, joins, scratch, stack, rest, front,
         )?;
     }
     Ok(state.rest.counts)
@@ -115,36 +113,28 @@ fn close(
 
 // All runs of a book whose first nodes are made, from its origins on, then the ends.
 fn run_all(
-    book: &ReadableBook,
+    p: &StartingBook,
     floats: &mut [f64],
     numbers: &mut [u32],
     reals: &mut [f64],
     cells: &mut [u32],
-    marks: &[u32],
     joins: &mut JoinPaths,
     scratch: &mut JoinPaths,
     stack: &mut Stack,
-    kept: usize,
-    p: Plan,
 ) -> Result<Report, Refusal>
-    requires plan_in { PlanIn book.now p (length reals.old) }
-    requires options_in { OptionsIn book.now marks.now }
-    requires book_in_bounds { search_room book.now ≤ length marks.now }
-    requires kept_value { kept ≡ length (kept_origins book.now) }
-    requires at_start { AtStart book.now p (lists floats.old numbers.old reals.old cells.old joins.old.items) }
+    requires reals_room { RealsRoom p.now.planned.book.now reals.old }
+    requires at_start { AtStart p.now.planned.book.now p.now.planned.plan
+        (lists floats.old numbers.old reals.old cells.old joins.old.items) }
     requires only_start { OnlyStart (node_at floats.old numbers.old) 2 }
-    requires started { Started book.now marks.now }
-    ensures { GrowsFirst book.now p (lists_at_entry floats numbers reals cells joins)
+    ensures { GrowsFirst p.now.planned.book.now p.now.planned.plan (lists_at_entry floats numbers reals cells joins)
         (table_at_exit floats numbers) result }
 {
     let g = grow_origins::first_state();
-    let rest = grow_origins::origins(
-        book, floats, numbers, reals, cells, marks, joins, kept, p, g,
-    )?;
+    let rest = grow_origins::origins(p, floats, numbers, reals, cells, joins, g)?;
     let counts = drive(
-        book, floats, numbers, reals, cells, marks, joins, scratch, stack, p, rest,
+        &p.planned, floats, numbers, reals, cells, joins, scratch, stack, rest,
     )?;
-    close(floats, numbers, cells, p.w, counts)
+    close(floats, numbers, cells, p.planned.plan.w, counts)
 }
 
 // Grows the network of a book that was read, in a table and work space that are lent: the report's counts.
@@ -158,10 +148,10 @@ pub fn grow_book(
     marks: &[u32],
 ) -> Result<Report, Refusal>
     requires ready { Ready book.now kept cells.old marks.now }
-    requires book_in_bounds { legs book.now * 3 + 4 ≤ length reals.old }
-    requires book_in_bounds_2 { (legs book.now + 1 + places_of (length floats.old) (length numbers.old) + links book.now) * 8 ≤
-        length cells.old }
-    requires book_in_bounds_3 { search_room book.now ≤ length marks.now }
+    requires reals_room { legs book.now * 3 + 4 ≤ length reals.old }
+    requires cells_room { (legs book.now + 1 + places_of (length floats.old) (length numbers.old) + links book.now) * 8
+        ≤ length cells.old }
+    requires marks_room { search_room book.now ≤ length marks.now }
     ensures { GrownAs
         (grow book.now (places_of (length floats.old) (length numbers.old))
         (table_at_entry floats numbers)) floats.new numbers.new result }
@@ -170,23 +160,22 @@ pub fn grow_book(
     if places < 2 {
         return Err(Refusal::NoPlace);
     }
-    let p = grow_origins::plan_of(book, places);
-    grow_ends::first_nodes(floats, numbers, p.departure);
+    let plan = grow_origins::plan_of(book, places);
+    let planned = PlannedBook { book, marks, plan };
+    let p = StartingBook { planned, kept };
+    grow_ends::first_nodes(floats, numbers, plan.departure);
     grow_path::start_path(reals);
     let mut joins = JoinPaths::new();
     let mut scratch = JoinPaths::new();
     let mut stack = Stack::new();
     run_all(
-        book,
+        &p,
         floats,
         numbers,
         reals,
         cells,
-        marks,
         &mut joins,
         &mut scratch,
         &mut stack,
-        kept,
-        p,
     )
 }

@@ -22,7 +22,8 @@ network_of t k = record { table = t; nodes = k }
 
 -- ---- one store
 
-stored_is : (t : Table) (i : ℕ) (fs : List Float) (us : List ℕ) (u x : EstTime) → fs ≡ put_floats t.floats i u → us ≡ put_numbers t.numbers i u → u ≡ x → table_of fs us ≡ put t i x
+stored_is : (t : Table) (i : ℕ) (fs : List Float) (us : List ℕ) (u x : EstTime) → fs ≡ put_floats t.floats i u
+    → us ≡ put_numbers t.numbers i u → u ≡ x → table_of fs us ≡ put t i x
 unfolding put
 stored_is t i fs us u x a b e =
     let s : table_of fs us ≡ put t i u = λ j. record { floats = a j; numbers = b j } in
@@ -33,26 +34,35 @@ stored_is t i fs us u x a b e =
 pub first_stored : (t : Table) (time : Float) (fs gs : List Float) (us vs : List ℕ) (u v : EstTime)
     → u ≡ fake_node 1 0 0 (of_bits binary64 0) → fs ≡ put_floats t.floats 0 u → us ≡ put_numbers t.numbers 0 u
     → v ≡ fake_node 0 0 0 time → gs ≡ put_floats fs 1 v → vs ≡ put_numbers us 1 v
-    → (gs ≡ (put (put t 0 (fake_node 1 0 0 (of_bits binary64 0))) 1 (fake_node 0 0 0 time)).floats) × (vs ≡ (put (put t 0 (fake_node 1 0 0 (of_bits binary64 0))) 1 (fake_node 0 0 0 time)).numbers)
-first_stored t time fs gs us vs u v a f n b g m = (ap (λ (s : Table). s.floats) both, ap (λ (s : Table). s.numbers) both)
+    → (gs ≡ (put (put t 0 (fake_node 1 0 0 (of_bits binary64 0))) 1 (fake_node 0 0 0 time)).floats)
+    × (vs ≡ (put (put t 0 (fake_node 1 0 0 (of_bits binary64 0))) 1 (fake_node 0 0 0 time)).numbers)
+first_stored t time fs gs us vs u v a f n b g m =
+    (ap (λ (s : Table). s.floats) both, ap (λ (s : Table). s.numbers) both)
   where
     both : table_of gs vs ≡ put (put t 0 (fake_node 1 0 0 (of_bits binary64 0))) 1 (fake_node 0 0 0 time)
-    both = stored_is (table_of fs us) 1 gs vs v (fake_node 0 0 0 time) g m b ∙ ap (λ (s : Table). put s 1 (fake_node 0 0 0 time)) (stored_is t 0 fs us u (fake_node 1 0 0 (of_bits binary64 0)) f n a)
+    both = stored_is (table_of fs us) 1 gs vs v (fake_node 0 0 0 time) g m b
+        ∙ ap (λ (s : Table). put s 1 (fake_node 0 0 0 time))
+        (stored_is t 0 fs us u (fake_node 1 0 0 (of_bits binary64 0)) f n a)
 
 -- ---- the last node
 
 module _ (t : Table) (n places : ℕ) where
   pub last_full : places ≤ n → last_node places (network_of t n) ≡ refused 12
   unfolding last_node
-  last_full h = ap (λ (b : Bool). room_for b (network_of (put t n (fake_node 0 (n - 1) 0 (of_bits binary64 0))) (suc n))) (le-ltb n places h)
+  last_full h = ap (λ (b : Bool). room_for b (network_of (put t n (fake_node 0 (n - 1) 0 (of_bits binary64 0)))
+      (suc n))) (le-ltb n places h)
 
-  pub last_stored : (fs : List Float) (us : List ℕ) (u : EstTime) → n < places → u ≡ fake_node 0 (n - 1) 0 (of_bits binary64 0) → fs ≡ put_floats t.floats n u → us ≡ put_numbers t.numbers n u
+  pub last_stored : (fs : List Float) (us : List ℕ) (u : EstTime) → n < places
+      → u ≡ fake_node 0 (n - 1) 0 (of_bits binary64 0) → fs ≡ put_floats t.floats n u → us ≡ put_numbers t.numbers n u
       → last_node places (network_of t n) ≡ given (network_of (table_of fs us) (n + 1))
   unfolding last_node
   last_stored fs us u h a f m =
-      let s : table_of fs us ≡ put t n (fake_node 0 (n - 1) 0 (of_bits binary64 0)) = stored_is t n fs us u (fake_node 0 (n - 1) 0 (of_bits binary64 0)) f m a in
-      ap (λ (b : Bool). room_for b (network_of (put t n (fake_node 0 (n - 1) 0 (of_bits binary64 0))) (suc n))) (lt-ltb n places h)
-      ∙ sym (ap (λ (x : Table). given (network_of x (n + 1))) s ∙ ap (λ (k : ℕ). given (network_of (put t n (fake_node 0 (n - 1) 0 (of_bits binary64 0))) k)) (add-one n))
+      let s : table_of fs us ≡ put t n (fake_node 0 (n - 1) 0 (of_bits binary64 0)) =
+      stored_is t n fs us u (fake_node 0 (n - 1) 0 (of_bits binary64 0)) f m a in
+      ap (λ (b : Bool). room_for b (network_of (put t n (fake_node 0 (n - 1) 0 (of_bits binary64 0))) (suc n)))
+      (lt-ltb n places h)
+      ∙ sym (ap (λ (x : Table). given (network_of x (n + 1))) s
+      ∙ ap (λ (k : ℕ). given (network_of (put t n (fake_node 0 (n - 1) 0 (of_bits binary64 0))) k)) (add-one n))
 
 -- ---- a chain of ends
 
@@ -64,7 +74,8 @@ module _ (cells : List ℕ) (base : ℕ) where
   ends_alone last (i ∷ is) [] e f = absurd (omega (arith, f, e.0, e.1.0))
   ends_alone last (i ∷ is) (j ∷ js) e f =
       let a : i ≡ j = sym e.0 ∙ f.0 in
-      let c : suc (head_of is) ≡ suc (head_of js) = sym e.1.1.0 ∙ ap (λ (k : ℕ). get_or cells (base + k * 8) 0) a ∙ f.1.1.0 in
+      let c : suc (head_of is) ≡ suc (head_of js) =
+      sym e.1.1.0 ∙ ap (λ (k : ℕ). get_or cells (base + k * 8) 0) a ∙ f.1.1.0 in
       let b : head_of js ≡ head_of is = omega (arith, c) in
       let r : is ≡ js = ends_alone (head_of is) is js e.1.1.1 (moved b f.1.1.1) in
       (λ t. a t ∷ r t)
@@ -81,7 +92,8 @@ record Next (cells : List ℕ) (base i n : ℕ) (is : List ℕ) : Type 0 where
   inside : i < n
   below : Below n after
 
-next_end : (cells : List ℕ) (base i n : ℕ) (is : List ℕ) → EndsIn cells base i is → Below n is → (i ≡ 0 → ⊥) → Next cells base i n is
+next_end : (cells : List ℕ) (base i n : ℕ) (is : List ℕ) → EndsIn cells base i is → Below n is → (i ≡ 0 → ⊥)
+    → Next cells base i n is
 next_end cells base i n [] e b h = absurd (h e)
 next_end cells base i n (j ∷ js) e b h = record {
   after = js;
@@ -103,21 +115,27 @@ module _ (places i alt : ℕ) (is : List ℕ) (s : Table) (k : ℕ) where
 
   fakes_full : places ≤ k → end_fakes places (i ∷ is) alt (network_of s k) ≡ refused 12
   unfolding end_fakes
-  fakes_full h = ap (λ (b : Bool). and_then (room_for b (network_of led_to (suc k))) (end_fakes places is k)) (le-ltb k places h)
+  fakes_full h = ap (λ (b : Bool). and_then (room_for b (network_of led_to (suc k))) (end_fakes places is k))
+      (le-ltb k places h)
 
-  fakes_on : k < places → end_fakes places (i ∷ is) alt (network_of s k) ≡ end_fakes places is k (network_of led_to (suc k))
+  fakes_on : k < places → end_fakes places (i ∷ is) alt (network_of s k) ≡ end_fakes places is k
+      (network_of led_to (suc k))
   unfolding end_fakes
-  fakes_on h = ap (λ (b : Bool). and_then (room_for b (network_of led_to (suc k))) (end_fakes places is k)) (lt-ltb k places h)
+  fakes_on h = ap (λ (b : Bool). and_then (room_for b (network_of led_to (suc k))) (end_fakes places is k))
+      (lt-ltb k places h)
 
   -- what the code stores
   led_stored : (fs gs : List Float) (us vs : List ℕ) (u x v : EstTime)
       → u ≡ fake_node (k + 1) i alt (of_bits binary64 0) → fs ≡ put_floats s.floats k u → us ≡ put_numbers s.numbers k u
-      → x ≡ node_at fs us i → v ≡ leads_to_end x k → gs ≡ put_floats fs i v → vs ≡ put_numbers us i v → table_of gs vs ≡ led_to
+      → x ≡ node_at fs us i → v ≡ leads_to_end x k → gs ≡ put_floats fs i v → vs ≡ put_numbers us i v
+      → table_of gs vs ≡ led_to
   unfolding at
   led_stored fs gs us vs u x v a f n l b g m =
-      let o : table_of fs us ≡ fake_at = stored_is s k fs us u (fake_node (suc k) i alt (of_bits binary64 0)) f n (a ∙ ap (λ (j : ℕ). fake_node j i alt (of_bits binary64 0)) (add-one k)) in
+      let o : table_of fs us ≡ fake_at = stored_is s k fs us u (fake_node (suc k) i alt (of_bits binary64 0)) f n
+      (a ∙ ap (λ (j : ℕ). fake_node j i alt (of_bits binary64 0)) (add-one k)) in
       let y : v ≡ leads_to_end (at (table_of fs us) i) k = b ∙ ap (λ (z : EstTime). leads_to_end z k) l in
-      stored_is (table_of fs us) i gs vs v (leads_to_end (at (table_of fs us) i) k) g m y ∙ ap (λ (z : Table). put z i (leads_to_end (at z i) k)) o
+      stored_is (table_of fs us) i gs vs v (leads_to_end (at (table_of fs us) i) k) g m y
+      ∙ ap (λ (z : Table). put z i (leads_to_end (at z i) k)) o
 
 -- ---- the loop
 
@@ -134,17 +152,22 @@ pub record Faking (cells : List ℕ) (base last n places : ℕ) (t s : Table) (i
   pub below : Below n rest
   pub same : end_fakes places all 0 (network_of t n) ≡ end_fakes places rest alt (network_of s k)
 
-module _ {cells : List ℕ} {base last n places : ℕ} {t s : Table} {i alt k : ℕ} (v : Faking cells base last n places t s i alt k) where
+module _ {cells : List ℕ} {base last n places : ℕ} {t s : Table} {i alt k : ℕ}
+    (v : Faking cells base last n places t s i alt k) where
   -- any list of the ends is the loop's
-  alone : (ends : List ℕ) → EndsIn cells base last ends → end_fakes places ends 0 (network_of t n) ≡ end_fakes places v.rest alt (network_of s k)
-  alone ends e = ap (λ (is : List ℕ). end_fakes places is 0 (network_of t n)) (ends_alone cells base last ends v.all e v.all_chained) ∙ v.same
+  alone : (ends : List ℕ) → EndsIn cells base last ends
+      → end_fakes places ends 0 (network_of t n) ≡ end_fakes places v.rest alt (network_of s k)
+  alone ends e = ap (λ (is : List ℕ). end_fakes places is 0 (network_of t n))
+      (ends_alone cells base last ends v.all e v.all_chained) ∙ v.same
 
-  none_left : (is : List ℕ) → EndsIn cells base i is → i ≡ 0 → end_fakes places is alt (network_of s k) ≡ given (network_of s k)
+  none_left : (is : List ℕ) → EndsIn cells base i is → i ≡ 0
+      → end_fakes places is alt (network_of s k) ≡ given (network_of s k)
   unfolding end_fakes
   none_left [] e z = refl
   none_left (j ∷ js) e z = absurd (omega (arith, e.0, e.1.0, z))
 
-  pub faking_end : i ≡ 0 → (ends : List ℕ) → EndsIn cells base last ends → end_fakes places ends 0 (network_of t n) ≡ given (network_of s k)
+  pub faking_end : i ≡ 0 → (ends : List ℕ) → EndsIn cells base last ends
+      → end_fakes places ends 0 (network_of t n) ≡ given (network_of s k)
   faking_end z ends e = alone ends e ∙ none_left v.rest v.chained z
 
   module _ (h : i ≡ 0 → ⊥) where
@@ -157,15 +180,18 @@ module _ {cells : List ℕ} {base last n places : ℕ} {t s : Table} {i alt k : 
     pub faking_cell : 0 < get_or cells (base + i * 8) 0
     faking_cell = omega (arith, next.cell)
 
-    more_left : (ends : List ℕ) → EndsIn cells base last ends → end_fakes places ends 0 (network_of t n) ≡ end_fakes places (i ∷ next.after) alt (network_of s k)
+    more_left : (ends : List ℕ) → EndsIn cells base last ends
+        → end_fakes places ends 0 (network_of t n) ≡ end_fakes places (i ∷ next.after) alt (network_of s k)
     more_left ends e = alone ends e ∙ ap (λ (is : List ℕ). end_fakes places is alt (network_of s k)) next.is_more
 
-    pub faking_full : places ≤ k → (ends : List ℕ) → EndsIn cells base last ends → end_fakes places ends 0 (network_of t n) ≡ refused 12
+    pub faking_full : places ≤ k → (ends : List ℕ) → EndsIn cells base last ends
+        → end_fakes places ends 0 (network_of t n) ≡ refused 12
     faking_full g ends e = more_left ends e ∙ fakes_full places i alt next.after s k g
 
     pub faking_on : k < places → (fs gs : List Float) (us vs : List ℕ) (u x y : EstTime)
         → length gs ≡ length t.floats → length vs ≡ length t.numbers
-        → u ≡ fake_node (k + 1) i alt (of_bits binary64 0) → fs ≡ put_floats s.floats k u → us ≡ put_numbers s.numbers k u
+        → u ≡ fake_node (k + 1) i alt (of_bits binary64 0) → fs ≡ put_floats s.floats k u
+        → us ≡ put_numbers s.numbers k u
         → x ≡ node_at fs us i → y ≡ leads_to_end x k → gs ≡ put_floats fs i y → vs ≡ put_numbers us i y
         → Faking cells base last n places t (table_of gs vs) (get_or cells (base + i * 8) 0 - 1) k (k + 1)
     faking_on g fs gs us vs u x y lf ln a f m l b c d =
@@ -183,5 +209,8 @@ module _ {cells : List ℕ} {base last n places : ℕ} {t s : Table} {i alt k : 
           same =
               more_left v.all v.all_chained
               ∙ fakes_on places i alt next.after s k g
-              ∙ sym (ap (λ (z : Table). end_fakes places next.after k (network_of z (k + 1))) (led_stored places i alt next.after s k fs gs us vs u x y a f m l b c d) ∙ ap (λ (j : ℕ). end_fakes places next.after k (network_of (led_to places i alt next.after s k) j)) (add-one k));
+              ∙ sym (ap (λ (z : Table). end_fakes places next.after k (network_of z (k + 1)))
+              (led_stored places i alt next.after s k fs gs us vs u x y a f m l b c d)
+              ∙ ap (λ (j : ℕ). end_fakes places next.after k (network_of (led_to places i alt next.after s k) j))
+              (add-one k));
         }

@@ -1,4 +1,5 @@
--- What a caller may know: of the ends, one more of them, cells that leave them as they are, and the flags that insertion reads; of nodes 0 and 1; and how many nodes there are after the end Fakes and the last node.
+-- What a caller may know: of the ends, one more of them, cells that leave them as they are, and the flags that
+-- insertion reads; of nodes 0 and 1; and how many nodes there are after the end Fakes and the last node.
 use mathlib.Core.Path.{◌≡◌, refl, sym, ap, ◌∙◌, subst}
 use mathlib.Core.Logic.{◌⊎◌, inl, inr}
 use mathlib.Core.Bool.{Bool, true, false, not, ◌||◌}
@@ -62,7 +63,8 @@ below_more n m (i ∷ is) h b = (omega (arith, b.0), below_more n m is h b.1)
 pub ends_none : (cells : List ℕ) (base : ℕ) → EndsIn cells base 0 []
 ends_none cells base = refl
 
-pub flag_none : (cells : List ℕ) (base i : ℕ) → get_or cells (base + i * 8) 0 ≡ 0 → flagged cells base i ≡ member_of [] i
+pub flag_none : (cells : List ℕ) (base i : ℕ) → get_or cells (base + i * 8) 0 ≡ 0
+    → flagged cells base i ≡ member_of [] i
 flag_none cells base i h = flagged_clear cells base i (omega (arith, h))
 
 module _ (cells : List ℕ) (base : ℕ) where
@@ -74,58 +76,93 @@ module _ (cells : List ℕ) (base : ℕ) where
   last_below last n [] e b h = omega (arith, e)
   last_below last n (i ∷ is) e b h = omega (arith, e.0, b.0)
 
-  pub some_ends : (last n : ℕ) (is : List ℕ) → EndsIn cells base last is → ((i : ℕ) → member_of is i ≡ true → i < n) → SomeEnds cells base last n
+  pub some_ends : (last n : ℕ) (is : List ℕ) → EndsIn cells base last is → ((i : ℕ) → member_of is i ≡ true → i < n)
+      → SomeEnds cells base last n
   some_ends last n is e h = record { ends = is; chained = e; below = below_all n is h }
 
-  pub ends_real : (last : ℕ) (is : List ℕ) → EndsIn cells base last is → (i : ℕ) → member_of is i ≡ true → (0 < i) × (0 < get_or cells (base + i * 8) 0)
+  pub ends_real : (last : ℕ) (is : List ℕ) → EndsIn cells base last is → (i : ℕ) → member_of is i ≡ true
+      → (0 < i) × (0 < get_or cells (base + i * 8) 0)
   ends_real last [] e i t = not_both t refl
   ends_real last (j ∷ js) e i t = go (ends_real (head_of js) js e.1.1.1 i) (true_or_false (eqb j i))
     where
-      go : (member_of js i ≡ true → (0 < i) × (0 < get_or cells (base + i * 8) 0)) → (eqb j i ≡ true) ⊎ (eqb j i ≡ false) → (0 < i) × (0 < get_or cells (base + i * 8) 0)
-      go r (inl d) = let s : j ≡ i = eqb-true j i d in (subst (λ (k : ℕ). 0 < k) s e.1.0, subst (λ (k : ℕ). 0 < get_or cells (base + k * 8) 0) s (omega (arith, e.1.1.0)))
+      go : (member_of js i ≡ true → (0 < i) × (0 < get_or cells (base + i * 8) 0))
+          → (eqb j i ≡ true) ⊎ (eqb j i ≡ false) → (0 < i) × (0 < get_or cells (base + i * 8) 0)
+      go r (inl d) = let s : j ≡ i = eqb-true j i d in (
+        subst (λ (k : ℕ). 0 < k) s e.1.0,
+        subst (λ (k : ℕ). 0 < get_or cells (base + k * 8) 0) s
+            (omega (arith, e.1.1.0)),
+      )
       go r (inr d) = r (sym (ap (λ (x : Bool). x || member_of js i) d) ∙ t)
 
   -- cells that say the same of each end
-  pub ends_members : (cells' : List ℕ) (last : ℕ) (is : List ℕ) → ((i : ℕ) → member_of is i ≡ true → get_or cells' (base + i * 8) 0 ≡ get_or cells (base + i * 8) 0) → EndsIn cells base last is → EndsIn cells' base last is
+  pub ends_members : (cells' : List ℕ) (last : ℕ) (is : List ℕ)
+      → ((i : ℕ) → member_of is i ≡ true → get_or cells' (base + i * 8) 0 ≡ get_or cells (base + i * 8) 0)
+      → EndsIn cells base last is → EndsIn cells' base last is
   ends_members cells' last [] h e = e
-  ends_members cells' last (i ∷ is) h e = (e.0, (e.1.0, (h i (member_first i is) ∙ e.1.1.0, ends_members cells' (head_of is) is (λ j t. h j (member_more i j is t)) e.1.1.1)))
+  ends_members cells' last (i ∷ is) h e = (
+    e.0,
+    (
+      e.1.0,
+      (
+        h i (member_first i is) ∙ e.1.1.0,
+        ends_members cells' (head_of is) is
+            (λ j t. h j (member_more i j is t)) e.1.1.1,
+      ),
+    ),
+  )
 
-  pub ends_same : (cells' : List ℕ) (last n : ℕ) (is : List ℕ) → Below n is → ((i : ℕ) → i < n → get_or cells' (base + i * 8) 0 ≡ get_or cells (base + i * 8) 0) → EndsIn cells base last is → EndsIn cells' base last is
+  pub ends_same : (cells' : List ℕ) (last n : ℕ) (is : List ℕ) → Below n is
+      → ((i : ℕ) → i < n → get_or cells' (base + i * 8) 0 ≡ get_or cells (base + i * 8) 0) → EndsIn cells base last is
+      → EndsIn cells' base last is
   ends_same cells' last n is b h = ends_members cells' last is (λ i t. h i (below_member n is b i t))
 
-  pub flags_same : (cells' : List ℕ) (i : ℕ) → get_or cells' (base + i * 8) 0 ≡ get_or cells (base + i * 8) 0 → flagged cells' base i ≡ flagged cells base i
+  pub flags_same : (cells' : List ℕ) (i : ℕ) → get_or cells' (base + i * 8) 0 ≡ get_or cells (base + i * 8) 0
+      → flagged cells' base i ≡ flagged cells base i
   unfolding flagged
   flags_same cells' i h = ap (ltb 0) h
 
   -- ---- one end more
 
   module _ (last i : ℕ) (is : List ℕ) (room : base + i * 8 < length cells) where
-    pub ends_more : EndsIn cells base last is → member_of is i ≡ false → 0 < i → EndsIn (set cells (base + i * 8) (suc last)) base i (i ∷ is)
+    pub ends_more : EndsIn cells base last is → member_of is i ≡ false → 0 < i
+        → EndsIn (set cells (base + i * 8) (suc last)) base i (i ∷ is)
     ends_more e f h = (
       refl,
       (
         h,
         (
           get_or-set_same cells (base + i * 8) (suc last) 0 room ∙ ap suc (ends_last last is e),
-          subst (λ (l : ℕ). EndsIn (set cells (base + i * 8) (suc last)) base l is) (ends_last last is e) (ends_members (set cells (base + i * 8) (suc last)) last is other e),
+          subst (λ (l : ℕ). EndsIn (set cells (base + i * 8) (suc last)) base l is) (ends_last last is e)
+              (ends_members (set cells (base + i * 8) (suc last)) last is other e),
         ),
       ),
     )
       where
-        other : (j : ℕ) → member_of is j ≡ true → get_or (set cells (base + i * 8) (suc last)) (base + j * 8) 0 ≡ get_or cells (base + j * 8) 0
-        other j t = let d : j ≡ i → ⊥ = member_apart is i j f t in get_or-set_other cells (base + i * 8) (base + j * 8) (suc last) 0 (λ (q : base + j * 8 ≡ base + i * 8). d (omega (arith, q)))
+        other : (j : ℕ) → member_of is j ≡ true → get_or (set cells (base + i * 8) (suc last))
+            (base + j * 8) 0 ≡ get_or cells (base + j * 8) 0
+        other j t = let d : j ≡ i → ⊥ = member_apart is i j f t in
+            get_or-set_other cells (base + i * 8) (base + j * 8) (suc last) 0
+            (λ (q : base + j * 8 ≡ base + i * 8). d (omega (arith, q)))
 
-    pub flag_more : (j : ℕ) → flagged cells base j ≡ member_of is j → flagged (set cells (base + i * 8) (suc last)) base j ≡ member_of (i ∷ is) j
+    pub flag_more : (j : ℕ) → flagged cells base j ≡ member_of is j
+        → flagged (set cells (base + i * 8) (suc last)) base j ≡ member_of (i ∷ is) j
     flag_more j h = go (true_or_false (eqb i j))
       where
-        go : (eqb i j ≡ true) ⊎ (eqb i j ≡ false) → flagged (set cells (base + i * 8) (suc last)) base j ≡ member_of (i ∷ is) j
+        go : (eqb i j ≡ true) ⊎ (eqb i j ≡ false) → flagged (set cells (base + i * 8) (suc last)) base j ≡ member_of
+            (i ∷ is) j
         go (inl t) =
             let d : i ≡ j = eqb-true i j t in
-            let g : flagged (set cells (base + i * 8) (suc last)) base i ≡ true = flagged_set (set cells (base + i * 8) (suc last)) base i (omega (arith, get_or-set_same cells (base + i * 8) (suc last) 0 room)) in
-            ap (flagged (set cells (base + i * 8) (suc last)) base) (sym d) ∙ g ∙ sym (ap (λ (x : Bool). x || member_of is j) t)
+            let g : flagged (set cells (base + i * 8) (suc last)) base i ≡ true =
+            flagged_set (set cells (base + i * 8) (suc last)) base i
+            (omega (arith, get_or-set_same cells (base + i * 8) (suc last) 0 room)) in
+            ap (flagged (set cells (base + i * 8) (suc last)) base) (sym d) ∙ g
+            ∙ sym (ap (λ (x : Bool). x || member_of is j) t)
         go (inr f) =
             let d : i ≡ j → ⊥ = eqb-false i j f in
-            flags_same (set cells (base + i * 8) (suc last)) j (get_or-set_other cells (base + i * 8) (base + j * 8) (suc last) 0 (λ (q : base + j * 8 ≡ base + i * 8). d (omega (arith, q)))) ∙ h ∙ sym (ap (λ (x : Bool). x || member_of is j) f)
+            flags_same (set cells (base + i * 8) (suc last)) j
+            (get_or-set_other cells (base + i * 8) (base + j * 8) (suc last) 0
+            (λ (q : base + j * 8 ≡ base + i * 8). d (omega (arith, q)))) ∙ h
+            ∙ sym (ap (λ (x : Bool). x || member_of is j) f)
 
 -- ---- a finish that is let through
 
@@ -136,29 +173,41 @@ pub record GoodFinish (net : Net) (run : Run) : Type 0 where
 
 pub good_finish : (net : Net) (run : Run) → bad_finish net run ≡ false → GoodFinish net run
 unfolding bad_finish
-good_finish net run h = go (eqb run.place.idx_prev (net.nodes - 1)) (eqb (at net.table (net.nodes - 1)).idx_next 0) (member_of net.ends (net.nodes - 1)) refl refl refl h
+good_finish net run h = go (eqb run.place.idx_prev (net.nodes - 1)) (eqb (at net.table (net.nodes - 1)).idx_next 0)
+    (member_of net.ends (net.nodes - 1)) refl refl refl h
   where
-    go : (a b m : Bool) → eqb run.place.idx_prev (net.nodes - 1) ≡ a → eqb (at net.table (net.nodes - 1)).idx_next 0 ≡ b → member_of net.ends (net.nodes - 1) ≡ m → (not a || not b || m) ≡ false
+    go : (a b m : Bool) → eqb run.place.idx_prev (net.nodes - 1) ≡ a → eqb (at net.table (net.nodes - 1)).idx_next 0 ≡ b
+        → member_of net.ends (net.nodes - 1) ≡ m → (not a || not b || m) ≡ false
         → GoodFinish net run
-    go true true m p q r e = record { last = eqb-true run.place.idx_prev (net.nodes - 1) p; free = eqb-true (at net.table (net.nodes - 1)).idx_next 0 q; fresh = r ∙ e }
+    go true true m p q r e = record {
+      last = eqb-true run.place.idx_prev (net.nodes - 1) p;
+      free = eqb-true (at net.table (net.nodes - 1)).idx_next 0 q;
+      fresh = r ∙ e;
+    }
     go true false m p q r e = not_both refl e
     go false b m p q r e = not_both refl e
 
 -- the ends and the flags after it
 pub record Finished (net : Net) (run : Run) (cells cells' : List ℕ) (base : ℕ) : Type 0 where
   pub chained : EndsIn cells' base run.place.idx_prev (run.place.idx_prev ∷ net.ends)
-  pub flags : (j : ℕ) → flagged cells base j ≡ member_of net.ends j → flagged cells' base j ≡ member_of (run.place.idx_prev ∷ net.ends) j
+  pub flags : (j : ℕ) → flagged cells base j ≡ member_of net.ends j
+      → flagged cells' base j ≡ member_of (run.place.idx_prev ∷ net.ends) j
   pub within : run.place.idx_prev < net.nodes
 
-pub finished : (net : Net) (run : Run) (cells cells' : List ℕ) (base last : ℕ) → bad_finish net run ≡ false → 1 < net.nodes → base + net.nodes * 8 ≤ length cells + 7
-    → EndsIn cells base last net.ends → MarkedAs cells cells' base last run.place.idx_prev (Ok tt) → Finished net run cells cells' base
+pub finished : (net : Net) (run : Run) (cells cells' : List ℕ) (base last : ℕ) → bad_finish net run ≡ false
+    → 1 < net.nodes → base + net.nodes * 8 ≤ length cells + 7
+    → EndsIn cells base last net.ends → MarkedAs cells cells' base last run.place.idx_prev (Ok tt)
+    → Finished net run cells cells' base
 finished net run cells cells' base last h n l e m =
     let g = good_finish net run h in
     let p : run.place.idx_prev ≡ net.nodes - 1 = g.last in
     let r : base + run.place.idx_prev * 8 < length cells = omega (arith, p) in
     record {
-      chained = subst (λ (c : List ℕ). EndsIn c base run.place.idx_prev (run.place.idx_prev ∷ net.ends)) (sym m) (ends_more cells base last run.place.idx_prev net.ends r e (ap (member_of net.ends) p ∙ g.fresh) (omega (arith, p)));
-      flags = λ j f. ap (λ (c : List ℕ). flagged c base j) m ∙ flag_more cells base last run.place.idx_prev net.ends r j f;
+      chained = subst (λ (c : List ℕ). EndsIn c base run.place.idx_prev (run.place.idx_prev ∷ net.ends)) (sym m)
+          (ends_more cells base last run.place.idx_prev net.ends r e (ap (member_of net.ends) p ∙ g.fresh)
+          (omega (arith, p)));
+      flags = λ j f. ap (λ (c : List ℕ). flagged c base j) m
+          ∙ flag_more cells base last run.place.idx_prev net.ends r j f;
       within = omega (arith, p);
     }
 
@@ -169,20 +218,30 @@ module _ (t : Table) (time : Float) (places : ℕ) (room : RoomIn t places) (mor
   first_table = put (put t 0 (fake_node 1 0 0 (of_bits binary64 0))) 1 (fake_node 0 0 0 time)
 
   pub first_room : RoomIn first_table places
-  first_room = put_room (put t 0 (fake_node 1 0 0 (of_bits binary64 0))) 1 (fake_node 0 0 0 time) places (put_room t 0 (fake_node 1 0 0 (of_bits binary64 0)) places room)
+  first_room = put_room (put t 0 (fake_node 1 0 0 (of_bits binary64 0))) 1 (fake_node 0 0 0 time) places
+      (put_room t 0 (fake_node 1 0 0 (of_bits binary64 0)) places room)
 
   pub node_zero : at first_table 0 ≡ fake_node 1 0 0 (of_bits binary64 0)
-  node_zero = put_other (put t 0 (fake_node 1 0 0 (of_bits binary64 0))) 1 (fake_node 0 0 0 time) 0 (λ (e : 0 ≡ 1). omega arith) ∙ put_same t 0 (fake_node 1 0 0 (of_bits binary64 0)) places room (omega arith)
+  node_zero = put_other (put t 0 (fake_node 1 0 0 (of_bits binary64 0))) 1 (fake_node 0 0 0 time) 0
+      (λ (e : 0 ≡ 1). omega arith) ∙ put_same t 0 (fake_node 1 0 0 (of_bits binary64 0)) places room (omega arith)
 
   pub node_one : at first_table 1 ≡ fake_node 0 0 0 time
-  node_one = put_same (put t 0 (fake_node 1 0 0 (of_bits binary64 0))) 1 (fake_node 0 0 0 time) places (put_room t 0 (fake_node 1 0 0 (of_bits binary64 0)) places room) more
+  node_one = put_same (put t 0 (fake_node 1 0 0 (of_bits binary64 0))) 1 (fake_node 0 0 0 time) places
+      (put_room t 0 (fake_node 1 0 0 (of_bits binary64 0)) places room) more
 
   pub first_indexed : Indexed (at first_table) 2
   unfolding fake_node
   first_indexed = fits_indexed each
     where
       fits : (next : ℕ) (held : Float) (i : ℕ) → next < 2 → Fits (fake_node next 0 0 held) i 2
-      fits next held i h = record { next = h; next_alt = omega arith; prev = omega arith; prev_alt = omega arith; next_alt_rises = λ o. absurd (omega arith); prev_alt_rises = λ o. absurd (omega arith) }
+      fits next held i h = record {
+        next = h;
+        next_alt = omega arith;
+        prev = omega arith;
+        prev_alt = omega arith;
+        next_alt_rises = λ o. absurd (omega arith);
+        prev_alt_rises = λ o. absurd (omega arith);
+      }
 
       each : (i : ℕ) → i < 2 → Fits (at first_table i) i 2
       each zero h = subst (λ (x : EstTime). Fits x 0 2) (sym node_zero) (fits 1 (of_bits binary64 0) 0 (omega arith))
@@ -203,7 +262,8 @@ abbrev Counted : ℕ → ℕ → Answer Network → Type 0
 Counted m places (refused r) = Unit
 Counted m places (given t) = (t.nodes ≡ m) × (t.nodes ≤ places)
 
-counted_fakes : (places : ℕ) (is : List ℕ) (alt : ℕ) (t : Network) → t.nodes ≤ places → Counted (t.nodes + length is) places (end_fakes places is alt t)
+counted_fakes : (places : ℕ) (is : List ℕ) (alt : ℕ) (t : Network) → t.nodes ≤ places
+    → Counted (t.nodes + length is) places (end_fakes places is alt t)
 unfolding end_fakes
 counted_fakes places [] alt t h = (omega arith, h)
 counted_fakes places (i ∷ is) alt t h = go (ltb t.nodes places) refl (counted_fakes places is t.nodes led)
@@ -214,12 +274,16 @@ counted_fakes places (i ∷ is) alt t h = go (ltb t.nodes places) refl (counted_
     led : Network
     led = record { table = put fake i (leads_to_end (at fake i) t.nodes); nodes = suc t.nodes }
 
-    go : (b : Bool) → ltb t.nodes places ≡ b → (suc t.nodes ≤ places → Counted (suc t.nodes + length is) places (end_fakes places is t.nodes led))
+    go : (b : Bool) → ltb t.nodes places ≡ b → (suc t.nodes ≤ places
+        → Counted (suc t.nodes + length is) places (end_fakes places is t.nodes led))
         → Counted (t.nodes + suc (length is)) places (and_then (room_for b led) (end_fakes places is t.nodes))
-    go true e r = subst (λ (m : ℕ). Counted m places (end_fakes places is t.nodes led)) (omega arith) (r (ltb-true t.nodes places e))
+    go true e r = subst (λ (m : ℕ). Counted m places (end_fakes places is t.nodes led)) (omega arith)
+        (r (ltb-true t.nodes places e))
     go false e r = tt
 
 -- by the contract of `end_fakes`, where it has not refused
-pub fakes_counted : (places n k : ℕ) (is : List ℕ) (t : Table) (fs : List Float) (us : List ℕ) → n ≤ places → TailAs (end_fakes places is 0 (record { table = t; nodes = n })) fs us (Ok k)
+pub fakes_counted : (places n k : ℕ) (is : List ℕ) (t : Table) (fs : List Float) (us : List ℕ) → n ≤ places
+    → TailAs (end_fakes places is 0 (record { table = t; nodes = n })) fs us (Ok k)
     → (k ≡ n + length is) × (k ≤ places)
-fakes_counted places n k is t fs us h e = subst (Counted (n + length is) places) e (counted_fakes places is 0 (record { table = t; nodes = n }) h)
+fakes_counted places n k is t fs us h e = subst (Counted (n + length is) places) e
+    (counted_fakes places is 0 (record { table = t; nodes = n }) h)

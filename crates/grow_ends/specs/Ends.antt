@@ -2,7 +2,8 @@
 -- any other node; an end's has one more than the number of the end before it. So the ends are chained, the latest
 -- first. And what the code of the first nodes, of a finish and of the end Fakes answers: the definitions are
 -- grow_rules' specs/Growth.antt.
-use Rattle.std.specs.Prelude.{◌≡◌, Bool, true, false, List, [], ◌∷◌, ℕ, suc, ◌+◌, ◌*◌, ◌<◌, get_or, set, Float, Result, Ok, Err}
+use Rattle.std.specs.Prelude.{◌≡◌, Bool, true, false, List, [], ◌∷◌, ℕ, suc, ◌+◌, ◌*◌, ◌<◌, get_or, set, Float, Result}
+use Rattle.std.specs.Prelude.{Ok, Err}
 use Rattle.std.specs.Float.{binary64}
 use Rattle.std.specs.Float.Ieee.{of_bits}
 use Rattle.laws.specs.Answer.{Answer, refused, given}

@@ -1,4 +1,5 @@
--- What a caller may know of a network that is held: which cells have stayed, that they may be taken as the start, and that what is known of a run stays known with more nodes.
+-- What a caller may know of a network that is held: which cells have stayed, that they may be taken as the start, and
+-- that what is known of a run stays known with more nodes.
 use mathlib.Core.Path.{◌≡◌, refl, sym, ap, ◌∙◌, subst}
 use mathlib.Core.List.{List}
 use Prim.{Unit, tt}
@@ -25,35 +26,51 @@ use Rattle.grow_events.specs.Held.{NetIn, Along, ends_at}
 
 -- ---- cells that stay
 
-module _ {w : Layout} {start : List ℕ} {fs : List Float} {us cells : List ℕ} {c : Counts} {net : Net} (v : NetIn w start fs us cells c net) where
+module _ {w : Layout} {start : List ℕ} {fs : List Float} {us cells : List ℕ} {c : Counts} {net : Net}
+    (v : NetIn w start fs us cells c net) where
   -- before the nodes' units
   pub before_kept : (q : ℕ) → q < w.nodes_at → get_or cells q 0 ≡ get_or start q 0
   before_kept q h = v.elsewhere q (omega (arith, v.apart.apart)) (λ i k a b d. omega arith)
 
   -- behind the first three of a node's unit
-  pub unit_kept : (i k : ℕ) → i < w.places → 3 ≤ k → k < 8 → get_or cells (w.nodes_at + i * 8 + k) 0 ≡ get_or start (w.nodes_at + i * 8 + k) 0
+  pub unit_kept : (i k : ℕ) → i < w.places → 3 ≤ k → k < 8
+      → get_or cells (w.nodes_at + i * 8 + k) 0 ≡ get_or start (w.nodes_at + i * 8 + k) 0
   unit_kept i k h a b = v.elsewhere (w.nodes_at + i * 8 + k) (omega (arith, v.apart.apart)) (λ j m f g d. omega arith)
 
 -- ---- a network in other cells, with other ends or arcs
 
 -- what cells say of a network of n nodes and of its ends
-pub record InCells (w : Layout) (start : List ℕ) (fs : List Float) (us cells : List ℕ) (n last : ℕ) (is : List ℕ) : Type 0 where
+pub record InCells (w : Layout) (start : List ℕ) (fs : List Float) (us cells : List ℕ) (n last : ℕ)
+    (is : List ℕ) : Type 0 where
   pub apart : CellsApart cells w
   pub mapped : Mapped cells w (node_at fs us) n
   pub ends : EndsIn cells (ends_at w) last is
   pub ends_below : Below n is
   pub ended : (i : ℕ) → i < w.places → flagged cells (ends_at w) i ≡ member_of is i
-  pub elsewhere : (q : ℕ) → q < w.links_at → ((i k : ℕ) → i < w.places → k < 3 → q ≢ w.nodes_at + i * 8 + k) → get_or cells q 0 ≡ get_or start q 0
+  pub elsewhere : (q : ℕ) → q < w.links_at → ((i k : ℕ) → i < w.places → k < 3 → q ≢ w.nodes_at + i * 8 + k)
+      → get_or cells q 0 ≡ get_or start q 0
 
 -- the network, all of which but its ends, arcs and ended runs is as it was, and its counts
 abbrev pub net_with : Net → List ℕ → List Arc → List EndedRun → Net
-net_with net is arcs runs = record { table = net.table; nodes = net.nodes; ends = is; added = net.added; splits = net.splits; joined = net.joined; noted = arcs; runs = runs }
+net_with net is arcs runs = record {
+  table = net.table;
+  nodes = net.nodes;
+  ends = is;
+  added = net.added;
+  splits = net.splits;
+  joined = net.joined;
+  noted = arcs;
+  runs = runs;
+}
 
 abbrev pub counts_with : Counts → ℕ → Counts
 counts_with c last = record { nodes = c.nodes; added = c.added; splits = c.splits; joined = c.joined; last_end = last }
 
-module _ {w : Layout} {start : List ℕ} {fs : List Float} {us cells : List ℕ} {c : Counts} {net : Net} (v : NetIn w start fs us cells c net) where
-  pub net_anew : (arcs : List Arc) (runs : List EndedRun) {start' cells' : List ℕ} {last : ℕ} {is : List ℕ} → InCells w start' fs us cells' c.nodes last is → NetIn w start' fs us cells' (counts_with c last) (net_with net is arcs runs)
+module _ {w : Layout} {start : List ℕ} {fs : List Float} {us cells : List ℕ} {c : Counts} {net : Net}
+    (v : NetIn w start fs us cells c net) where
+  pub net_anew : (arcs : List Arc) (runs : List EndedRun) {start' cells' : List ℕ} {last : ℕ} {is : List ℕ}
+      → InCells w start' fs us cells' c.nodes last is
+      → NetIn w start' fs us cells' (counts_with c last) (net_with net is arcs runs)
   net_anew arcs runs h = record {
     table = v.table;
     nodes = v.nodes;
@@ -74,15 +91,24 @@ module _ {w : Layout} {start : List ℕ} {fs : List Float} {us cells : List ℕ}
 
   -- what is held says nothing of the arcs
   pub net_noted : (arcs : List Arc) → NetIn w start fs us cells c (net_with net net.ends arcs net.runs)
-  net_noted arcs = net_anew arcs net.runs (record { apart = v.apart; mapped = v.mapped; ends = v.ends; ends_below = v.ends_below; ended = v.ended; elsewhere = v.elsewhere })
+  net_noted arcs = net_anew arcs net.runs (record {
+    apart = v.apart;
+    mapped = v.mapped;
+    ends = v.ends;
+    ends_below = v.ends_below;
+    ended = v.ended;
+    elsewhere = v.elsewhere;
+  })
 
   -- in cells with the map and the marks of the ends, which may be taken as the start
   pub net_same : (cells' : List ℕ) → length cells' ≡ length cells → Mapped cells' w (node_at fs us) c.nodes
-      → ((i : ℕ) → i < w.places → get_or cells' (ends_at w + i * 8) 0 ≡ get_or cells (ends_at w + i * 8) 0) → NetIn w cells' fs us cells' c net
+      → ((i : ℕ) → i < w.places → get_or cells' (ends_at w + i * 8) 0 ≡ get_or cells (ends_at w + i * 8) 0)
+      → NetIn w cells' fs us cells' c net
   net_same cells' l m h = net_anew net.noted net.runs (record {
     apart = apart_same l v.apart;
     mapped = m;
-    ends = ends_same cells (ends_at w) cells' c.last_end c.nodes net.ends v.ends_below (λ i k. h i (omega (arith, v.within))) v.ends;
+    ends = ends_same cells (ends_at w) cells' c.last_end c.nodes net.ends v.ends_below
+        (λ i k. h i (omega (arith, v.within))) v.ends;
     ends_below = v.ends_below;
     ended = λ i k. flags_same cells (ends_at w) cells' i (h i k) ∙ v.ended i k;
     elsewhere = λ q k f. refl;
@@ -92,11 +118,14 @@ module _ {w : Layout} {start : List ℕ} {fs : List Float} {us cells : List ℕ}
   net_restart = net_same cells refl v.mapped (λ i h. refl)
 
 -- a path that lies before the nodes' units stays
-module _ {w : Layout} {start : List ℕ} {fs fs' : List Float} {us us' cells cells' : List ℕ} {c c' : Counts} {net net' : Net} (v : NetIn w start fs us cells c net) (v' : NetIn w start fs' us' cells' c' net') {b : List ℕ} {reals : List Float} {path : List ℕ} where
+module _ {w : Layout} {start : List ℕ} {fs fs' : List Float} {us us' cells cells' : List ℕ} {c c' : Counts}
+    {net net' : Net} (v : NetIn w start fs us cells c net) (v' : NetIn w start fs' us' cells' c' net') {b : List ℕ}
+    {reals : List Float} {path : List ℕ} where
   pub path_kept : length path * 8 ≤ w.nodes_at → PathIn b reals cells path → PathIn b reals cells' path
   path_kept l p = record {
     offsets = p.offsets;
-    links = λ k h. before_kept v' (k * 8 + 3) (omega arith) ∙ sym (before_kept v (k * 8 + 3) (omega arith)) ∙ p.links k h;
+    links = λ k h. before_kept v' (k * 8 + 3) (omega arith) ∙ sym (before_kept v (k * 8 + 3) (omega arith))
+        ∙ p.links k h;
   }
 
   pub along_kept : {n : ℕ} → Along b reals cells w n path → Along b reals cells' w n path

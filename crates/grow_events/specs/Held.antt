@@ -1,7 +1,8 @@
 -- How the lent slices hold the network under growth and the run that moves. Contracts use these words; the definitions
 -- of growth are grow_rules' specs/. A node's unit of cells has the map's two (net_event_map's specs), and in cell 2
 -- what `ends` keeps of a node at which a run has finished.
-use Rattle.std.specs.Prelude.{◌≡◌, ◌≢◌, Bool, true, false, List, ℕ, ◌+◌, ◌*◌, ◌≤◌, ◌<◌, length, get_or, Float, Result, Ok, Err}
+use Rattle.std.specs.Prelude.{◌≡◌, ◌≢◌, Bool, true, false, List, ℕ, ◌+◌, ◌*◌, ◌≤◌, ◌<◌, length, get_or, Float, Result}
+use Rattle.std.specs.Prelude.{Ok, Err}
 use Rattle.laws.specs.Answer.{Answer, refused, given}
 use Rattle.net_node.specs.Table.{node_at, Room, Indexed, Table}
 use Rattle.net_insertion.specs.Insertion.{flagged}

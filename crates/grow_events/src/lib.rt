@@ -29,7 +29,8 @@ pub struct Counts {
     pub last_end: u32,
 }
 
-// The run that moves: its place, and whether it has added since its pop.
+// The run that moves: its place, and whether it has added since its pop. The flag is no Option: the place stands
+// whether or not the run has added.
 #[derive(Clone, Copy)]
 pub struct Mover {
     pub place: Place,
@@ -43,17 +44,16 @@ pub enum RunOutcome {
     Ended(Counts),
 }
 
-// The counts with one event node more, and a split's Fake.
+// The counts with one event node more, and a split's Fake. `split` is counted, and chooses no step.
 fn with_added(c: Counts, node: u32, split: bool) -> Counts
     requires added_bound { c.added < 65535 }
     requires splits_bound { c.splits < 65535 }
     ensures { result ≡ counts_added c node split }
 {
-    let splits = if split { c.splits + 1 } else { c.splits };
     Counts {
         nodes: node as usize + 1,
         added: c.added + 1,
-        splits,
+        splits: c.splits + usize::from(split),
         ..c
     }
 }

@@ -37,11 +37,14 @@ module _ (b : List ℕ) (link : ℕ) where
   none_yet = refl
 
   pub none_next : (i : ℕ) → NoneOf i → (r : ℕ) → r ≡ destination_link b i → (r ≡ link → ⊥) → NoneOf (i + 1)
-  none_next i n r e f = none_more i (λ k. eqb (destination_link b k) link) n (ne_eqb (destination_link b i) link (λ d. f (e ∙ d)))
+  none_next i n r e f = none_more i (λ k. eqb (destination_link b k) link) n
+      (ne_eqb (destination_link b i) link (λ d. f (e ∙ d)))
 
-  pub one_there : (i : ℕ) → i < destinations b → (r : ℕ) → r ≡ destination_link b i → r ≡ link → true ≡ is_destination b link
+  pub one_there : (i : ℕ) → i < destinations b → (r : ℕ) → r ≡ destination_link b i → r ≡ link
+      → true ≡ is_destination b link
   unfolding is_destination
-  one_there i h r e f = sym (some_at (destinations b) (λ k. eqb (destination_link b k) link) i h (eq-eqb (destination_link b i) link (sym e ∙ f)))
+  one_there i h r e f = sym (some_at (destinations b) (λ k. eqb (destination_link b k) link) i h
+      (eq-eqb (destination_link b i) link (sym e ∙ f)))
 
   pub none_there : (n : ℕ) → n ≡ destinations b → NoneOf n → false ≡ is_destination b link
   unfolding is_destination
@@ -50,7 +53,8 @@ module _ (b : List ℕ) (link : ℕ) where
 -- ---- the ways behind a link
 
 -- link l as it was read
-module _ {b b' : List ℕ} (same : b' ≡ b) (readable : Readable b') (l : ℕ) (h : l < links b) {x : Link} (e : x ≡ link_at b' l) where
+module _ {b b' : List ℕ} (same : b' ≡ b) (readable : Readable b') (l : ℕ) (h : l < links b) {x : Link}
+    (e : x ≡ link_at b' l) where
   next_is : x.idx_next ≡ link_next b l
   unfolding link_at
   next_is = ap (λ (y : Link). y.idx_next) e ∙ ap (λ (a : List ℕ). link_next a l) same
@@ -70,21 +74,27 @@ module _ {b b' : List ℕ} (same : b' ≡ b) (readable : Readable b') (l : ℕ) 
   alt_within n g = omega (arith, alt_is, next_alt_named b indices l h)
 
   pub ways_are : (z m a : Bool) → eqb x.idx_next 0 ≡ z → in_set b (link_next b l) ≡ m → in_set b (link_next_alt b l) ≡ a
-      → ways_as z m a x.idx_next x.idx_next_alt ≡ ways_as (eqb (link_next b l) 0) (in_set b (link_next b l)) (in_set b (link_next_alt b l)) (link_next b l) (link_next_alt b l)
+      → ways_as z m a x.idx_next x.idx_next_alt ≡ ways_as (eqb (link_next b l) 0) (in_set b (link_next b l))
+      (in_set b (link_next_alt b l)) (link_next b l) (link_next_alt b l)
   ways_are z m a p q r =
       ap (λ (t : Bool). ways_as t m a x.idx_next x.idx_next_alt) (sym p ∙ ap (λ (n : ℕ). eqb n 0) next_is)
       ∙ ap (λ (t : Bool). ways_as (eqb (link_next b l) 0) t a x.idx_next x.idx_next_alt) (sym q)
-      ∙ ap (λ (t : Bool). ways_as (eqb (link_next b l) 0) (in_set b (link_next b l)) t x.idx_next x.idx_next_alt) (sym r)
-      ∙ ap (λ (n : ℕ). ways_as (eqb (link_next b l) 0) (in_set b (link_next b l)) (in_set b (link_next_alt b l)) n x.idx_next_alt) next_is
-      ∙ ap (ways_as (eqb (link_next b l) 0) (in_set b (link_next b l)) (in_set b (link_next_alt b l)) (link_next b l)) alt_is
+      ∙ ap (λ (t : Bool). ways_as (eqb (link_next b l) 0) (in_set b (link_next b l)) t x.idx_next x.idx_next_alt)
+      (sym r)
+      ∙ ap (λ (n : ℕ). ways_as (eqb (link_next b l) 0) (in_set b (link_next b l))
+      (in_set b (link_next_alt b l)) n x.idx_next_alt) next_is
+      ∙ ap (ways_as (eqb (link_next b l) 0) (in_set b (link_next b l)) (in_set b (link_next_alt b l)) (link_next b l))
+      alt_is
 
   -- what a mark says of one of them
   module _ {marks : List ℕ} (k : OptionsIn b marks) where
     pub next_in : (r : Bool) → r ≡ eqb (get_or marks x.idx_next 0 % 2) 1 → in_set b (link_next b l) ≡ r
-    next_in r f = sym (f ∙ ap (λ (n : ℕ). eqb (get_or marks n 0 % 2) 1) next_is ∙ k.set (link_next b l) (next_named b indices l h))
+    next_in r f = sym (f ∙ ap (λ (n : ℕ). eqb (get_or marks n 0 % 2) 1) next_is
+        ∙ k.set (link_next b l) (next_named b indices l h))
 
     pub alt_in : (r : Bool) → r ≡ eqb (get_or marks x.idx_next_alt 0 % 2) 1 → in_set b (link_next_alt b l) ≡ r
-    alt_in r f = sym (f ∙ ap (λ (n : ℕ). eqb (get_or marks n 0 % 2) 1) alt_is ∙ k.set (link_next_alt b l) (next_alt_named b indices l h))
+    alt_in r f = sym (f ∙ ap (λ (n : ℕ). eqb (get_or marks n 0 % 2) 1) alt_is
+        ∙ k.set (link_next_alt b l) (next_alt_named b indices l h))
 
 -- ---- what the run does with them
 
@@ -94,21 +104,24 @@ pub record Fork (z : Bool) (next alt x y : ℕ) : Type 0 where
   pub second : y ≡ alt
 
 module _ (b : List ℕ) (places : ℕ) (net : Net) (run : Run) (rest : List Run) (next alt : ℕ) where
-  pub go_none : (z m a : Bool) (r : Refusal) → Err r ≡ ways_as z m a next alt → on_as z m a b places net run next alt rest ≡ refused (refusal_number r)
+  pub go_none : (z m a : Bool) (r : Refusal) → Err r ≡ ways_as z m a next alt
+      → on_as z m a b places net run next alt rest ≡ refused (refusal_number r)
   go_none true m a r e = let d : r ≡ NoWayOn = cc in ap (λ (x : Refusal). refused (refusal_number x)) (sym d)
   go_none false false false r e = let d : r ≡ NoWayOn = cc in ap (λ (x : Refusal). refused (refusal_number x)) (sym d)
   go_none false true false r e = cc
   go_none false false true r e = cc
   go_none false true true r e = cc
 
-  pub go_one : (z m a : Bool) (x : ℕ) → Ok (One x) ≡ ways_as z m a next alt → on_as z m a b places net run next alt rest ≡ on_over b net run x rest
+  pub go_one : (z m a : Bool) (x : ℕ) → Ok (One x) ≡ ways_as z m a next alt
+      → on_as z m a b places net run next alt rest ≡ on_over b net run x rest
   go_one true m a x e = let o : ◌≡◌ {A = ℕ} 0 1 = cc in absurd (omega arith)
   go_one false false false x e = let o : ◌≡◌ {A = ℕ} 0 1 = cc in absurd (omega arith)
   go_one false true false x e = let d : x ≡ next = cc in ap (λ (k : ℕ). on_over b net run k rest) (sym d)
   go_one false false true x e = let d : x ≡ alt = cc in ap (λ (k : ℕ). on_over b net run k rest) (sym d)
   go_one false true true x e = let o : ◌≡◌ {A = ℕ} 0 1 = cc in absurd (omega arith)
 
-  pub go_both : (z m a : Bool) (x y : ℕ) → Ok (Both x y) ≡ ways_as z m a next alt → on_as z m a b places net run next alt rest ≡ and_then (save_over b places run y rest) (on_over b net run x)
+  pub go_both : (z m a : Bool) (x y : ℕ) → Ok (Both x y) ≡ ways_as z m a next alt
+      → on_as z m a b places net run next alt rest ≡ and_then (save_over b places run y rest) (on_over b net run x)
   go_both true m a x y e = let o : ◌≡◌ {A = ℕ} 0 1 = cc in absurd (omega arith)
   go_both false false false x y e = let o : ◌≡◌ {A = ℕ} 0 1 = cc in absurd (omega arith)
   go_both false true false x y e = let o : ◌≡◌ {A = ℕ} 0 1 = cc in absurd (omega arith)
@@ -116,7 +129,8 @@ module _ (b : List ℕ) (places : ℕ) (net : Net) (run : Run) (rest : List Run)
   go_both false true true x y e =
       let d : x ≡ next = cc in
       let f : y ≡ alt = cc in
-      ap (λ (k : ℕ). and_then (save_over b places run k rest) (on_over b net run next)) (sym f) ∙ ap (λ (k : ℕ). and_then (save_over b places run y rest) (on_over b net run k)) (sym d)
+      ap (λ (k : ℕ). and_then (save_over b places run k rest) (on_over b net run next)) (sym f)
+      ∙ ap (λ (k : ℕ). and_then (save_over b places run y rest) (on_over b net run k)) (sym d)
 
 -- both links are there, each where it was found
 pub both_are : (z m a : Bool) (next alt x y : ℕ) → Ok (Both x y) ≡ ways_as z m a next alt → Fork z next alt x y

@@ -31,7 +31,8 @@ use Rattle.grow_state.specs.declared.Rest.{Rest}
 use Rattle.grow_state.specs.declared.State.{State}
 use Rattle.std.specs.Prelude.{Result, Ok, Err}
 use Rattle.refusals.specs.declared.Refusal.{Refusal}
-use Rattle.grow_state.specs.Held.{PlanIn, DriveIn, WaitIn, AllSound, Prefixes, SeparateFrom, GivesAs, TurnedAs, path_before, idle, with_front, lists}
+use Rattle.grow_state.specs.Held.{PlanIn, DriveIn, WaitIn, AllSound, Prefixes, SeparateFrom, GivesAs, TurnedAs}
+use Rattle.grow_state.specs.Held.{path_before, idle, with_front, lists}
 use Rattle.grow_state.proofs.Keeping.{plan_room, chained_same, wait_same, sound_more}
 use Rattle.grow_leg.specs.OneLeg.{outcome_as, leg_outcome, WalkedAs, AtEnd, SomeWay, Free}
 use Rattle.grow_leg.proofs.Paths.{path_is}
@@ -41,25 +42,32 @@ use Rattle.grow_leg.proofs.Keeping.{plan_above, prefixes_more}
 use Rattle.grow_leg.proofs.Walking.{front_in, wait_in, same_leg, depth_inside}
 
 -- a leg's events, then what becomes of the run
-take_is : (b : List ℕ) (places : ℕ) (net : Net) (run : Run) (saved : List Run) → take_leg b places net run saved ≡ and_then (leg_outcome b places net run) (leg_done b places saved)
+take_is : (b : List ℕ) (places : ℕ) (net : Net) (run : Run) (saved : List Run)
+    → take_leg b places net run saved ≡ and_then (leg_outcome b places net run) (leg_done b places saved)
 unfolding take_leg leg_outcome
 take_is b places net run saved = go (row11 (leg_course b run.leg))
   where
-    go : (t : Bool) → leg_as t b places net run saved ≡ and_then (outcome_as t b places net run) (leg_done b places saved)
+    go : (t : Bool) → leg_as t b places net run saved ≡ and_then (outcome_as t b places net run)
+        (leg_done b places saved)
     go true = refl
     go false = refl
 
-module _ {b : List ℕ} {p : Plan} {fs : List Float} {us : List ℕ} {reals : List Float} {cells : List ℕ} {joins : List EstJoinPath} {path : List ℕ} {g : Rest} {front : Front} {net : Net} {run : Run} {saved : List Run}
-    (plan : PlanIn b p (length reals)) (d : DriveIn b p (lists fs us reals cells joins) path (with_front g front) net (run ∷ saved))
-    (fs' : List Float) (us' : List ℕ) (reals' : List Float) (cells' : List ℕ) (joins' : List EstJoinPath) (long : length cells' ≡ length cells) (r : Result RunOutcome Refusal)
-    (w : WalkedAs b p run.leg front.depth (leg_outcome b p.w.places net run) reals cells fs' us' reals' cells' joins' r) (more : NotFewer g.counts r) where
+module _ {b : List ℕ} {p : Plan} {fs : List Float} {us : List ℕ} {reals : List Float} {cells : List ℕ}
+    {joins : List EstJoinPath} {path : List ℕ} {g : Rest} {front : Front} {net : Net} {run : Run} {saved : List Run}
+    (plan : PlanIn b p (length reals)) (d : DriveIn b p (lists fs us reals cells joins) path (with_front g front) net
+    (run ∷ saved))
+    (fs' : List Float) (us' : List ℕ) (reals' : List Float) (cells' : List ℕ) (joins' : List EstJoinPath)
+    (long : length cells' ≡ length cells) (r : Result RunOutcome Refusal)
+    (w : WalkedAs b p run.leg front.depth (leg_outcome b p.w.places net run) reals cells fs' us' reals' cells' joins' r)
+    (more : NotFewer g.counts r) where
   abbrev start : List ℕ
   start = set cells (front.depth * 8 + 3) (link_of b run.leg)
 
   pub take_refused : (k : Refusal) → r ≡ Err k → take_leg b p.w.places net run saved ≡ refused (refusal_number k)
   take_refused k e =
       take_is b p.w.places net run saved
-      ∙ ap (λ (x : Answer Outcome). and_then x (leg_done b p.w.places saved)) (subst (OutcomeAs (leg_outcome b p.w.places net run) p.w start run.leg fs' us' cells' joins') e w.outcome)
+      ∙ ap (λ (x : Answer Outcome). and_then x (leg_done b p.w.places saved))
+      (subst (OutcomeAs (leg_outcome b p.w.places net run) p.w start run.leg fs' us' cells' joins') e w.outcome)
 
   -- ---- what stands behind the events
 
@@ -67,7 +75,9 @@ module _ {b : List ℕ} {p : Plan} {fs : List Float} {us : List ℕ} {reals : Li
   short = omega (arith, path_most b run.leg, d.sound.0.within)
 
   prefixes : Prefixes b (path_of b run.leg) saved
-  prefixes = subst (λ (xs : List ℕ). Prefixes b xs saved) (sym (path_is (plan_above plan) run.leg d.sound.0.some d.sound.0.within)) (prefixes_more b (path_before b run.leg) (run.leg ∷ []) saved d.prefixes.1)
+  prefixes = subst (λ (xs : List ℕ). Prefixes b xs saved)
+      (sym (path_is (plan_above plan) run.leg d.sound.0.some d.sound.0.within))
+      (prefixes_more b (path_before b run.leg) (run.leg ∷ []) saved d.prefixes.1)
 
   module _ {c : Counts} {after : Net} (v : NetIn p.w start fs' us' cells' c after) where
     left : (q : ℕ) → q < p.w.nodes_at → (q ≡ front.depth * 8 + 3 → ⊥) → get_or cells' q 0 ≡ get_or cells q 0
@@ -77,24 +87,32 @@ module _ {b : List ℕ} {p : Plan} {fs : List Float} {us : List ℕ} {reals : Li
     chained = chained_same long (λ q h f. left q (omega (arith, plan.nodes_at)) (f front.depth)) d.chained
 
     kept : PathIn b reals' cells' (path_of b run.leg)
-    kept = record { offsets = w.kept.offsets; links = λ k h. before_kept v (k * 8 + 3) (omega (arith, short, plan.nodes_at)) ∙ w.kept.links k h }
+    kept = record {
+      offsets = w.kept.offsets;
+      links = λ k h.
+          before_kept v (k * 8 + 3) (omega (arith, short, plan.nodes_at)) ∙ w.kept.links k h;
+    }
 
     waits : WaitIn b p.r reals' cells' g.top g.used saved
     waits = wait_same (record {
       fields = λ j k h l m. left (j * 8 + k) (omega (arith, plan_room plan, plan.same_nodes)) (λ e. omega arith);
-      entries = λ i k h l m. subst (λ (n : ℕ). get_or cells' (n + i * 8 + k) 0 ≡ get_or cells (n + i * 8 + k) 0) (sym plan.same_nodes) (entry i k (omega (arith, plan.same_places)) l m);
+      entries = λ i k h l m. subst (λ (n : ℕ). get_or cells' (n + i * 8 + k) 0 ≡ get_or cells (n + i * 8 + k) 0)
+          (sym plan.same_nodes) (entry i k (omega (arith, plan.same_places)) l m);
       reals = λ q h. w.reals_left q (λ e. omega (arith, depth_inside plan d, plan.pairs_at));
     }) (wait_in plan d)
       where
-        entry : (i k : ℕ) → i < p.w.places → 3 ≤ k → k < 5 → get_or cells' (p.w.nodes_at + i * 8 + k) 0 ≡ get_or cells (p.w.nodes_at + i * 8 + k) 0
+        entry : (i k : ℕ) → i < p.w.places → 3 ≤ k → k < 5
+            → get_or cells' (p.w.nodes_at + i * 8 + k) 0 ≡ get_or cells (p.w.nodes_at + i * 8 + k) 0
         entry i k h l m =
             unit_kept v i k h l (omega arith)
-            ∙ get_or-set_other cells (front.depth * 8 + 3) (p.w.nodes_at + i * 8 + k) (link_of b run.leg) 0 (λ (e : p.w.nodes_at + i * 8 + k ≡ front.depth * 8 + 3). omega (arith, depth_inside plan d, plan.nodes_at))
+            ∙ get_or-set_other cells (front.depth * 8 + 3) (p.w.nodes_at + i * 8 + k) (link_of b run.leg) 0
+            (λ (e : p.w.nodes_at + i * 8 + k ≡ front.depth * 8 + 3). omega (arith, depth_inside plan d, plan.nodes_at))
 
   -- ---- the run has ended by a join
 
   pub take_ended : (c : Counts) → r ≡ Ok (Ended c)
-      → GivesAs (take_leg b p.w.places net run saved) b p (lists fs' us' reals' cells' joins') (idle (record { counts = c; top = g.top; used = g.used }))
+      → GivesAs (take_leg b p.w.places net run saved) b p (lists fs' us' reals' cells' joins')
+      (idle (record { counts = c; top = g.top; used = g.used }))
   take_ended c e = gives
     where
       o : LeftAs (leg_outcome b p.w.places net run) p.w start fs' us' cells' c
@@ -103,10 +121,12 @@ module _ {b : List ℕ} {p : Plan} {fs : List Float} {us : List ℕ} {reals : Li
       grows : g.counts.nodes ≤ c.nodes
       grows = subst (NotFewer g.counts) e more
 
-      gives : GivesAs (take_leg b p.w.places net run saved) b p (lists fs' us' reals' cells' joins') (idle (record { counts = c; top = g.top; used = g.used }))
+      gives : GivesAs (take_leg b p.w.places net run saved) b p (lists fs' us' reals' cells' joins')
+          (idle (record { counts = c; top = g.top; used = g.used }))
       gives = record {
         growth = record { net = o.after; saved = saved };
-        is = take_is b p.w.places net run saved ∙ ap (λ (x : Answer Outcome). and_then x (leg_done b p.w.places saved)) o.is;
+        is = take_is b p.w.places net run saved ∙ ap (λ (x : Answer Outcome). and_then x (leg_done b p.w.places saved))
+            o.is;
         path = path_of b run.leg;
         holds = record {
           grown = net_restart o.net;
@@ -171,11 +191,17 @@ module _ {b : List ℕ} {p : Plan} {fs : List Float} {us : List ℕ} {reals : Li
         }
 
     pub took_free : (l : ℕ) → Free b on saved l
-    took_free = all_free (plan_above plan) on c.nodes saved sound (subst (λ (j : ℕ). SeparateFrom b j saved) (sym leg_same) d.separate.0)
+    took_free = all_free (plan_above plan) on c.nodes saved sound
+        (subst (λ (j : ℕ). SeparateFrom b j saved) (sym leg_same) d.separate.0)
 
     pub took_way : SomeWay b p (lists fs' us' reals' cells' joins') then_rest then_front
     took_way = record { net = took.after.net; run = on; rest = saved; ends = took_ends; free = took_free }
 
-    pub take_on : (reals'' : List Float) (cells'' : List ℕ) (t : Result State Refusal) → TurnedAs (leg_end_as (finishes b on.leg) b p.w.places took.after saved) b p (lists fs' us' reals'' cells'' joins') t → TurnedAs (take_leg b p.w.places net run saved) b p (lists fs' us' reals'' cells'' joins') t
+    pub take_on : (reals'' : List Float) (cells'' : List ℕ) (t : Result State Refusal)
+        → TurnedAs (leg_end_as (finishes b on.leg) b p.w.places took.after saved) b p
+        (lists fs' us' reals'' cells'' joins') t → TurnedAs (take_leg b p.w.places net run saved) b p
+        (lists fs' us' reals'' cells'' joins') t
     take_on reals'' cells'' t x =
-        subst (λ (y : Answer Growth). TurnedAs y b p (lists fs' us' reals'' cells'' joins') t) (sym (take_is b p.w.places net run saved ∙ ap (λ (y : Answer Outcome). and_then y (leg_done b p.w.places saved)) took.is)) x
+        subst (λ (y : Answer Growth). TurnedAs y b p (lists fs' us' reals'' cells'' joins') t)
+        (sym (take_is b p.w.places net run saved ∙ ap
+        (λ (y : Answer Outcome). and_then y (leg_done b p.w.places saved)) took.is)) x

@@ -1,5 +1,6 @@
 -- Words of the parts of a turn. The turn is `take_leg` of grow_rules' specs/Growth.antt.
-use Rattle.std.specs.Prelude.{◌≡◌, ◌≢◌, Bool, true, false, List, ◌∷◌, ℕ, suc, ◌+◌, ◌*◌, ◌≤◌, ◌<◌, length, get_or, set, Float, eqb, Result, Ok, Err}
+use Rattle.std.specs.Prelude.{◌≡◌, ◌≢◌, Bool, true, false, List, ◌∷◌, ℕ, suc, ◌+◌, ◌*◌, ◌≤◌, ◌<◌, length, get_or, set}
+use Rattle.std.specs.Prelude.{Float, eqb, Result, Ok, Err}
 use Rattle.std.specs.Float.{nan}
 use Rattle.laws.specs.Answer.{Answer, refused, given}
 use Rattle.book_format.specs.Format.{legs, leg_parent, leg_link, link_next, link_next_alt}
@@ -10,7 +11,8 @@ use Rattle.arrayvec.specs.ArrayVec.{ArrayVec}
 use Rattle.grow_path.specs.Path.{path_of, link_of, leg_course, leg_events}
 use Rattle.grow_path.specs.Kept.{PathIn}
 use Rattle.grow_rules.specs.Run.{Net, Run, Outcome, run_events}
-use Rattle.grow_rules.specs.Growth.{join_gap, on_over, save_over, finish_as, bad_finish, go_on, leg_end_as, finishes, take_leg}
+use Rattle.grow_rules.specs.Growth.{join_gap, on_over, save_over, finish_as, bad_finish, go_on, leg_end_as, finishes}
+use Rattle.grow_rules.specs.Growth.{take_leg}
 use Rattle.event_walk.specs.Walk.{bad_leg_number}
 use Rattle.grow_events.specs.Held.{NetIn, OutcomeAs}
 use Rattle.grow_events.specs.declared.RunOutcome.{RunOutcome}
@@ -74,7 +76,8 @@ pub record SomeEnd (b : List ℕ) (p : Plan) (s : Lists) (g : Rest) (f : Front) 
   pub ends : AtEnd b p s g f net run rest
 
 -- the same, of what a part doesn't look at
-pub record SomeEnding (b : List ℕ) (p : Plan) (reals : List Float) (cells : List ℕ) (joins : List EstJoinPath) (g : Rest) (f : Front) : Type 0 where
+pub record SomeEnding (b : List ℕ) (p : Plan) (reals : List Float) (cells : List ℕ) (joins : List EstJoinPath)
+    (g : Rest) (f : Front) : Type 0 where
   pub fs : List Float
   pub us : List ℕ
   pub ends : SomeEnd b p (lists fs us reals cells joins) g f
@@ -96,7 +99,8 @@ pub record SomeFinish (p : Plan) (fs : List Float) (us cells : List ℕ) (g : Re
 
 -- a leg behind the run's, over a link, is separate from those that wait
 pub record Free (b : List ℕ) (run : Run) (rest : List Run) (link : ℕ) : Type 0 where
-  pub legs_separate : (i : ℕ) → i < legs b → leg_parent b i ≡ run.leg → leg_link b i ≡ link → SeparateFrom b (suc i) rest
+  pub legs_separate : (i : ℕ) → i < legs b → leg_parent b i ≡ run.leg → leg_link b i ≡ link
+      → SeparateFrom b (suc i) rest
 
 -- some run is, all of whose legs behind its own are separate from those that wait
 pub record SomeWay (b : List ℕ) (p : Plan) (s : Lists) (g : Rest) (f : Front) : Type 0 where
@@ -107,7 +111,8 @@ pub record SomeWay (b : List ℕ) (p : Plan) (s : Lists) (g : Rest) (f : Front) 
   pub free : (l : ℕ) → Free b run rest l
 
 -- whatever the table is
-pub record SomeGoing (b : List ℕ) (p : Plan) (reals : List Float) (cells : List ℕ) (joins : List EstJoinPath) (g : Rest) (f : Front) : Type 0 where
+pub record SomeGoing (b : List ℕ) (p : Plan) (reals : List Float) (cells : List ℕ) (joins : List EstJoinPath) (g : Rest)
+    (f : Front) : Type 0 where
   pub fs : List Float
   pub us : List ℕ
   pub way : SomeWay b p (lists fs us reals cells joins) g f
@@ -137,7 +142,8 @@ ways_as false true true next alt = Ok (Both next alt)
 -- the links behind a link over which a run can go on
 abbrev pub ways_behind : List ℕ → ℕ → Result Ways Refusal
 ways_behind b l =
-    ways_as (eqb (link_next b l) 0) (in_set b (link_next b l)) (in_set b (link_next_alt b l)) (link_next b l) (link_next_alt b l)
+    ways_as (eqb (link_next b l) 0) (in_set b (link_next b l)) (in_set b (link_next_alt b l)) (link_next b l)
+    (link_next_alt b l)
 
 -- ---- what the parts of a turn answer, of every network and runs that the slices hold
 
@@ -151,12 +157,14 @@ FinishesRun p g f t cells cells' r =
 -- it goes on over a link, where nothing is written
 abbrev pub GoesOver : List ℕ → Plan → Rest → Front → List ℕ → ℕ → Result State Refusal → Type 0
 GoesOver b p g f cells link r =
-    (fs : List Float) (us : List ℕ) (reals : List Float) (joins : List EstJoinPath) (net : Net) (run : Run) (rest : List Run)
+    (fs : List Float) (us : List ℕ) (reals : List Float) (joins : List EstJoinPath) (net : Net) (run : Run)
+    (rest : List Run)
     → PlanIn b p (length reals) → AtEnd b p (lists fs us reals cells joins) g f net run rest → Free b run rest link
     → TurnedAs (on_over b net run link rest) b p (lists fs us reals cells joins) r
 
 -- a copy of it is saved to go on over a link
-abbrev pub SavesOver : List ℕ → Plan → Rest → Front → ℕ → Stacks → Stacks → List EstJoinPath → Result Rest Refusal → Type 0
+abbrev pub SavesOver : List ℕ → Plan → Rest → Front → ℕ → Stacks → Stacks → List EstJoinPath → Result Rest Refusal
+    → Type 0
 SavesOver b p g f link s s' joins r =
     (fs : List Float) (us : List ℕ) (net : Net) (run : Run) (rest : List Run)
     → AtEnd b p (lists fs us s.reals s.cells joins) g f net run rest → Free b run rest link
@@ -164,7 +172,8 @@ SavesOver b p g f link s s' joins r =
     link f r
 
 -- it goes on behind its leg
-abbrev pub GoesBehind : List ℕ → Plan → Rest → Front → Stacks → Stacks → List EstJoinPath → Result State Refusal → Type 0
+abbrev pub GoesBehind : List ℕ → Plan → Rest → Front → Stacks → Stacks → List EstJoinPath → Result State Refusal
+    → Type 0
 GoesBehind b p g f s s' joins r =
     (fs : List Float) (us : List ℕ) (net : Net) (run : Run) (rest : List Run)
     → AtEnd b p (lists fs us s.reals s.cells joins) g f net run rest → ((l : ℕ) → Free b run rest l)
@@ -190,6 +199,7 @@ TakesLeg b p g f s s' r =
     → TurnedAs (take_leg b p.w.places net run saved) b p s' r
 
 -- what the slices hold at exit, where the table and the join entries are only read
-abbrev pub lists_saved : Seen (List Float) → Seen (List ℕ) → Lent (List Float) → Lent (List ℕ) → Seen (ArrayVec EstJoinPath) → Lists
+abbrev pub lists_saved : Seen (List Float) → Seen (List ℕ) → Lent (List Float) → Lent (List ℕ)
+    → Seen (ArrayVec EstJoinPath) → Lists
 lists_saved floats numbers reals cells joins =
     lists floats.entry.now numbers.entry.now reals.exit.now cells.exit.now joins.entry.now.items

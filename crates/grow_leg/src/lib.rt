@@ -4,11 +4,10 @@
 
 ghost use Rattle.std.specs.Prelude.{◌≡◌, ℕ, ◌%◌, ◌≤◌, ◌<◌, ◌+◌, eqb, length, get_or};
 ghost use Rattle.book_format.specs.Format.{links};
-ghost use Rattle.book_options.specs.Options.{OptionsIn};
 ghost use Rattle.grow_path.specs.Path.{link_of};
 ghost use Rattle.grow_rules.specs.Growth.{is_destination};
 ghost use Rattle.grow_events.specs.Held.{NotFewer};
-ghost use Rattle.grow_state.specs.Held.{PlanIn, Driving, lists_at_entry, lists_at_exit, lists, with_front};
+ghost use Rattle.grow_state.specs.Held.{RealsRoom, Driving, lists_at_entry, lists_at_exit, lists, with_front};
 ghost use Rattle.net_node.specs.Lent.{table_seen};
 ghost use Rattle.grow_waiting.specs.Steps.{stacks_at_entry, stacks_at_exit};
 ghost use Rattle.grow_leg.specs.OneLeg.{SomeFinish, SomeLeg, SomeEnding, SomeWay, SomeGoing, ways_behind};
@@ -16,10 +15,10 @@ ghost use Rattle.grow_leg.specs.OneLeg.{lists_saved};
 ghost use Rattle.grow_leg.specs.OneLeg.{FinishesRun, GoesOver, SavesOver, GoesBehind, EndsLeg};
 ghost use Rattle.grow_leg.specs.OneLeg.{WalksLeg, TakesLeg};
 
-use book_format::{Book, ReadableBook};
+use book_format::Book;
 use event_walk::Course;
 use grow_events::{Counts, RunOutcome};
-use grow_state::{Front, Plan, Rest, State};
+use grow_state::{Front, Plan, PlannedBook, Rest, State};
 use net_join_paths::JoinPaths;
 use net_stack::Stack;
 use refusals::Refusal;
@@ -52,18 +51,16 @@ fn leads_on(marks: &[u32], link_idx: u32) -> bool
 }
 
 // The links over which a run goes on behind a link. Row 9: there are none.
-fn ways_behind(book: &ReadableBook, marks: &[u32], link_idx: u32) -> Result<Ways, Refusal>
-    requires options_in { OptionsIn book.now marks.now }
-    requires book_in_bounds { links book.now ≤ length marks.now }
-    requires link_idx_bound { link_idx < links book.now }
-    ensures { result ≡ ways_behind book.now link_idx }
+fn ways_behind(p: &PlannedBook, link_idx: u32) -> Result<Ways, Refusal>
+    requires { link_idx < links p.now.book.now }
+    ensures { result ≡ ways_behind p.now.book.now link_idx }
 {
-    let link = book.valid().link_at(link_idx as usize);
+    let link = p.book.valid().link_at(link_idx as usize);
     if link.idx_next == 0 {
         return Err(Refusal::NoWayOn);
     }
-    let by_alt = leads_on(marks, link.idx_next_alt);
-    if !leads_on(marks, link.idx_next) {
+    let by_alt = leads_on(p.marks, link.idx_next_alt);
+    if !leads_on(p.marks, link.idx_next) {
         if by_alt {
             return Ok(Ways::One(link.idx_next_alt));
         }
@@ -110,17 +107,16 @@ fn finish_run(
 
 // The run at the front goes on over a link: "The leg is found or the book is refused with 10".
 fn on_over(
-    book: &ReadableBook,
+    p: &PlannedBook,
     cells: &[u32],
-    p: Plan,
     g: Rest,
     front: Front,
     link_idx: u32,
 ) -> Result<State, Refusal>
-    requires { SomeLeg book.now cells.now p g front }
-    ensures { GoesOver book.now p g front cells.now link_idx result }
+    requires { SomeLeg p.now.book.now cells.now p.now.plan g front }
+    ensures { GoesOver p.now.book.now p.now.plan g front cells.now link_idx result }
 {
-    let leg = book_legs::take_leg(book.book(), cells, front.leg, link_idx)?;
+    let leg = book_legs::take_leg(p.book.book(), cells, front.leg, link_idx)?;
     let on = Front {
         leg: leg.number,
         depth: front.depth + 1,
@@ -144,22 +140,21 @@ fn waiting_entries(used: usize, count: usize) -> usize
 // The run at the front goes on over one link, and a copy of it, which has not added, is saved to go on over another.
 // Row 12: the entries of all runs that wait.
 fn save_over(
-    book: &ReadableBook,
+    p: &PlannedBook,
     reals: &mut [f64],
     cells: &mut [u32],
     joins: &JoinPaths,
-    p: Plan,
     g: Rest,
     front: Front,
     link_idx: u32,
 ) -> Result<Rest, Refusal>
-    requires plan_in { PlanIn book.now p (length reals.old) }
-    requires some_ending { SomeEnding book.now p reals.old cells.old joins.now.items g front }
-    ensures { SavesOver book.now p g front link_idx (stacks_at_entry cells reals)
+    requires reals_room { RealsRoom p.now.book.now reals.old }
+    requires some_ending { SomeEnding p.now.book.now p.now.plan reals.old cells.old joins.now.items g front }
+    ensures { SavesOver p.now.book.now p.now.plan g front link_idx (stacks_at_entry cells reals)
         (stacks_at_exit cells reals) joins.now.items result }
 {
-    let r = p.r;
-    let leg = book_legs::take_leg(book.book(), cells, front.leg, link_idx)?;
+    let r = p.plan.r;
+    let leg = book_legs::take_leg(p.book.book(), cells, front.leg, link_idx)?;
     let used = waiting_entries(g.used, joins.len());
     if r.places < used {
         return Err(Refusal::NoPlace);
@@ -184,30 +179,26 @@ fn save_over(
 
 // The run at the front has done its leg and goes on.
 fn go_on(
-    book: &ReadableBook,
+    p: &PlannedBook,
     reals: &mut [f64],
     cells: &mut [u32],
-    marks: &[u32],
     joins: &JoinPaths,
-    p: Plan,
     g: Rest,
     front: Front,
     link_idx: u32,
 ) -> Result<State, Refusal>
-    requires plan_in { PlanIn book.now p (length reals.old) }
-    requires options_in { OptionsIn book.now marks.now }
-    requires book_in_bounds { links book.now ≤ length marks.now }
-    requires some_going { SomeGoing book.now p reals.old cells.old joins.now.items g front }
-    requires link_idx_value { link_idx ≡ link_of book.now front.leg }
-    ensures { GoesBehind book.now p g front (stacks_at_entry cells reals) (stacks_at_exit cells reals)
-        joins.now.items result }
+    requires reals_room { RealsRoom p.now.book.now reals.old }
+    requires some_going { SomeGoing p.now.book.now p.now.plan reals.old cells.old joins.now.items g front }
+    requires leg_link { link_idx ≡ link_of p.now.book.now front.leg }
+    ensures { GoesBehind p.now.book.now p.now.plan g front (stacks_at_entry cells reals)
+        (stacks_at_exit cells reals) joins.now.items result }
 {
-    let ways = ways_behind(book, marks, link_idx)?;
+    let ways = ways_behind(p, link_idx)?;
     match ways {
-        Ways::One(next) => on_over(book, cells, p, g, front, next),
+        Ways::One(next) => on_over(p, cells, g, front, next),
         Ways::Both(next, alt) => {
-            let rest = save_over(book, reals, cells, joins, p, g, front, alt)?;
-            on_over(book, cells, p, rest, front, next)
+            let rest = save_over(p, reals, cells, joins, g, front, alt)?;
+            on_over(p, cells, rest, front, next)
         }
     }
 }
@@ -215,36 +206,34 @@ fn go_on(
 // What becomes of the run at the front, which has done its leg: "A run finishes in the leg whose link is a destination,
 // never in its first leg."
 fn end_leg(
-    book: &ReadableBook,
+    p: &PlannedBook,
     floats: &[f64],
     numbers: &[u32],
     reals: &mut [f64],
     cells: &mut [u32],
-    marks: &[u32],
     joins: &JoinPaths,
-    p: Plan,
     g: Rest,
     front: Front,
 ) -> Result<State, Refusal>
-    requires plan_in { PlanIn book.now p (length reals.old) }
-    requires options_in { OptionsIn book.now marks.now }
-    requires book_in_bounds { links book.now ≤ length marks.now }
-    requires some_way { SomeWay book.now p (lists floats.now numbers.now reals.old cells.old joins.now.items) g front }
-    ensures { EndsLeg book.now p g front (lists floats.now numbers.now reals.old cells.old joins.now.items)
+    requires reals_room { RealsRoom p.now.book.now reals.old }
+    requires some_way { SomeWay p.now.book.now p.now.plan
+        (lists floats.now numbers.now reals.old cells.old joins.now.items) g front }
+    ensures { EndsLeg p.now.book.now p.now.plan g front
+        (lists floats.now numbers.now reals.old cells.old joins.now.items)
         (lists_saved floats numbers reals cells joins) result }
 {
-    let rows = book.book();
+    let rows = p.book.book();
     let leg = rows.leg_at(front.leg as usize - 1);
     let here = is_destination(rows, leg.link_idx);
     if here & (0 < leg.parent) {
-        return finish_run(floats, numbers, cells, p, g, front);
+        return finish_run(floats, numbers, cells, p.plan, g, front);
     }
-    go_on(book, reals, cells, marks, joins, p, g, front, leg.link_idx)
+    go_on(p, reals, cells, joins, g, front, leg.link_idx)
 }
 
 // The events of the leg of the run at the front, behind its path: one after the other, unless row 11 refuses them.
 fn walk_leg(
-    book: &ReadableBook,
+    p: &PlannedBook,
     floats: &mut [f64],
     numbers: &mut [u32],
     reals: &mut [f64],
@@ -252,23 +241,23 @@ fn walk_leg(
     joins: &mut JoinPaths,
     scratch: &mut JoinPaths,
     stack: &mut Stack,
-    p: Plan,
     g: Rest,
     front: Front,
 ) -> Result<RunOutcome, Refusal>
-    requires plan_in { PlanIn book.now p (length reals.old) }
-    requires driving { Driving book.now p (lists floats.old numbers.old reals.old cells.old joins.old.items)
-        (with_front g front) }
-    ensures walked { WalksLeg book.now p g front (lists_at_entry floats numbers reals cells joins)
+    requires reals_room { RealsRoom p.now.book.now reals.old }
+    requires driving { Driving p.now.book.now p.now.plan
+        (lists floats.old numbers.old reals.old cells.old joins.old.items) (with_front g front) }
+    ensures walked { WalksLeg p.now.book.now p.now.plan g front (lists_at_entry floats numbers reals cells joins)
         (lists_at_exit floats numbers reals cells joins) result }
     ensures more { NotFewer g.counts result }
 {
-    let rows = book.book();
+    let plan = p.plan;
+    let rows = p.book.book();
     let leg = rows.leg_at(front.leg as usize - 1);
     let taken = book_legs::leg_samples(cells, front.leg);
-    grow_path::extend_path(book, reals, cells, front.depth, leg.link_idx);
+    grow_path::extend_path(p.book, reals, cells, front.depth, leg.link_idx);
     let samples = rows.bytes();
-    let movement = grow_path::movement_of(rows, taken, front.depth + 1, p.length);
+    let movement = grow_path::movement_of(rows, taken, front.depth + 1, plan.length);
     if event_walk::reaches_last(samples, reals, movement) {
         return Err(Refusal::BadEvent);
     }
@@ -282,8 +271,8 @@ fn walk_leg(
         floats,
         numbers,
         cells,
-        p.w,
-        p.join,
+        plan.w,
+        plan.join,
         joins,
         scratch,
         stack,
@@ -294,29 +283,25 @@ fn walk_leg(
 
 // The run at the front takes its leg.
 pub fn turn(
-    book: &ReadableBook,
+    p: &PlannedBook,
     floats: &mut [f64],
     numbers: &mut [u32],
     reals: &mut [f64],
     cells: &mut [u32],
-    marks: &[u32],
     joins: &mut JoinPaths,
     scratch: &mut JoinPaths,
     stack: &mut Stack,
-    p: Plan,
     g: Rest,
     front: Front,
 ) -> Result<State, Refusal>
-    requires plan_in { PlanIn book.now p (length reals.old) }
-    requires options_in { OptionsIn book.now marks.now }
-    requires book_in_bounds { links book.now ≤ length marks.now }
-    requires driving { Driving book.now p (lists floats.old numbers.old reals.old cells.old joins.old.items)
-        (with_front g front) }
-    ensures { TakesLeg book.now p g front (lists_at_entry floats numbers reals cells joins)
+    requires reals_room { RealsRoom p.now.book.now reals.old }
+    requires driving { Driving p.now.book.now p.now.plan
+        (lists floats.old numbers.old reals.old cells.old joins.old.items) (with_front g front) }
+    ensures { TakesLeg p.now.book.now p.now.plan g front (lists_at_entry floats numbers reals cells joins)
         (lists_at_exit floats numbers reals cells joins) result }
 {
     let became = walk_leg(
-        book, floats, numbers, reals, cells, joins, scratch, stack, p, g, front,
+        p, floats, numbers, reals, cells, joins, scratch, stack, g, front,
     )?;
     match became {
         RunOutcome::Ended(counts) => Ok(State {
@@ -326,9 +311,7 @@ pub fn turn(
         RunOutcome::On(counts, mover) => {
             let rest = Rest { counts, ..g };
             let moved = Front { mover, ..front };
-            end_leg(
-                book, floats, numbers, reals, cells, marks, joins, p, rest, moved,
-            )
+            end_leg(p, floats, numbers, reals, cells, joins, rest, moved)
         }
     }
 }

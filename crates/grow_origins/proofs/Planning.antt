@@ -12,7 +12,8 @@ use Rattle.laws.specs.Below.{some_below}
 use Rattle.laws.proofs.Below.{none_left, none_right}
 use Rattle.floats.specs.Floats.{book_float}
 use Rattle.book_format.specs.declared.HeadPatterns.{HeadPatterns}
-use Rattle.book_format.specs.Format.{links, origins, samples, legs, link_length, join_bits, departure_bits, length_bits, head_patterns, end_of}
+use Rattle.book_format.specs.Format.{links, origins, samples, legs, link_length, join_bits, departure_bits, length_bits}
+use Rattle.book_format.specs.Format.{head_patterns, end_of}
 use Rattle.book_format.specs.Rows.{bad_origin_value, bad_sample, row4, row7}
 use Rattle.book_format.specs.Chains.{Readable}
 use Rattle.book_format.proofs.Floats.{book_no_nan}
@@ -30,26 +31,33 @@ module _ (b : List ℕ) (h : row4 b ≡ false) where
       let heads = two || not (book_float (length_bits b)) in
       let some_links = some_below (links b) (λ i. not (book_float (link_length b i))) in
       let some_origins = some_below (origins b) (bad_origin_value b) in
-      none_left two (not (book_float (length_bits b))) (none_left heads some_links (none_left (heads || some_links) some_origins (none_left (heads || some_links || some_origins) (some_below (samples b) (bad_sample b)) h)))
+      none_left two (not (book_float (length_bits b)))
+      (none_left heads some_links (none_left (heads || some_links) some_origins
+      (none_left (heads || some_links || some_origins) (some_below (samples b) (bad_sample b)) h)))
 
   join_float : book_float (join_bits b) ≡ true
-  join_float = not-false (book_float (join_bits b)) (none_left (not (book_float (join_bits b))) (not (book_float (departure_bits b))) both)
+  join_float = not-false (book_float (join_bits b))
+      (none_left (not (book_float (join_bits b))) (not (book_float (departure_bits b))) both)
 
   departure_float : book_float (departure_bits b) ≡ true
-  departure_float = not-false (book_float (departure_bits b)) (none_right (not (book_float (join_bits b))) (not (book_float (departure_bits b))) both)
+  departure_float = not-false (book_float (departure_bits b))
+      (none_right (not (book_float (join_bits b))) (not (book_float (departure_bits b))) both)
 
 module _ (b : List ℕ) (v : Readable b) (head : HeadPatterns) (e : head ≡ head_patterns b) where
   pub join_number : T (not (nan_bits binary64 head.join))
   unfolding head_patterns
-  join_number = subst (λ (x : HeadPatterns). T (not (nan_bits binary64 x.join))) (sym e) (book_no_nan (join_bits b) (join_float b v.floats))
+  join_number = subst (λ (x : HeadPatterns). T (not (nan_bits binary64 x.join))) (sym e)
+      (book_no_nan (join_bits b) (join_float b v.floats))
 
   pub departure_number : T (not (nan_bits binary64 head.departure))
   unfolding head_patterns
-  departure_number = subst (λ (x : HeadPatterns). T (not (nan_bits binary64 x.departure))) (sym e) (book_no_nan (departure_bits b) (departure_float b v.floats))
+  departure_number = subst (λ (x : HeadPatterns). T (not (nan_bits binary64 x.departure))) (sym e)
+      (book_no_nan (departure_bits b) (departure_float b v.floats))
 
   pub length_number : T (not (nan_bits binary64 head.length))
   unfolding head_patterns
-  length_number = subst (λ (x : HeadPatterns). T (not (nan_bits binary64 x.length))) (sym e) (book_no_nan (length_bits b) (length_float b v.floats))
+  length_number = subst (λ (x : HeadPatterns). T (not (nan_bits binary64 x.length))) (sym e)
+      (book_no_nan (length_bits b) (length_float b v.floats))
 
   -- the plan, as the code puts it together
   abbrev plan_of : ℕ → ℕ → ℕ → Plan
@@ -61,7 +69,8 @@ module _ (b : List ℕ) (v : Readable b) (head : HeadPatterns) (e : head ≡ hea
     length = of_bits binary64 head.length;
   }
 
-  pub plan_holds : length b ≡ end_of b → row7 b ≡ false → (j l places reals : ℕ) → j ≡ legs b → l ≡ links b → legs b * 3 + 4 ≤ reals → PlanIn b (plan_of j l places) reals
+  pub plan_holds : length b ≡ end_of b → row7 b ≡ false → (j l places reals : ℕ) → j ≡ legs b → l ≡ links b
+      → legs b * 3 + 4 ≤ reals → PlanIn b (plan_of j l places) reals
   unfolding head_patterns
   plan_holds whole seven j l places reals many all h = record {
     whole = whole;

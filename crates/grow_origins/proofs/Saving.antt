@@ -36,7 +36,8 @@ use Rattle.refusals.specs.declared.Refusal.{Refusal}
 use Rattle.refusals.specs.declared.Refusal.TheVariants.{MissingLeg}
 use Rattle.refusals.specs.Refusals.{refusal_number}
 use Rattle.grow_state.specs.declared.Rest.{Rest}
-use Rattle.grow_state.specs.Held.{PlanIn, path_before, Prefixes, Separate, SeparateFrom, RunSound, AllSound, SameRuns, WaitIn, DriveIn, idle, lists}
+use Rattle.grow_state.specs.Held.{PlanIn, path_before, Prefixes, Separate, SeparateFrom, RunSound, AllSound, SameRuns}
+use Rattle.grow_state.specs.Held.{WaitIn, DriveIn, idle, lists}
 use Rattle.grow_state.proofs.Keeping.{plan_legs, plan_room, chained_same, wait_same, sound_more}
 use Rattle.grow_origins.specs.Origins.{OtherLinks, AllFirst, NotOver, OriginsAs, saved_origin, OriginInserted}
 
@@ -64,7 +65,8 @@ leg_number_lem : (b : List ℕ) (n : ℕ) (leg : TakenLeg) → taken_by b (searc
 leg_number_lem b zero leg e = absurd (subst NotMissing (sym e) tt)
 leg_number_lem b (suc n) leg e = (omega arith, ap number_in (sym e))
 
-found_leg : (b : List ℕ) (link : ℕ) (t : Result TakenLeg Refusal) (leg : TakenLeg) → t ≡ taken_leg b 0 link → t ≡ Ok leg → FoundLeg b link leg
+found_leg : (b : List ℕ) (link : ℕ) (t : Result TakenLeg Refusal) (leg : TakenLeg) → t ≡ taken_leg b 0 link → t ≡ Ok leg
+    → FoundLeg b link leg
 unfolding taken_leg leg_search
 found_leg b link t leg e d = go (leg_below b (legs b) 0 link) refl
   where
@@ -95,10 +97,12 @@ before_first b j e = ap (λ (p : ℕ). path_of b p) e ∙ none_before 0 b
 not_member : (i j : ℕ) → (i ≡ j → ⊥) → member_of (i ∷ []) j ≡ false
 not_member i j d = ap (λ (t : Bool). t || false) (ne_eqb i j d)
 
-first_separate : (b : List ℕ) (i j : ℕ) → 0 < j → leg_parent b i ≡ 0 → leg_parent b (j - 1) ≡ 0 → (suc i ≡ j → ⊥) → Separate b (suc i) j
+first_separate : (b : List ℕ) (i j : ℕ) → 0 < j → leg_parent b i ≡ 0 → leg_parent b (j - 1) ≡ 0 → (suc i ≡ j → ⊥)
+    → Separate b (suc i) j
 first_separate b i zero h p q d = absurd (omega arith)
 first_separate b i (suc j) h p q d = record {
-  no_there = ap (λ (xs : List ℕ). member_of xs (suc i)) (path_first b j (ap (leg_parent b) (sym (less_one j)) ∙ q)) ∙ not_member (suc j) (suc i) (λ (e : suc j ≡ suc i). d (sym e));
+  no_there = ap (λ (xs : List ℕ). member_of xs (suc i)) (path_first b j (ap (leg_parent b) (sym (less_one j)) ∙ q))
+      ∙ not_member (suc j) (suc i) (λ (e : suc j ≡ suc i). d (sym e));
   no_back = ap (λ (xs : List ℕ). member_of xs (suc j)) (path_first b i p) ∙ not_member (suc i) (suc j) d;
 }
 
@@ -109,45 +113,70 @@ module _ (b : List ℕ) (link i : ℕ) (e : leg_link b i ≡ link) where
   other_leg : (j : ℕ) → leg_link b (j - 1) ≢ link → suc i ≡ j → ⊥
   other_leg j d q = d (ap (λ (x : ℕ). leg_link b (x - 1)) (sym q) ∙ ap (leg_link b) (less_one i) ∙ e)
 
-  all_others : (n : ℕ) (idxs : List ℕ) (runs : List Run) → leg_parent b i ≡ 0 → AllSound b n runs → AllFirst b idxs runs → NotOver b link runs → SeparateFrom b (suc i) runs
+  all_others : (n : ℕ) (idxs : List ℕ) (runs : List Run) → leg_parent b i ≡ 0 → AllSound b n runs → AllFirst b idxs runs
+      → NotOver b link runs → SeparateFrom b (suc i) runs
   all_others n idxs [] p s f o = tt
-  all_others n idxs (r ∷ rs) p s f o = (first_separate b i r.leg s.0.some p f.0 (other_leg r.leg o.0), all_others n idxs rs p s.1 f.1.1 o.1)
+  all_others n idxs (r ∷ rs) p s f o = (
+    first_separate b i r.leg s.0.some p f.0 (other_leg r.leg o.0),
+    all_others n idxs rs p s.1 f.1.1 o.1,
+  )
 
   apart_others : (ws : List Waiting) (runs : List Run) → SameRuns b ws runs → NotOver b link runs → Untaken (suc i) ws
   apart_others [] runs s o = tt
   apart_others (w ∷ ws) [] s o = absurd s
-  apart_others (w ∷ ws) (r ∷ rs) s o = (λ (q : suc i ≡ w.leg). other_leg r.leg o.0 (q ∙ s.0.leg), apart_others ws rs s.1 o.1)
+  apart_others (w ∷ ws) (r ∷ rs) s o = (
+    λ (q : suc i ≡ w.leg). other_leg r.leg o.0 (q ∙ s.0.leg),
+    apart_others ws rs s.1 o.1,
+  )
 
 prefixes_none : (b : List ℕ) (runs : List Run) (path : List ℕ) → path ≡ [] → Prefixes b [] runs → Prefixes b path runs
 prefixes_none b runs path e h = subst (λ (p : List ℕ). Prefixes b p runs) (sym e) h
 
 -- ---- the network while a run is saved
 
-module _ {w : Layout} {r : Rooms} {fs : List Float} {us cells : List ℕ} {c : Counts} {net : Net} (v : NetIn w cells fs us cells c net) {cells' : List ℕ} {reals reals' : List Float}
-    (s : SavedElsewhere cells cells' reals reals' r) (room : (r.legs + 1) * 8 ≤ r.nodes_at) (same_nodes : r.nodes_at ≡ w.nodes_at) (same_places : r.places ≡ w.places) (long : length cells' ≡ length cells) where
+module _ {w : Layout} {r : Rooms} {fs : List Float} {us cells : List ℕ} {c : Counts} {net : Net}
+    (v : NetIn w cells fs us cells c net) {cells' : List ℕ} {reals reals' : List Float}
+    (s : SavedElsewhere cells cells' reals reals' r) (room : (r.legs + 1) * 8 ≤ r.nodes_at)
+    (same_nodes : r.nodes_at ≡ w.nodes_at) (same_places : r.places ≡ w.places)
+    (long : length cells' ≡ length cells) where
   mark_left : (i : ℕ) → i < w.places → get_or cells' (ends_at w + i * 8) 0 ≡ get_or cells (ends_at w + i * 8) 0
   mark_left i h =
       let e : r.nodes_at + i * 8 + 2 ≡ ends_at w + i * 8 = omega (arith, same_nodes) in
-      let l : get_or cells' (r.nodes_at + i * 8 + 2) 0 ≡ get_or cells (r.nodes_at + i * 8 + 2) 0 = node_left s room i 2 (omega (arith, same_places)) (omega arith) in
+      let l : get_or cells' (r.nodes_at + i * 8 + 2) 0 ≡ get_or cells (r.nodes_at + i * 8 + 2) 0 =
+      node_left s room i 2 (omega (arith, same_places)) (omega arith) in
       subst (λ (q : ℕ). get_or cells' q 0 ≡ get_or cells q 0) e l
 
   net_saved : NetIn w cells' fs us cells' c net
-  net_saved = net_same v cells' long (save_mapped s room v.apart (sym same_nodes) (sym same_places) v.within v.mapped) mark_left
+  net_saved = net_same v cells' long (save_mapped s room v.apart (sym same_nodes) (sym same_places) v.within v.mapped)
+      mark_left
 
 -- ---- all that is held, while events are inserted and no run is at the front
 
-module _ {b : List ℕ} {p : Plan} {fs : List Float} {us : List ℕ} {reals : List Float} {cells : List ℕ} {joins : List EstJoinPath} {path : List ℕ} {g : Rest} {net : Net} {runs : List Run} {many : ℕ} (plan : PlanIn b p many) (d : DriveIn b p (lists fs us reals cells joins) path (idle g) net runs) where
-  module _ {fs' : List Float} {us' cells' : List ℕ} {c' : Counts} {net' : Net} (v : NetIn p.w cells fs' us' cells' c' net') (more : g.counts.nodes ≤ c'.nodes) (long : length cells' ≡ length cells) where
+module _ {b : List ℕ} {p : Plan} {fs : List Float} {us : List ℕ} {reals : List Float} {cells : List ℕ}
+    {joins : List EstJoinPath} {path : List ℕ} {g : Rest} {net : Net} {runs : List Run} {many : ℕ}
+    (plan : PlanIn b p many) (d : DriveIn b p (lists fs us reals cells joins) path (idle g) net runs) where
+  module _ {fs' : List Float} {us' cells' : List ℕ} {c' : Counts} {net' : Net}
+      (v : NetIn p.w cells fs' us' cells' c' net') (more : g.counts.nodes ≤ c'.nodes)
+      (long : length cells' ≡ length cells) where
     chained_grown : Chained b cells'
     chained_grown = chained_same long (λ q h f. before_kept v q (omega (arith, plan.nodes_at))) d.chained
 
-    unit_same : (i k : ℕ) → i < p.r.places → 3 ≤ k → k < 5 → get_or cells' (p.r.nodes_at + i * 8 + k) 0 ≡ get_or cells (p.r.nodes_at + i * 8 + k) 0
-    unit_same i k h f e = subst (λ (q : ℕ). get_or cells' (q + i * 8 + k) 0 ≡ get_or cells (q + i * 8 + k) 0) (sym plan.same_nodes) (unit_kept v i k (omega (arith, plan.same_places)) f (omega arith))
+    unit_same : (i k : ℕ) → i < p.r.places → 3 ≤ k → k < 5
+        → get_or cells' (p.r.nodes_at + i * 8 + k) 0 ≡ get_or cells (p.r.nodes_at + i * 8 + k) 0
+    unit_same i k h f e = subst (λ (q : ℕ). get_or cells' (q + i * 8 + k) 0 ≡ get_or cells (q + i * 8 + k) 0)
+        (sym plan.same_nodes) (unit_kept v i k (omega (arith, plan.same_places)) f (omega arith))
 
     waits_grown : WaitIn b p.r reals cells' g.top g.used runs
-    waits_grown = wait_same (record { fields = λ j k h f e. before_kept v (j * 8 + k) (omega (arith, plan.nodes_at, plan.all_legs)); entries = unit_same; reals = λ q h. refl }) d.waiting
+    waits_grown = wait_same (record {
+      fields = λ j k h f e.
+          before_kept v (j * 8 + k) (omega (arith, plan.nodes_at, plan.all_legs));
+      entries = unit_same;
+      reals =
+          λ q h. refl;
+    }) d.waiting
 
-    pub drive_grown : DriveIn b p (lists fs' us' reals cells' joins) path (idle (record { counts = c'; top = g.top; used = g.used })) net' runs
+    pub drive_grown : DriveIn b p (lists fs' us' reals cells' joins) path
+        (idle (record { counts = c'; top = g.top; used = g.used })) net' runs
     drive_grown = record {
       grown = net_restart v;
       chained = chained_grown;
@@ -161,14 +190,19 @@ module _ {b : List ℕ} {p : Plan} {fs : List Float} {us : List ℕ} {reals : Li
 
 -- ---- the run is saved
 
-module _ (b : List ℕ) (p : Plan) (fs : List Float) (us : List ℕ) (reals : List Float) (cells : List ℕ) (joins : List EstJoinPath) (idxs : List ℕ) (g : Rest) (place : Place) (link : ℕ) (net : Net) (run : Run) (runs : List Run)
-    (plan : PlanIn b p (length reals)) (v : OriginInserted b p (lists fs us reals cells joins) idxs g place link net run runs) (t : Result TakenLeg Refusal) (told : t ≡ taken_leg b 0 link) where
+module _ (b : List ℕ) (p : Plan) (fs : List Float) (us : List ℕ) (reals : List Float) (cells : List ℕ)
+    (joins : List EstJoinPath) (idxs : List ℕ) (g : Rest) (place : Place) (link : ℕ) (net : Net) (run : Run)
+    (runs : List Run)
+    (plan : PlanIn b p (length reals)) (v : OriginInserted b p
+    (lists fs us reals cells joins) idxs g place link net run runs) (t : Result TakenLeg Refusal)
+    (told : t ≡ taken_leg b 0 link) where
   -- row 10
   pub origin_no_leg : (k : Refusal) → t ≡ Err k → saved_origin b link net run runs ≡ refused (refusal_number k)
   unfolding saved_origin seek_leg taken_leg leg_search
   origin_no_leg k e =
       let l = no_leg b (leg_below b (legs b) 0 link) k (sym told ∙ e) in
-      ap (λ (n : ℕ). and_then (takes run n) (λ (r : Run). given (record { net = net; saved = r ∷ runs }))) l.0 ∙ ap (λ (y : Refusal). refused (refusal_number y)) l.1
+      ap (λ (n : ℕ). and_then (takes run n) (λ (r : Run). given (record { net = net; saved = r ∷ runs }))) l.0
+      ∙ ap (λ (y : Refusal). refused (refusal_number y)) l.1
 
   module _ (leg : TakenLeg) (is : t ≡ Ok leg) (none : joins ≡ []) where
     leg_is : FoundLeg b link leg
@@ -184,7 +218,10 @@ module _ (b : List ℕ) (p : Plan) (fs : List Float) (us : List ℕ) (reals : Li
     wait = held.waiting
 
     -- what saving asks
-    pub save_asks : (p.r.nodes_at + p.r.places * 8 ≤ length cells) × (((p.r.legs + 1) * 8 ≤ p.r.nodes_at) × ((p.r.pairs_at + p.r.legs * 2 + 2 ≤ length reals) × ((leg.number ≤ p.r.legs) × ((0 < leg.number) × ((p.r.legs ≤ 65535) × ((0 ≤ 65535) × ((g.used + length joins ≤ p.r.places) × (p.r.places ≤ 65535))))))))
+    pub save_asks : (p.r.nodes_at + p.r.places * 8 ≤ length cells)
+        × (((p.r.legs + 1) * 8 ≤ p.r.nodes_at) × ((p.r.pairs_at + p.r.legs * 2 + 2 ≤ length reals)
+        × ((leg.number ≤ p.r.legs) × ((0 < leg.number)
+        × ((p.r.legs ≤ 65535) × ((0 ≤ 65535) × ((g.used + length joins ≤ p.r.places) × (p.r.places ≤ 65535))))))))
     save_asks = (
       omega (arith, held.grown.apart.nodes_inside, plan.same_nodes, plan.same_places),
       (
@@ -197,7 +234,18 @@ module _ (b : List ℕ) (p : Plan) (fs : List Float) (us : List ℕ) (reals : Li
               omega (arith, leg_is.number),
               (
                 omega (arith, plan.all_legs, plan_legs plan),
-                (omega arith, (omega (arith, ap length none, saved_room cells reals p.r g.top g.used wait.runs wait.kept), omega (arith, plan.same_places, held.grown.room.most))),
+                (
+                  omega arith,
+                  (
+                    omega (
+                      arith,
+                      ap length none,
+                      saved_room cells reals p.r g.top g.used wait.runs
+                          wait.kept,
+                    ),
+                    omega (arith, plan.same_places, held.grown.room.most),
+                  ),
+                ),
               ),
             ),
           ),
@@ -210,10 +258,13 @@ module _ (b : List ℕ) (p : Plan) (fs : List Float) (us : List ℕ) (reals : Li
 
     answer_is : saved_origin b link net run runs ≡ given (record { net = net; saved = then ∷ runs })
     unfolding saved_origin seek_leg then
-    answer_is = ap (λ (n : ℕ). and_then (takes run n) (λ (r : Run). given (record { net = net; saved = r ∷ runs }))) leg_is.below
+    answer_is = ap (λ (n : ℕ). and_then (takes run n) (λ (r : Run). given (record { net = net; saved = r ∷ runs })))
+        leg_is.below
 
-    module _ (reals' : List Float) (cells' : List ℕ) (long : length cells' ≡ length cells) (s : SavedElsewhere cells cells' reals reals' p.r)
-        (saved : (ws : List Waiting) → SavedIn cells reals p.r g.top g.used ws → Untaken leg.number ws → SavedIn cells' reals' p.r leg.number (g.used + length joins) (waiting_of place leg.number 0 joins ∷ ws)) where
+    module _ (reals' : List Float) (cells' : List ℕ) (long : length cells' ≡ length cells)
+        (s : SavedElsewhere cells cells' reals reals' p.r)
+        (saved : (ws : List Waiting) → SavedIn cells reals p.r g.top g.used ws → Untaken leg.number ws
+        → SavedIn cells' reals' p.r leg.number (g.used + length joins) (waiting_of place leg.number 0 joins ∷ ws)) where
       abbrev state : Rest
       state = record { counts = g.counts; top = leg.number; used = g.used }
 
@@ -224,8 +275,20 @@ module _ (b : List ℕ) (p : Plan) (fs : List Float) (us : List ℕ) (reals : Li
       unfolding then
       wait_more = record {
         runs = waiting_of place leg.number 0 joins ∷ wait.runs;
-        kept = subst (λ (n : ℕ). SavedIn cells' reals' p.r leg.number n (waiting_of place leg.number 0 joins ∷ wait.runs)) (omega (arith, ap length none)) (saved wait.runs wait.kept (subst (λ (j : ℕ). Untaken j wait.runs) (sym leg_is.number) (apart_others b link leg_is.idx of.link wait.runs runs wait.same v.others)));
-        same = (record { place = sym v.stands; leg = leg_is.number; depth = sym (ap length path_none); joins = none ∙ sym v.no_joins; has_split = refl }, wait.same);
+        kept = subst (λ (n : ℕ). SavedIn cells' reals' p.r leg.number n
+            (waiting_of place leg.number 0 joins ∷ wait.runs)) (omega (arith, ap length none))
+            (saved wait.runs wait.kept (subst (λ (j : ℕ). Untaken j wait.runs) (sym leg_is.number)
+            (apart_others b link leg_is.idx of.link wait.runs runs wait.same v.others)));
+        same = (
+          record {
+            place = sym v.stands;
+            leg = leg_is.number;
+            depth = sym (ap length path_none);
+            joins = none ∙ sym v.no_joins;
+            has_split = refl;
+          },
+          wait.same,
+        );
       }
 
       run_sound : RunSound b g.counts.nodes then
@@ -235,10 +298,12 @@ module _ (b : List ℕ) (p : Plan) (fs : List Float) (us : List ℕ) (reals : Li
         within = of.within;
         stands = subst (λ (x : Place). x.idx_prev < g.counts.nodes) (sym v.stands) v.within;
         few = subst (λ (es : List EstJoinPath). length es ≤ 1024) (sym v.no_joins) (omega arith);
-        valid = subst (λ (es : List EstJoinPath). Valid es g.counts.nodes) (sym v.no_joins) (record { node = λ k h. absurd (omega arith) });
+        valid = subst (λ (es : List EstJoinPath). Valid es g.counts.nodes) (sym v.no_joins)
+            (record { node = λ k h. absurd (omega arith) });
       }
 
-      pub origin_saved : OriginsAs (saved_origin b link net run runs) b p (lists fs us reals' cells' joins) idxs (Ok state)
+      pub origin_saved : OriginsAs (saved_origin b link net run runs) b p (lists fs us reals' cells' joins) idxs
+          (Ok state)
       unfolding then
       origin_saved = record {
         growth = record { net = net; saved = then ∷ runs };
@@ -251,9 +316,22 @@ module _ (b : List ℕ) (p : Plan) (fs : List Float) (us : List ℕ) (reals : Li
             short = omega arith;
             waiting = wait_more;
             sound = (run_sound, held.sound);
-            prefixes = (record { rest = []; is = sym (ap (λ (xs : List ℕ). xs ++ []) path_none) }, prefixes_none b runs (path_before b (suc leg_is.idx)) path_none held.prefixes);
-            separate = (all_others b link leg_is.idx of.link g.counts.nodes idxs runs of.parent held.sound v.origins.firsts v.others, held.separate);
+            prefixes = (
+              record { rest = []; is = sym (ap (λ (xs : List ℕ). xs ++ []) path_none) },
+              prefixes_none b runs (path_before b (suc leg_is.idx)) path_none held.prefixes,
+            );
+            separate = (
+              all_others b link leg_is.idx of.link g.counts.nodes idxs runs of.parent held.sound
+                  v.origins.firsts v.others,
+              held.separate,
+            );
           };
-          firsts = (ap (leg_parent b) (less_one leg_is.idx) ∙ of.parent, (subst (λ (l : ℕ). OtherLinks b l idxs) (sym (ap (leg_link b) (less_one leg_is.idx) ∙ of.link)) v.apart, v.origins.firsts));
+          firsts = (
+            ap (leg_parent b) (less_one leg_is.idx) ∙ of.parent,
+            (
+              subst (λ (l : ℕ). OtherLinks b l idxs) (sym (ap (leg_link b) (less_one leg_is.idx) ∙ of.link)) v.apart,
+              v.origins.firsts,
+            ),
+          );
         };
       }

@@ -6,10 +6,9 @@ ghost use Rattle.std.specs.Prelude.{◌≡◌, false, ◌≢◌, [], ℕ, ◌+�
 ghost use Rattle.net_node.specs.Table.{node_at};
 ghost use Rattle.book_format.specs.Format.{links, origins, legs, origin_link};
 ghost use Rattle.book_format.specs.Rows.{row7};
-ghost use Rattle.book_legs.specs.Legs.{Started};
-ghost use Rattle.book_options.specs.Options.{OptionsIn, kept_origins, search_room};
+ghost use Rattle.book_options.specs.Options.{kept_origins};
 ghost use Rattle.grow_events.specs.Held.{Growing};
-ghost use Rattle.grow_state.specs.Held.{PlanIn, lists, lists_at_entry, lists_at_exit};
+ghost use Rattle.grow_state.specs.Held.{PlanIn, RealsRoom, lists, lists_at_entry, lists_at_exit};
 ghost use Rattle.net_node.specs.Lent.{table_at_entry, table_at_exit};
 ghost use Rattle.grow_waiting.specs.Steps.{stacks_at_entry, stacks_at_exit};
 ghost use Rattle.grow_origins.specs.Origins.{start_state, LeadsFrom, OnlyStart, SomeOrigin, SomeOrigins};
@@ -27,10 +26,14 @@ use net_join_paths::JoinPaths;
 use net_node::{EstType, LinkEvent, TimedEvent};
 use refusals::Refusal;
 
+mod starting_book;
+
+pub use starting_book::StartingBook;
+
 // What growth goes by. The legs' units of cells stand first, then the nodes', then the links'; the path's points stand
 // first in the reals, then the pairs of the runs that wait.
 pub fn plan_of(book: &ReadableBook, places: usize) -> Plan
-    requires book_value { row7 book.now ≡ false }
+    requires row7 { row7 book.now ≡ false }
     requires places_bound { places ≤ 65535 }
     ensures plan { (reals : ℕ) → legs book.now * 3 + 4 ≤ reals
         → PlanIn book.now result reals }
@@ -140,30 +143,25 @@ fn origin_events(
 
 // Saves an origin's run, which has no join entries, and whose leg is sought "after its Clear is added".
 fn save_origin(
-    book: &ReadableBook,
+    p: &StartingBook,
     reals: &mut [f64],
     cells: &mut [u32],
-    marks: &[u32],
     joins: &JoinPaths,
-    p: Plan,
     g: Rest,
     place: Place,
     link_idx: u32,
 ) -> Result<Rest, Refusal>
-    requires plan_in { PlanIn book.now p (length reals.old) }
-    requires some_origin_inserted { SomeOriginInserted book.now p reals.old cells.old joins.now.items g place
-        link_idx }
+    requires reals_room { RealsRoom p.now.planned.book.now reals.old }
+    requires some_origin_inserted { SomeOriginInserted p.now.planned.book.now p.now.planned.plan reals.old cells.old
+        joins.now.items g place link_idx }
     requires no_joins { joins.now.items ≡ [] }
-    requires started { Started book.now marks.now }
-    requires book_in_bounds { 2 * links book.now ≤ length marks.now }
-    requires link_idx_bound { link_idx < links book.now }
-    ensures { SavesOrigin book.now p g place link_idx (stacks_at_entry cells reals)
+    requires link_idx_bound { link_idx < links p.now.planned.book.now }
+    ensures { SavesOrigin p.now.planned.book.now p.now.planned.plan g place link_idx (stacks_at_entry cells reals)
         (stacks_at_exit cells reals) joins.now.items result }
 {
-    let leg = book_legs::take_start(book.book(), cells, marks, link_idx)?;
-    grow_waiting::save(
-        cells, reals, p.r, g.top, g.used, place, leg.number, 0, joins,
-    );
+    let leg = book_legs::take_start(p.planned.book.book(), cells, p.planned.marks, link_idx)?;
+    let r = p.planned.plan.r;
+    grow_waiting::save(cells, reals, r, g.top, g.used, place, leg.number, 0, joins);
     Ok(Rest {
         top: leg.number,
         ..g
@@ -172,43 +170,32 @@ fn save_origin(
 
 // One kept origin: its events, then its leg.
 fn origin(
-    book: &ReadableBook,
+    p: &StartingBook,
     floats: &mut [f64],
     numbers: &mut [u32],
     reals: &mut [f64],
     cells: &mut [u32],
-    marks: &[u32],
     joins: &JoinPaths,
-    p: Plan,
     g: Rest,
     idx: usize,
     last: u32,
 ) -> Result<Rest, Refusal>
-    requires plan_in { PlanIn book.now p (length reals.old) }
-    requires idx_bound { idx < origins book.now }
-    requires some_origin { SomeOrigin book.now p
+    requires reals_room { RealsRoom p.now.planned.book.now reals.old }
+    requires idx_bound { idx < origins p.now.planned.book.now }
+    requires some_origin { SomeOrigin p.now.planned.book.now p.now.planned.plan
         (lists floats.old numbers.old reals.old cells.old joins.now.items) idx g }
     requires no_joins { joins.now.items ≡ [] }
-    requires leads_from { LeadsFrom (table_of floats.old numbers.old) g.counts.nodes last (origin_link book.now idx) }
-    requires started { Started book.now marks.now }
-    requires book_in_bounds { 2 * links book.now ≤ length marks.now }
-    ensures { GrowsOrigin book.now p g idx (lists floats.old numbers.old reals.old cells.old joins.now.items)
+    requires leads_from { LeadsFrom (table_of floats.old numbers.old) g.counts.nodes last
+        (origin_link p.now.planned.book.now idx) }
+    ensures { GrowsOrigin p.now.planned.book.now p.now.planned.plan g idx
+        (lists floats.old numbers.old reals.old cells.old joins.now.items)
         (lists_left floats numbers reals cells joins) result }
 {
-    let at = book.valid().origin_at(idx);
-    let (counts, mover) = origin_events(floats, numbers, cells, p, g.counts, at.link_idx, last)?;
+    let plan = p.planned.plan;
+    let at = p.planned.book.valid().origin_at(idx);
+    let (counts, mover) = origin_events(floats, numbers, cells, plan, g.counts, at.link_idx, last)?;
     let inserted = Rest { counts, ..g };
-    save_origin(
-        book,
-        reals,
-        cells,
-        marks,
-        joins,
-        p,
-        inserted,
-        mover.place,
-        at.link_idx,
-    )
+    save_origin(p, reals, cells, joins, inserted, mover.place, at.link_idx)
 }
 
 // The start's last alternative after an origin, by how many nodes there were before it: the first one's Arrive is
@@ -227,39 +214,31 @@ fn last_after(before: usize) -> u32
 // All kept origins, in the order in which they stand in the marks. Their runs have no join entries: the list is
 // cleared.
 pub fn origins(
-    book: &ReadableBook,
+    p: &StartingBook,
     floats: &mut [f64],
     numbers: &mut [u32],
     reals: &mut [f64],
     cells: &mut [u32],
-    marks: &[u32],
     joins: &mut JoinPaths,
-    kept: usize,
-    p: Plan,
     g: Rest,
 ) -> Result<Rest, Refusal>
-    requires plan_in { PlanIn book.now p (length reals.old) }
-    requires options_in { OptionsIn book.now marks.now }
-    requires book_in_bounds { search_room book.now ≤ length marks.now }
-    requires kept_value { kept ≡ length (kept_origins book.now) }
-    requires some_origins { SomeOrigins book.now p
-        (lists floats.old numbers.old reals.old cells.old joins.old.items) (kept_origins book.now) g }
+    requires reals_room { RealsRoom p.now.planned.book.now reals.old }
+    requires some_origins { SomeOrigins p.now.planned.book.now p.now.planned.plan
+        (lists floats.old numbers.old reals.old cells.old joins.old.items) (kept_origins p.now.planned.book.now) g }
     requires only_start { OnlyStart (node_at floats.old numbers.old) g.counts.nodes }
-    requires started { Started book.now marks.now }
-    ensures { GrowsOrigins book.now p g (lists_at_entry floats numbers reals cells joins)
-        (lists_at_exit floats numbers reals cells joins) result }
+    ensures { GrowsOrigins p.now.planned.book.now p.now.planned.plan g
+        (lists_at_entry floats numbers reals cells joins) (lists_at_exit floats numbers reals cells joins) result }
 {
     joins.clear();
-    let rows = book.book();
+    let marks = p.planned.marks;
+    let rows = p.planned.book.book();
     let rows_at = 2 * rows.links() + rows.destinations();
     let mut rest = g;
     let mut last = 1;
-    for k in 0..kept {
+    for k in 0..p.kept {
         let idx = marks[rows_at + k] as usize;
         let before = rest.counts.nodes;
-        rest = origin(
-            book, floats, numbers, reals, cells, marks, joins, p, rest, idx, last,
-        )?;
+        rest = origin(p, floats, numbers, reals, cells, joins, rest, idx, last)?;
         last = last_after(before);
     }
     Ok(rest)

@@ -16,7 +16,11 @@ legs_most : (k : ℕ) (b : List ℕ) (j : ℕ) → length (legs_to k b j) ≤ k
 unfolding legs_to
 legs_most zero b j = omega arith
 legs_most (suc k) b zero = omega arith
-legs_most (suc k) b (suc i) = omega (arith, length-append (legs_to k b (leg_parent b i)) (suc i ∷ []), legs_most k b (leg_parent b i))
+legs_most (suc k) b (suc i) = omega (
+  arith,
+  length-append (legs_to k b (leg_parent b i)) (suc i ∷ []),
+  legs_most k b (leg_parent b i),
+)
 
 pub path_most : (b : List ℕ) (j : ℕ) → length (path_of b j) ≤ j
 unfolding path_of
@@ -33,11 +37,13 @@ module _ {b : List ℕ} (above : Above b) where
   legs_enough (suc k) (suc m) zero h g l = refl
   legs_enough (suc k) (suc m) (suc p) h g l =
       let q = above.parents p (omega arith) in
-      ap (λ (xs : List ℕ). xs ++ (suc p ∷ [])) (legs_enough k m (leg_parent b p) (omega arith) (omega arith) (omega arith))
+      ap (λ (xs : List ℕ). xs ++ (suc p ∷ [])) (legs_enough k m (leg_parent b p) (omega arith) (omega arith)
+      (omega arith))
 
   -- a leg's path is its parent's and itself
   pub path_more : (i : ℕ) → i < legs b → path_of b (suc i) ≡ path_of b (leg_parent b i) ++ (suc i ∷ [])
   unfolding path_of legs_to
   path_more i h =
       let q = above.parents i h in
-      ap (λ (xs : List ℕ). xs ++ (suc i ∷ [])) (legs_enough i (leg_parent b i) (leg_parent b i) q (omega arith) (omega arith))
+      ap (λ (xs : List ℕ). xs ++ (suc i ∷ [])) (legs_enough i (leg_parent b i) (leg_parent b i) q (omega arith)
+      (omega arith))

@@ -17,11 +17,13 @@ use Rattle.grow_path.specs.Kept.{Sound}
 -- ---- one event after the other
 
 -- the next event is bad, or it is what comes behind it that counts
-pub bad_first : (all later : List PassedPoint) (p : PassedPoint) → all ≡ p ∷ later → bad_point p ≡ true → some_bad all ≡ true
+pub bad_first : (all later : List PassedPoint) (p : PassedPoint) → all ≡ p ∷ later → bad_point p ≡ true
+    → some_bad all ≡ true
 unfolding some_bad
 bad_first all later p e b = ap some_bad e ∙ or_left (bad_point p) (some_bad later) b
 
-pub fine_first : (all later : List PassedPoint) (p : PassedPoint) → all ≡ p ∷ later → bad_point p ≡ false → some_bad all ≡ some_bad later
+pub fine_first : (all later : List PassedPoint) (p : PassedPoint) → all ≡ p ∷ later → bad_point p ≡ false
+    → some_bad all ≡ some_bad later
 unfolding some_bad
 fine_first all later p e b = ap some_bad e ∙ ap (λ (x : Bool). x || some_bad later) b
 
@@ -52,6 +54,8 @@ walkable c s e = record {
   train = s.train;
   bounded = s.bounded;
   before_last = λ i h.
-      not_le (c.offset (c.points - 1)) (c.sample i).offset (size_number (c.offset (c.points - 1)) (s.rises.sized (c.points - 1) (omega (arith, s.some_points))))
-      (size_number (c.sample i).offset (s.samples_rise.sized i h)) (none_at c.samples (λ k. le (c.offset (c.points - 1)) (c.sample k).offset) i h (sym e));
+      not_le (c.offset (c.points - 1)) (c.sample i).offset
+      (size_number (c.offset (c.points - 1)) (s.rises.sized (c.points - 1) (omega (arith, s.some_points))))
+      (size_number (c.sample i).offset (s.samples_rise.sized i h))
+      (none_at c.samples (λ k. le (c.offset (c.points - 1)) (c.sample k).offset) i h (sym e));
 }

@@ -4,7 +4,8 @@
 use Rattle.std.specs.Prelude.{List, [], ◌∷◌, ◌++◌, ℕ, zero, suc, ◌+◌, ◌-◌, length, Float}
 use Rattle.std.specs.Float.{binary64}
 use Rattle.std.specs.Float.Ieee.{add, of_bits}
-use Rattle.book_format.specs.Format.{link_length, leg_link, leg_parent, leg_samples, first_sample, sample_at, length_bits}
+use Rattle.book_format.specs.Format.{link_length, leg_link, leg_parent, leg_samples, first_sample, sample_at}
+use Rattle.book_format.specs.Format.{length_bits}
 use Rattle.book_format.specs.Format.{float_of}
 use Rattle.net_node.specs.declared.TimedEvent.{TimedEvent}
 use Rattle.event_walk.specs.declared.PassedPoint.{PassedPoint}

@@ -30,8 +30,8 @@ pub fn extend_path(
     depth: usize,
     link_idx: u32,
 )
-    requires depth_in_bounds { depth + 1 < length reals.old }
-    requires depth_in_bounds_2 { depth * 8 + 3 < length cells.old }
+    requires point_in_bounds { depth + 1 < length reals.old }
+    requires cell_in_bounds { depth * 8 + 3 < length cells.old }
     requires link_idx_bound { link_idx < links book.now }
     ensures reals { reals.new ≡ point_added book.now reals.old depth link_idx }
     ensures cells { cells.new ≡ link_added cells.old depth link_idx }

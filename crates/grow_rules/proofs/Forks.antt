@@ -15,20 +15,34 @@ use Rattle.fields.specs.Fields.{u32_at, u64_at}
 use Rattle.floats.specs.Floats.{billion, table_float, abs, gap, smaller}
 use Rattle.root.specs.Root.{root_digits, whole_root, root_of, sqrt}
 use Rattle.book_format.specs.Chains.{leg_below}
-use Rattle.book_format.specs.Format.{join_bits, departure_bits, length_bits, links, origins_at_of, origins, destinations_at_of, destinations, legs_at_of, legs, samples_at_of, samples, end_of, sections_of, link_length, link_next, link_next_alt, link_prev, link_prev_alt, origin_link, origin_offset, origin_front, destination_link, leg_link, leg_parent, leg_samples, sample_time, sample_offset, sample_speed, first_sample, link_at, origin_at, leg_at, sample_from, sample_at, sample_patterns, head_patterns}
-use Rattle.book_options.specs.Options.{member, origin_below, stacked, pushed, enter, search, options_of, in_set, kept_origins}
+use Rattle.book_format.specs.Format.{join_bits, departure_bits, length_bits, links, origins_at_of, origins}
+use Rattle.book_format.specs.Format.{destinations_at_of, destinations, legs_at_of, legs, samples_at_of, samples, end_of}
+use Rattle.book_format.specs.Format.{sections_of, link_length, link_next, link_next_alt, link_prev, link_prev_alt}
+use Rattle.book_format.specs.Format.{origin_link, origin_offset, origin_front, destination_link, leg_link, leg_parent}
+use Rattle.book_format.specs.Format.{leg_samples, sample_time, sample_offset, sample_speed, first_sample, link_at}
+use Rattle.book_format.specs.Format.{origin_at, leg_at, sample_from, sample_at, sample_patterns, head_patterns}
+use Rattle.book_options.specs.Options.{member, origin_below, stacked, pushed, enter, search, options_of, in_set}
+use Rattle.book_options.specs.Options.{kept_origins}
 use Rattle.event_formula.specs.Event.{event_offset, clears, twice_ahead, speed_at, time_at, passing_at, bad_passing}
 use Rattle.net_node.specs.Table.{same_kind, same_event, node_at, put_floats, put_numbers, no_link_event, blank}
 use Rattle.event_walk.specs.Course.{course_of}
-use Rattle.event_walk.specs.Walk.{first_beyond, start_back, start_front, start, offset_next, in_range, clears_next, emits, turned, turn, passed_as, passed_next, walk, turns_left, passed_from, points_passed, reaches_last, bad_point, some_bad, row11}
-use Rattle.net_insertion.specs.Insertion.{matches, seek, linked_to, event_node, split_fake, add_behind, split_at, place_at, sought_in, inserted, inserted_table, flagged}
+use Rattle.event_walk.specs.Walk.{first_beyond, start_back, start_front, start, offset_next, in_range, clears_next}
+use Rattle.event_walk.specs.Walk.{emits, turned, turn, passed_as, passed_next, walk, turns_left, passed_from}
+use Rattle.event_walk.specs.Walk.{points_passed, reaches_last, bad_point, some_bad, row11}
+use Rattle.net_insertion.specs.Insertion.{matches, seek, linked_to, event_node, split_fake, add_behind, split_at}
+use Rattle.net_insertion.specs.Insertion.{place_at, sought_in, inserted, inserted_table, flagged}
 use Rattle.net_join_paths.specs.Entries.{entry, push}
 use Rattle.net_strands.specs.Space.{alternatives, strand_from, strands, extended, extended_all}
 use Rattle.net_event_map.specs.EventMap.{seen_in, nodes_from, event_nodes, last_of, arrive_at, clear_at}
-use Rattle.net_joins.specs.Joins.{closer, closest_of, closest, chain_end, join_fake, join_at, joined_table, names, appended_all, appended, rebuilt, join_step}
-use Rattle.grow_path.specs.Path.{legs_to, path_of, link_of, point_link, point_offset, leg_course, event_at, events_at, leg_events}
-use Rattle.grow_rules.specs.Growth.{fake_node, first_nodes, origin_event, origin_run, seek_leg, grow_origins, bad_finish, finished_at, waiting, on_over, save_over, go_on, is_destination, finishes, take_leg, drive, leads_to_end, end_fakes, last_node, grown_with, grow}
-use Rattle.grow_rules.specs.Run.{arc_to, arc_to_end, added_to, moved_to, insert_event, joined_to, with_joins, run_event, run_events}
+use Rattle.net_joins.specs.Joins.{closer, closest_of, closest, chain_end, join_fake, join_at, joined_table, names}
+use Rattle.net_joins.specs.Joins.{appended_all, appended, rebuilt, join_step}
+use Rattle.grow_path.specs.Path.{legs_to, path_of, link_of, point_link, point_offset, leg_course, event_at, events_at}
+use Rattle.grow_path.specs.Path.{leg_events}
+use Rattle.grow_rules.specs.Growth.{fake_node, first_nodes, origin_event, origin_run, seek_leg, grow_origins}
+use Rattle.grow_rules.specs.Growth.{bad_finish, finished_at, waiting, on_over, save_over, go_on, is_destination}
+use Rattle.grow_rules.specs.Growth.{finishes, take_leg, drive, leads_to_end, end_fakes, last_node, grown_with, grow}
+use Rattle.grow_rules.specs.Run.{arc_to, arc_to_end, added_to, moved_to, insert_event, joined_to, with_joins, run_event}
+use Rattle.grow_rules.specs.Run.{run_events}
 use Rattle.book_format.proofs.SmallBooks.{whole, float, number, link, origin, leg, sample, section, book, link0, link2}
 use Rattle.book_format.proofs.SmallBooks as Small
 
@@ -311,7 +325,23 @@ record Forks : Type 0 where
   behind_an_end_full : answer (grow added_behind 4 (lent 4)) ≡ answer (refused 12)
 
 forks_of : Forks
-unfolding of_int some_below sum_below u32_at u64_at billion table_float abs gap smaller root_digits whole_root root_of sqrt leg_below join_bits departure_bits length_bits links origins_at_of origins destinations_at_of destinations legs_at_of legs samples_at_of samples end_of sections_of link_length link_next link_next_alt link_prev link_prev_alt origin_link origin_offset origin_front destination_link leg_link leg_parent leg_samples sample_time sample_offset sample_speed first_sample link_at origin_at leg_at sample_from sample_at sample_patterns head_patterns member origin_below stacked pushed enter search options_of in_set kept_origins event_offset clears twice_ahead speed_at time_at passing_at bad_passing same_kind same_event node_at put_floats put_numbers no_link_event blank course_of first_beyond start_back start_front start offset_next in_range clears_next emits turned turn passed_as passed_next walk turns_left passed_from points_passed reaches_last bad_point some_bad row11 matches seek linked_to event_node split_fake put at add_behind split_at place_at sought_in inserted inserted_table flagged entry push alternatives strand_from strands extended extended_all seen_in nodes_from event_nodes last_of arrive_at clear_at closer closest_of closest chain_end join_fake join_at joined_table names appended_all appended rebuilt join_step legs_to path_of link_of point_link point_offset leg_course event_at events_at leg_events fake_node first_nodes origin_event origin_run seek_leg grow_origins bad_finish finished_at waiting on_over save_over go_on is_destination finishes take_leg drive leads_to_end end_fakes last_node grown_with grow arc_to arc_to_end added_to moved_to insert_event joined_to with_joins run_event run_events add sub mul div lt le eq of_bits round sum to_bits is_nan neg
+unfolding of_int some_below sum_below u32_at u64_at billion table_float abs gap smaller root_digits whole_root root_of
+    sqrt leg_below join_bits departure_bits length_bits links origins_at_of origins destinations_at_of
+    destinations legs_at_of legs samples_at_of samples end_of sections_of link_length link_next link_next_alt
+    link_prev link_prev_alt origin_link origin_offset origin_front destination_link leg_link leg_parent
+    leg_samples sample_time sample_offset sample_speed first_sample link_at origin_at leg_at sample_from sample_at
+    sample_patterns head_patterns member origin_below stacked pushed enter search options_of in_set kept_origins
+    event_offset clears twice_ahead speed_at time_at passing_at bad_passing same_kind same_event node_at
+    put_floats put_numbers no_link_event blank course_of first_beyond start_back start_front start offset_next
+    in_range clears_next emits turned turn passed_as passed_next walk turns_left passed_from points_passed
+    reaches_last bad_point some_bad row11 matches seek linked_to event_node split_fake put at add_behind split_at
+    place_at sought_in inserted inserted_table flagged entry push alternatives strand_from strands extended
+    extended_all seen_in nodes_from event_nodes last_of arrive_at clear_at closer closest_of closest chain_end
+    join_fake join_at joined_table names appended_all appended rebuilt join_step legs_to path_of link_of
+    point_link point_offset leg_course event_at events_at leg_events fake_node first_nodes origin_event origin_run
+    seek_leg grow_origins bad_finish finished_at waiting on_over save_over go_on is_destination finishes take_leg
+    drive leads_to_end end_fakes last_node grown_with grow arc_to arc_to_end added_to moved_to insert_event
+    joined_to with_joins run_event run_events add sub mul div lt le eq of_bits round sum to_bits is_nan neg
 forks_of = record {
   forks_grown = refl;
   forks_short = refl;
@@ -325,7 +355,23 @@ forks_of = record {
 }
 
 closed : Closed
-unfolding of_int some_below sum_below u32_at u64_at billion table_float abs gap smaller root_digits whole_root root_of sqrt leg_below join_bits departure_bits length_bits links origins_at_of origins destinations_at_of destinations legs_at_of legs samples_at_of samples end_of sections_of link_length link_next link_next_alt link_prev link_prev_alt origin_link origin_offset origin_front destination_link leg_link leg_parent leg_samples sample_time sample_offset sample_speed first_sample link_at origin_at leg_at sample_from sample_at sample_patterns head_patterns member origin_below stacked pushed enter search options_of in_set kept_origins event_offset clears twice_ahead speed_at time_at passing_at bad_passing same_kind same_event node_at put_floats put_numbers no_link_event blank course_of first_beyond start_back start_front start offset_next in_range clears_next emits turned turn passed_as passed_next walk turns_left passed_from points_passed reaches_last bad_point some_bad row11 matches seek linked_to event_node split_fake put at add_behind split_at place_at sought_in inserted inserted_table flagged entry push alternatives strand_from strands extended extended_all seen_in nodes_from event_nodes last_of arrive_at clear_at closer closest_of closest chain_end join_fake join_at joined_table names appended_all appended rebuilt join_step legs_to path_of link_of point_link point_offset leg_course event_at events_at leg_events fake_node first_nodes origin_event origin_run seek_leg grow_origins bad_finish finished_at waiting on_over save_over go_on is_destination finishes take_leg drive leads_to_end end_fakes last_node grown_with grow arc_to arc_to_end added_to moved_to insert_event joined_to with_joins run_event run_events add sub mul div lt le eq of_bits round sum to_bits is_nan neg
+unfolding of_int some_below sum_below u32_at u64_at billion table_float abs gap smaller root_digits whole_root root_of
+    sqrt leg_below join_bits departure_bits length_bits links origins_at_of origins destinations_at_of
+    destinations legs_at_of legs samples_at_of samples end_of sections_of link_length link_next link_next_alt
+    link_prev link_prev_alt origin_link origin_offset origin_front destination_link leg_link leg_parent
+    leg_samples sample_time sample_offset sample_speed first_sample link_at origin_at leg_at sample_from sample_at
+    sample_patterns head_patterns member origin_below stacked pushed enter search options_of in_set kept_origins
+    event_offset clears twice_ahead speed_at time_at passing_at bad_passing same_kind same_event node_at
+    put_floats put_numbers no_link_event blank course_of first_beyond start_back start_front start offset_next
+    in_range clears_next emits turned turn passed_as passed_next walk turns_left passed_from points_passed
+    reaches_last bad_point some_bad row11 matches seek linked_to event_node split_fake put at add_behind split_at
+    place_at sought_in inserted inserted_table flagged entry push alternatives strand_from strands extended
+    extended_all seen_in nodes_from event_nodes last_of arrive_at clear_at closer closest_of closest chain_end
+    join_fake join_at joined_table names appended_all appended rebuilt join_step legs_to path_of link_of
+    point_link point_offset leg_course event_at events_at leg_events fake_node first_nodes origin_event origin_run
+    seek_leg grow_origins bad_finish finished_at waiting on_over save_over go_on is_destination finishes take_leg
+    drive leads_to_end end_fakes last_node grown_with grow arc_to arc_to_end added_to moved_to insert_event
+    joined_to with_joins run_event run_events add sub mul div lt le eq of_bits round sum to_bits is_nan neg
 closed = record {
   entries_fit = refl;
   one_entry_more = refl;

@@ -2,12 +2,14 @@
 -- before its insertions. The leg is found or the book is refused with 10; it is sought where the source extends the
 -- path: an origin's after its Clear is added, an alternative's before the run goes on. A run finishes in the leg whose
 -- link is a destination, never in its first leg. End Fakes are pushed for the ends in reverse."
-use Rattle.std.specs.Prelude.{Bool, true, false, not, ◌&&◌, ◌||◌, List, [], ◌∷◌, ℕ, zero, suc, ◌+◌, ◌-◌, eqb, ltb, length, Float, Option, Some, None}
+use Rattle.std.specs.Prelude.{Bool, true, false, not, ◌&&◌, ◌||◌, List, [], ◌∷◌, ℕ, zero, suc, ◌+◌, ◌-◌, eqb, ltb}
+use Rattle.std.specs.Prelude.{length, Float, Option, Some, None}
 use Rattle.std.specs.Float.{binary64}
 use Rattle.std.specs.Float.Ieee.{add, of_bits}
 use Rattle.laws.specs.Answer.{Answer, refused, given, and_then}
 use Rattle.laws.specs.Below.{some_below}
-use Rattle.book_format.specs.Format.{legs, destinations, link_next, link_next_alt, origin_link, destination_link, leg_parent}
+use Rattle.book_format.specs.Format.{legs, destinations, link_next, link_next_alt, origin_link, destination_link}
+use Rattle.book_format.specs.Format.{leg_parent}
 use Rattle.book_format.specs.Format.{join_bits, departure_bits, length_bits, float_of}
 use Rattle.book_legs.specs.Legs.{search_of, leg_search, search_number}
 use Rattle.book_options.specs.Options.{in_set, kept_origins}
@@ -127,7 +129,8 @@ grow_origin b places link g =
 unfoldable pub grow_origins : List ℕ → ℕ → List ℕ → Growth → Answer Growth
 unfolding grow_origin
 grow_origins b places [] g = given g
-grow_origins b places (idx ∷ idxs) g = and_then (grow_origin b places (origin_link b idx) g) (grow_origins b places idxs)
+grow_origins b places (idx ∷ idxs) g = and_then (grow_origin b places (origin_link b idx) g)
+    (grow_origins b places idxs)
 
 -- ---- a run's finish
 
@@ -188,7 +191,8 @@ on_as true m a b places net run next alt saved = refused 9
 on_as false false false b places net run next alt saved = refused 9
 on_as false true false b places net run next alt saved = on_over b net run next saved
 on_as false false true b places net run next alt saved = on_over b net run alt saved
-on_as false true true b places net run next alt saved = and_then (save_over b places run alt saved) (on_over b net run next)
+on_as false true true b places net run next alt saved =
+    and_then (save_over b places run alt saved) (on_over b net run next)
 
 -- a run's way on, behind the link of its leg
 unfoldable pub go_on : List ℕ → ℕ → Net → Run → List Run → Answer Growth

@@ -29,24 +29,38 @@ taken_up g p count = record {
 
 module _ {r : Rooms} {reals : List Float} {cells : List ℕ} (top used : ℕ) (some : 0 < top) where
   -- a run waits
-  some_waits : (b : List ℕ) (n : ℕ) (ws : List Waiting) (rs : List Run) → SavedIn cells reals r top used ws → SameRuns b ws rs → AllSound b n rs → SomeWaits cells reals r top used
+  some_waits : (b : List ℕ) (n : ℕ) (ws : List Waiting) (rs : List Run) → SavedIn cells reals r top used ws
+      → SameRuns b ws rs → AllSound b n rs → SomeWaits cells reals r top used
   some_waits b n [] rs h s v = absurd (omega (arith, h.0))
   some_waits b n (w ∷ ws) [] h s v = absurd s
-  some_waits b n (w ∷ ws) (run ∷ rs) h s v = record { run = w; runs = ws; saved = h; few = subst (λ (es : List EstJoinPath). length es ≤ 1024) (sym s.0.joins) v.0.few }
+  some_waits b n (w ∷ ws) (run ∷ rs) h s v = record {
+    run = w;
+    runs = ws;
+    saved = h;
+    few = subst (λ (es : List EstJoinPath). length es ≤ 1024) (sym s.0.joins) v.0.few;
+  }
 
   -- its entries are among those that wait
-  few_waits : SomeWaits cells reals r top used → (list : List EstJoinPath) (p : Popped) → ((w : Waiting) (ws : List Waiting) → SavedIn cells reals r top used (w ∷ ws) → PoppedAs w ws list p) → length list ≤ used
+  few_waits : SomeWaits cells reals r top used → (list : List EstJoinPath) (p : Popped)
+      → ((w : Waiting) (ws : List Waiting) → SavedIn cells reals r top used (w ∷ ws) → PoppedAs w ws list p)
+      → length list ≤ used
   few_waits s list p f = let a = f s.run s.runs s.saved in omega (arith, ap length a.entries, s.saved.1.0)
 
-module _ {b : List ℕ} {p : Plan} {fs : List Float} {us : List ℕ} {reals : List Float} {cells : List ℕ} {joins : List EstJoinPath} {path : List ℕ} {g : Rest} {net : Net} {runs : List Run} (d : DriveIn b p (lists fs us reals cells joins) path (idle g) net runs) (some : 0 < g.top) where
+module _ {b : List ℕ} {p : Plan} {fs : List Float} {us : List ℕ} {reals : List Float} {cells : List ℕ}
+    {joins : List EstJoinPath} {path : List ℕ} {g : Rest} {net : Net} {runs : List Run}
+    (d : DriveIn b p (lists fs us reals cells joins) path (idle g) net runs) (some : 0 < g.top) where
   waits : WaitIn b p.r reals cells g.top g.used runs
   waits = d.waiting
 
   pub pops : SomeWaits cells reals p.r g.top g.used
   pops = some_waits g.top g.used some b g.counts.nodes waits.runs runs waits.kept waits.same d.sound
 
-  module _ (list : List EstJoinPath) (count : ℕ) (n : count ≡ length list) (q : Popped) (f : (w : Waiting) (ws : List Waiting) → SavedIn cells reals p.r g.top g.used (w ∷ ws) → PoppedAs w ws list q) where
-    up : (ws : List Waiting) (rs : List Run) → SavedIn cells reals p.r g.top g.used ws → SameRuns b ws rs → AllSound b g.counts.nodes rs → RunsIn (taken_up g q count).front b p.r reals cells list (taken_up g q count).rest rs
+  module _ (list : List EstJoinPath) (count : ℕ) (n : count ≡ length list) (q : Popped)
+      (f : (w : Waiting) (ws : List Waiting) → SavedIn cells reals p.r g.top g.used (w ∷ ws)
+      → PoppedAs w ws list q) where
+    up : (ws : List Waiting) (rs : List Run) → SavedIn cells reals p.r g.top g.used ws → SameRuns b ws rs
+        → AllSound b g.counts.nodes rs → RunsIn (taken_up g q count).front b p.r reals cells list
+        (taken_up g q count).rest rs
     up [] rs h s v = absurd (omega (arith, h.0))
     up (w ∷ ws) [] h s v = absurd s
     up (w ∷ ws) (run ∷ rs) h s v =
@@ -66,7 +80,8 @@ module _ {b : List ℕ} {p : Plan} {fs : List Float} {us : List ℕ} {reals : Li
           },
           record {
             runs = ws;
-            kept = subst (λ (m : ℕ). SavedIn cells reals p.r q.below (g.used - m) ws) (sym n) (saved_rest cells reals p.r g.top g.used w ws list q a h);
+            kept = subst (λ (m : ℕ). SavedIn cells reals p.r q.below (g.used - m) ws) (sym n)
+                (saved_rest cells reals p.r g.top g.used w ws list q a h);
             same = s.1;
           },
         )
@@ -84,9 +99,12 @@ module _ {b : List ℕ} {p : Plan} {fs : List Float} {us : List ℕ} {reals : Li
     }
 
 -- the same from what the function asks
-module _ {p : Plan} {reals : List Float} {cells : List ℕ} {joins : List EstJoinPath} {g : Rest} (s : SomeDrive p reals cells joins (idle g)) (some : 0 < g.top) where
+module _ {p : Plan} {reals : List Float} {cells : List ℕ} {joins : List EstJoinPath} {g : Rest}
+    (s : SomeDrive p reals cells joins (idle g)) (some : 0 < g.top) where
   pub drive_pops : SomeWaits cells reals p.r g.top g.used
   drive_pops = pops s.driving.holds some
 
-  pub drive_few : (list : List EstJoinPath) (q : Popped) → ((w : Waiting) (ws : List Waiting) → SavedIn cells reals p.r g.top g.used (w ∷ ws) → PoppedAs w ws list q) → length list ≤ g.used
+  pub drive_few : (list : List EstJoinPath) (q : Popped)
+      → ((w : Waiting) (ws : List Waiting) → SavedIn cells reals p.r g.top g.used (w ∷ ws) → PoppedAs w ws list q)
+      → length list ≤ g.used
   drive_few = few_waits g.top g.used some drive_pops

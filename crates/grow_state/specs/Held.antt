@@ -1,7 +1,8 @@
 -- What growth keeps between two legs, in the lent slices: the network, the runs that wait, the path of the last leg
 -- taken, and the run at the front, which takes its leg next. The definitions of growth are grow_rules' specs/; these
 -- are the words of the contracts.
-use Rattle.std.specs.Prelude.{◌≡◌, false, List, [], ◌∷◌, ◌++◌, ℕ, ◌+◌, ◌-◌, ◌*◌, ◌≤◌, ◌<◌, length, Float, Option, Some, None, Result, Ok, Err}
+use Rattle.std.specs.Prelude.{◌≡◌, false, List, [], ◌∷◌, ◌++◌, ℕ, ◌+◌, ◌-◌, ◌*◌, ◌≤◌, ◌<◌, length, Float, Option, Some}
+use Rattle.std.specs.Prelude.{None, Result, Ok, Err}
 use Rattle.laws.specs.Answer.{Answer, refused, given}
 use Rattle.book_format.specs.Format.{links, legs, leg_parent, length_bits, float_of, end_of}
 use Rattle.book_format.specs.Rows.{row7}
@@ -26,7 +27,9 @@ use Rattle.refusals.specs.Refusals.{refusal_number}
 
 -- ---- the lent slices
 
--- what they hold at one moment
+-- What they hold at one moment. In code the slices and lists are parameters of their own: they are lent to be written,
+-- each function writes others of them, and a struct of `&mut` would be taken apart at each call, with a ghost name for
+-- what each held before.
 pub record Lists : Type 0 where
   pub floats : List Float
   pub numbers : List ℕ
@@ -39,7 +42,8 @@ abbrev pub lists : List Float → List ℕ → List Float → List ℕ → List 
 lists fs us rs cs js = record { floats = fs; numbers = us; reals = rs; cells = cs; joins = js }
 
 -- what the slices hold at a function's entry
-abbrev pub lists_at_entry : Lent (List Float) → Lent (List ℕ) → Lent (List Float) → Lent (List ℕ) → Lent (ArrayVec EstJoinPath)
+abbrev pub lists_at_entry : Lent (List Float) → Lent (List ℕ) → Lent (List Float) → Lent (List ℕ)
+    → Lent (ArrayVec EstJoinPath)
     → Lists
 lists_at_entry floats numbers reals cells joins = record {
   floats = floats.entry.now;
@@ -50,7 +54,8 @@ lists_at_entry floats numbers reals cells joins = record {
 }
 
 -- and at its exit
-abbrev pub lists_at_exit : Lent (List Float) → Lent (List ℕ) → Lent (List Float) → Lent (List ℕ) → Lent (ArrayVec EstJoinPath)
+abbrev pub lists_at_exit : Lent (List Float) → Lent (List ℕ) → Lent (List Float) → Lent (List ℕ)
+    → Lent (ArrayVec EstJoinPath)
     → Lists
 lists_at_exit floats numbers reals cells joins = record {
   floats = floats.exit.now;
@@ -78,6 +83,11 @@ pub record PlanIn (b : List ℕ) (p : Plan) (reals : ℕ) : Type 0 where
   pub same_places : p.r.places ≡ p.w.places
   pub pairs_at : p.r.pairs_at ≡ legs b + 2
   pub pairs : p.r.pairs_at + p.r.legs * 2 + 2 ≤ reals
+
+-- The room that a book's plan takes of the reals. Stands in contracts, not in PlannedBook: the reals are lent to be
+-- written, and a struct that held them would be taken apart at each call that writes them.
+abbrev pub RealsRoom : List ℕ → List Float → Type 0
+RealsRoom b reals = legs b * 3 + 4 ≤ length reals
 
 -- ---- the runs
 
@@ -188,7 +198,8 @@ pub record Driving (b : List ℕ) (p : Plan) (s : Lists) (g : State) : Type 0 wh
   pub holds : DriveIn b p s path g net runs
 
 -- the same of some book and table: what the runs that wait need
-pub record SomeDrive (p : Plan) (reals : List Float) (cells : List ℕ) (joins : List EstJoinPath) (g : State) : Type 0 where
+pub record SomeDrive (p : Plan) (reals : List Float) (cells : List ℕ) (joins : List EstJoinPath)
+    (g : State) : Type 0 where
   pub b : List ℕ
   pub fs : List Float
   pub us : List ℕ

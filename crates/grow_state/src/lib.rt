@@ -9,6 +9,10 @@ use grow_waiting::Rooms;
 use net_event_map::Layout;
 use net_join_paths::JoinPaths;
 
+mod planned_book;
+
+pub use planned_book::PlannedBook;
+
 // What growth goes by: where the work space has what, and the three floats at the book's head.
 #[derive(Clone, Copy)]
 pub struct Plan {
@@ -19,7 +23,8 @@ pub struct Plan {
     pub length: f64,
 }
 
-// The run at the front: the leg that it takes next, and how many legs it has taken.
+// The run at the front: the leg that it takes next, and how many legs it has taken. Functions take it beside the rest:
+// each of the two changes alone, so a struct of both would be taken apart and made anew at every step.
 #[derive(Clone, Copy)]
 pub struct Front {
     pub mover: Mover,

@@ -1,4 +1,5 @@
--- Laws of the runs that wait: their entries on the stack, what a change elsewhere leaves of them, and what saving and popping give.
+-- Laws of the runs that wait: their entries on the stack, what a change elsewhere leaves of them, and what saving and
+-- popping give.
 use mathlib.Core.Path.{◌≡◌, refl, sym, ap, ◌∙◌, subst}
 use mathlib.Core.Logic.{◌≢◌}
 use mathlib.Core.List.{List, [], ◌∷◌, ◌++◌}
@@ -11,14 +12,16 @@ use lib.Ieee.{Float, nan}
 use Rattle.net_insertion.specs.declared.Place.{Place}
 use Rattle.net_join_paths.specs.declared.EstJoinPath.{EstJoinPath}
 use Rattle.grow_waiting.specs.declared.Rooms.{Rooms}
-use Rattle.grow_waiting.specs.Held.{Waiting, EntriesFrom, RunKept, Untaken, top_of, SavedIn, waiting_of, SavedElsewhere, SomeWaits, PoppedAs}
+use Rattle.grow_waiting.specs.Held.{Waiting, EntriesFrom, RunKept, Untaken, top_of, SavedIn, waiting_of, SavedElsewhere}
+use Rattle.grow_waiting.specs.Held.{SomeWaits, PoppedAs}
 use Rattle.grow_waiting.specs.Steps.{EntriesPushed, EntriesCopied}
 
 -- ---- entries on the stack
 
 -- cells that say the same of them
 entries_same : (c c' : List ℕ) (w : Rooms) (k : ℕ) (xs : List EstJoinPath)
-    → ((i t : ℕ) → k ≤ i → i < k + length xs → 3 ≤ t → t < 5 → get_or c' (w.nodes_at + i * 8 + t) 0 ≡ get_or c (w.nodes_at + i * 8 + t) 0)
+    → ((i t : ℕ) → k ≤ i → i < k + length xs → 3 ≤ t → t < 5
+    → get_or c' (w.nodes_at + i * 8 + t) 0 ≡ get_or c (w.nodes_at + i * 8 + t) 0)
     → EntriesFrom c w k xs → EntriesFrom c' w k xs
 entries_same c c' w k [] s h = tt
 entries_same c c' w k (x ∷ xs) s h = (
@@ -30,11 +33,15 @@ entries_same c c' w k (x ∷ xs) s h = (
 )
 
 -- one more behind them
-entries_snoc : (c : List ℕ) (w : Rooms) (k : ℕ) (xs : List EstJoinPath) (x : EstJoinPath) (n : ℕ) → n ≡ k + length xs → EntriesFrom c w k xs
-    → get_or c (w.nodes_at + n * 8 + 3) 0 ≡ x.link_idx_match → get_or c (w.nodes_at + n * 8 + 4) 0 ≡ x.est_idx_next → EntriesFrom c w k (xs ++ (x ∷ []))
+entries_snoc : (c : List ℕ) (w : Rooms) (k : ℕ) (xs : List EstJoinPath) (x : EstJoinPath) (n : ℕ) → n ≡ k + length xs
+    → EntriesFrom c w k xs
+    → get_or c (w.nodes_at + n * 8 + 3) 0 ≡ x.link_idx_match → get_or c (w.nodes_at + n * 8 + 4) 0 ≡ x.est_idx_next
+    → EntriesFrom c w k (xs ++ (x ∷ []))
 entries_snoc c w k [] x n e h a b =
-    let d : k ≡ n = omega arith in
-    (ap (λ (i : ℕ). get_or c (w.nodes_at + i * 8 + 3) 0) d ∙ a, (ap (λ (i : ℕ). get_or c (w.nodes_at + i * 8 + 4) 0) d ∙ b, tt))
+    let d : k ≡ n = omega arith in (
+      ap (λ (i : ℕ). get_or c (w.nodes_at + i * 8 + 3) 0) d ∙ a,
+      (ap (λ (i : ℕ). get_or c (w.nodes_at + i * 8 + 4) 0) d ∙ b, tt),
+    )
 entries_snoc c w k (y ∷ xs) x n e h a b = (h.0, (h.1.0, entries_snoc c w (suc k) xs x n (omega arith) h.1.1 a b))
 
 pub pushed_none : (c : List ℕ) (w : Rooms) (used : ℕ) → EntriesPushed c c w used []
@@ -49,19 +56,23 @@ module _ (c : List ℕ) (w : Rooms) (i : ℕ) (x : EstJoinPath) where
   atop = set half (w.nodes_at + i * 8 + 4) x.est_idx_next
 
   atop_other : (q : ℕ) → q ≢ w.nodes_at + i * 8 + 3 → q ≢ w.nodes_at + i * 8 + 4 → get_or atop q 0 ≡ get_or c q 0
-  atop_other q a b = get_or-set_other half (w.nodes_at + i * 8 + 4) q x.est_idx_next 0 b ∙ get_or-set_other c (w.nodes_at + i * 8 + 3) q x.link_idx_match 0 a
+  atop_other q a b = get_or-set_other half (w.nodes_at + i * 8 + 4) q x.est_idx_next 0 b
+      ∙ get_or-set_other c (w.nodes_at + i * 8 + 3) q x.link_idx_match 0 a
 
   atop_match : w.nodes_at + i * 8 + 8 ≤ length c → get_or atop (w.nodes_at + i * 8 + 3) 0 ≡ x.link_idx_match
   atop_match l =
-      get_or-set_other half (w.nodes_at + i * 8 + 4) (w.nodes_at + i * 8 + 3) x.est_idx_next 0 (λ (d : w.nodes_at + i * 8 + 3 ≡ w.nodes_at + i * 8 + 4). omega arith)
+      get_or-set_other half (w.nodes_at + i * 8 + 4) (w.nodes_at + i * 8 + 3) x.est_idx_next 0
+      (λ (d : w.nodes_at + i * 8 + 3 ≡ w.nodes_at + i * 8 + 4). omega arith)
       ∙ get_or-set_same c (w.nodes_at + i * 8 + 3) x.link_idx_match 0 (omega arith)
 
   atop_node : w.nodes_at + i * 8 + 8 ≤ length c → get_or atop (w.nodes_at + i * 8 + 4) 0 ≡ x.est_idx_next
-  atop_node l = get_or-set_same half (w.nodes_at + i * 8 + 4) x.est_idx_next 0 (omega (arith, length-set c (w.nodes_at + i * 8 + 3) x.link_idx_match))
+  atop_node l = get_or-set_same half (w.nodes_at + i * 8 + 4) x.est_idx_next 0
+      (omega (arith, length-set c (w.nodes_at + i * 8 + 3) x.link_idx_match))
 
 -- the entry at k, put behind those before it
 module _ {c c' : List ℕ} {w : Rooms} {used : ℕ} (xs : List EstJoinPath) (k : ℕ) where
-  pub pushed_on : EntriesPushed c c' w used (take k xs) → k < length xs → used + length xs ≤ w.places → w.nodes_at + w.places * 8 ≤ length c' → (ys : List EstJoinPath) (d : EstJoinPath) → ys ≡ xs
+  pub pushed_on : EntriesPushed c c' w used (take k xs) → k < length xs → used + length xs ≤ w.places
+      → w.nodes_at + w.places * 8 ≤ length c' → (ys : List EstJoinPath) (d : EstJoinPath) → ys ≡ xs
       → EntriesPushed c (atop c' w (used + k) (get_or ys k d)) w used (take (k + 1) xs)
   pushed_on v h g l ys d e =
       let x : EstJoinPath = get_or ys k d in
@@ -69,14 +80,19 @@ module _ {c c' : List ℕ} {w : Rooms} {used : ℕ} (xs : List EstJoinPath) (k :
       let m : length (take (k + 1) xs) ≡ k + 1 = length-take-le (k + 1) xs (omega arith) in
       let s : EntriesFrom (atop c' w (used + k) x) w used (take k xs) =
       entries_same c' (atop c' w (used + k) x) w used (take k xs)
-      (λ i t a b p q. atop_other c' w (used + k) x (w.nodes_at + i * 8 + t) (λ (d : w.nodes_at + i * 8 + t ≡ w.nodes_at + (used + k) * 8 + 3). omega arith) (λ (d : w.nodes_at + i * 8 + t ≡ w.nodes_at + (used + k) * 8 + 4). omega arith))
+      (λ i t a b p q. atop_other c' w (used + k) x (w.nodes_at + i * 8 + t)
+      (λ (d : w.nodes_at + i * 8 + t ≡ w.nodes_at + (used + k) * 8 + 3). omega arith)
+      (λ (d : w.nodes_at + i * 8 + t ≡ w.nodes_at + (used + k) * 8 + 4). omega arith))
       v.there in
       record {
         there =
-            subst (EntriesFrom (atop c' w (used + k) x) w used) (sym (take_more xs k d h ∙ ap (λ (zs : List EstJoinPath). take k xs ++ (get_or zs k d ∷ [])) (sym e)))
-            (entries_snoc (atop c' w (used + k) x) w used (take k xs) x (used + k) (omega arith) s (atop_match c' w (used + k) x (omega arith)) (atop_node c' w (used + k) x (omega arith)));
+            subst (EntriesFrom (atop c' w (used + k) x) w used)
+            (sym (take_more xs k d h ∙ ap (λ (zs : List EstJoinPath). take k xs ++ (get_or zs k d ∷ [])) (sym e)))
+            (entries_snoc (atop c' w (used + k) x) w used (take k xs) x (used + k) (omega arith) s
+            (atop_match c' w (used + k) x (omega arith)) (atop_node c' w (used + k) x (omega arith)));
         elsewhere = λ q h.
-            atop_other c' w (used + k) x q (h (used + k) 3 (omega arith) (omega arith) (omega arith) (omega arith)) (h (used + k) 4 (omega arith) (omega arith) (omega arith) (omega arith))
+            atop_other c' w (used + k) x q (h (used + k) 3 (omega arith) (omega arith) (omega arith) (omega arith))
+            (h (used + k) 4 (omega arith) (omega arith) (omega arith) (omega arith))
             ∙ v.elsewhere q (λ i t a b p r. h i t a (omega arith) p r);
       }
 
@@ -87,9 +103,13 @@ module _ {c c' : List ℕ} {w : Rooms} {used : ℕ} (xs : List EstJoinPath) (k :
 
 -- the entry at i of the stack
 abbrev pub read_at : List ℕ → Rooms → ℕ → EstJoinPath
-read_at c w i = record { link_idx_match = get_or c (w.nodes_at + i * 8 + 3) 0; est_idx_next = get_or c (w.nodes_at + i * 8 + 4) 0 }
+read_at c w i = record {
+  link_idx_match = get_or c (w.nodes_at + i * 8 + 3) 0;
+  est_idx_next = get_or c (w.nodes_at + i * 8 + 4) 0;
+}
 
-entry_there : (c : List ℕ) (w : Rooms) (k : ℕ) (xs : List EstJoinPath) (i : ℕ) (d : EstJoinPath) → i < length xs → EntriesFrom c w k xs → read_at c w (k + i) ≡ get_or xs i d
+entry_there : (c : List ℕ) (w : Rooms) (k : ℕ) (xs : List EstJoinPath) (i : ℕ) (d : EstJoinPath) → i < length xs
+    → EntriesFrom c w k xs → read_at c w (k + i) ≡ get_or xs i d
 entry_there c w k [] i d h e = absurd (omega arith)
 entry_there c w k (x ∷ xs) zero d h e =
     let a : get_or c (w.nodes_at + k * 8 + 3) 0 ≡ x.link_idx_match = e.0 in
@@ -105,38 +125,50 @@ pub record Copied (c : List ℕ) (w : Rooms) (from count k : ℕ) (list : List E
   pub many : from + length list ≡ k
   pub entries : (xs : List EstJoinPath) → EntriesFrom c w from xs → length xs ≡ count → list ≡ take (length list) xs
 
-pub copied_none : (c : List ℕ) (w : Rooms) (from count : ℕ) (list : List EstJoinPath) → list ≡ [] → Copied c w from count from list
-copied_none c w from count list z = subst (Copied c w from count from) (sym z) (record { many = omega arith; entries = λ xs e l. refl })
+pub copied_none : (c : List ℕ) (w : Rooms) (from count : ℕ) (list : List EstJoinPath) → list ≡ []
+    → Copied c w from count from list
+copied_none c w from count list z = subst (Copied c w from count from) (sym z)
+    (record { many = omega arith; entries = λ xs e l. refl })
 
 module _ {c : List ℕ} {w : Rooms} {from count k : ℕ} {list : List EstJoinPath} (v : Copied c w from count k list) where
-  pub copied_on : k < from + count → (list' : List EstJoinPath) → list' ≡ list ++ (read_at c w k ∷ []) → Copied c w from count (k + 1) list'
-  copied_on h list' z = subst (Copied c w from count (k + 1)) (sym z) (record { many = omega (arith, n, v.many); entries = λ xs e l. behind xs e l })
+  pub copied_on : k < from + count → (list' : List EstJoinPath) → list' ≡ list ++ (read_at c w k ∷ [])
+      → Copied c w from count (k + 1) list'
+  copied_on h list' z = subst (Copied c w from count (k + 1)) (sym z)
+      (record { many = omega (arith, n, v.many); entries = λ xs e l. behind xs e l })
     where
       n : length (list ++ (read_at c w k ∷ [])) ≡ length list + 1
       n = length-append list (read_at c w k ∷ [])
 
-      behind : (xs : List EstJoinPath) → EntriesFrom c w from xs → length xs ≡ count → list ++ (read_at c w k ∷ []) ≡ take (length (list ++ (read_at c w k ∷ []))) xs
+      behind : (xs : List EstJoinPath) → EntriesFrom c w from xs → length xs ≡ count
+          → list ++ (read_at c w k ∷ []) ≡ take (length (list ++ (read_at c w k ∷ []))) xs
       behind xs e l =
-          let r : read_at c w (from + length list) ≡ get_or xs (length list) (read_at c w k) = entry_there c w from xs (length list) (read_at c w k) (omega (arith, v.many)) e in
+          let r : read_at c w (from + length list) ≡ get_or xs (length list) (read_at c w k) =
+          entry_there c w from xs (length list) (read_at c w k) (omega (arith, v.many)) e in
           ap (λ (ys : List EstJoinPath). ys ++ (read_at c w k ∷ [])) (v.entries xs e l)
           ∙ ap (λ (x : EstJoinPath). take (length list) xs ++ (x ∷ [])) (ap (read_at c w) (sym v.many) ∙ r)
           ∙ sym (take_more xs (length list) (read_at c w k) (omega (arith, v.many)))
           ∙ ap (λ (i : ℕ). take i xs) (sym n)
 
-  pub copied_whole : k ≡ from + count → (xs : List EstJoinPath) → EntriesFrom c w from xs → length xs ≡ count → list ≡ xs
+  pub copied_whole : k ≡ from + count → (xs : List EstJoinPath) → EntriesFrom c w from xs → length xs ≡ count
+      → list ≡ xs
   copied_whole h xs e l = v.entries xs e l ∙ take_all (length list) xs (omega (arith, v.many))
 
 -- ---- a change that leaves runs as they are
 
 -- cells and reals that say the same of every leg but one, and of the first `used` entries
 pub record Steady (c c' : List ℕ) (r r' : List Float) (w : Rooms) (leg used : ℕ) : Type 0 where
-  pub fields : (j k : ℕ) → 0 < j → j ≤ w.legs → leg ≢ j → 4 ≤ k → k < 8 → get_or c' (j * 8 + k) 0 ≡ get_or c (j * 8 + k) 0
-  pub times : (j : ℕ) → 0 < j → j ≤ w.legs → leg ≢ j → get_or r' (w.pairs_at + j * 2) nan ≡ get_or r (w.pairs_at + j * 2) nan
-  pub offsets : (j : ℕ) → 0 < j → j ≤ w.legs → leg ≢ j → get_or r' (w.pairs_at + j * 2 + 1) nan ≡ get_or r (w.pairs_at + j * 2 + 1) nan
-  pub entries : (i k : ℕ) → i < used → 3 ≤ k → k < 5 → get_or c' (w.nodes_at + i * 8 + k) 0 ≡ get_or c (w.nodes_at + i * 8 + k) 0
+  pub fields : (j k : ℕ) → 0 < j → j ≤ w.legs → leg ≢ j → 4 ≤ k → k < 8
+      → get_or c' (j * 8 + k) 0 ≡ get_or c (j * 8 + k) 0
+  pub times : (j : ℕ) → 0 < j → j ≤ w.legs → leg ≢ j
+      → get_or r' (w.pairs_at + j * 2) nan ≡ get_or r (w.pairs_at + j * 2) nan
+  pub offsets : (j : ℕ) → 0 < j → j ≤ w.legs → leg ≢ j
+      → get_or r' (w.pairs_at + j * 2 + 1) nan ≡ get_or r (w.pairs_at + j * 2 + 1) nan
+  pub entries : (i k : ℕ) → i < used → 3 ≤ k → k < 5
+      → get_or c' (w.nodes_at + i * 8 + k) 0 ≡ get_or c (w.nodes_at + i * 8 + k) 0
 
 module _ {c c' : List ℕ} {r r' : List Float} {w : Rooms} {leg bound : ℕ} (s : Steady c c' r r' w leg bound) where
-  kept_still : (below used : ℕ) (run : Waiting) → leg ≢ run.leg → used + length run.joins ≤ bound → RunKept c r w below used run → RunKept c' r' w below used run
+  kept_still : (below used : ℕ) (run : Waiting) → leg ≢ run.leg → used + length run.joins ≤ bound
+      → RunKept c r w below used run → RunKept c' r' w below used run
   kept_still below used run a b v =
       let o = v.real in
       let l = v.inside in
@@ -153,7 +185,8 @@ module _ {c c' : List ℕ} {r r' : List Float} {w : Rooms} {leg bound : ℕ} (s 
         fits = v.fits;
       }
 
-  pub saved_still : (top used : ℕ) (runs : List Waiting) → used ≤ bound → Untaken leg runs → SavedIn c r w top used runs → SavedIn c' r' w top used runs
+  pub saved_still : (top used : ℕ) (runs : List Waiting) → used ≤ bound → Untaken leg runs → SavedIn c r w top used runs
+      → SavedIn c' r' w top used runs
   saved_still top used [] b a h = h
   saved_still top used (run ∷ runs) b a h = (
     h.0,
@@ -171,12 +204,14 @@ module _ {c c' : List ℕ} {r r' : List Float} {w : Rooms} {leg bound : ℕ} (s 
 
 -- ---- a run is saved
 
-top_is : (c : List ℕ) (r : List Float) (w : Rooms) (top used : ℕ) (runs : List Waiting) → SavedIn c r w top used runs → top ≡ top_of runs
+top_is : (c : List ℕ) (r : List Float) (w : Rooms) (top used : ℕ) (runs : List Waiting) → SavedIn c r w top used runs
+    → top ≡ top_of runs
 top_is c r w top used [] h = h.0
 top_is c r w top used (run ∷ runs) h = h.0
 
 -- what saving a run asks for
-pub record Saving (c : List ℕ) (r : List Float) (w : Rooms) (top used : ℕ) (place : Place) (leg depth : ℕ) (joins : List EstJoinPath) (count : ℕ) : Type 0 where
+pub record Saving (c : List ℕ) (r : List Float) (w : Rooms) (top used : ℕ) (place : Place) (leg depth : ℕ)
+    (joins : List EstJoinPath) (count : ℕ) : Type 0 where
   pub counted : count ≡ length joins
   pub nodes_inside : w.nodes_at + w.places * 8 ≤ length c
   pub legs_before : (w.legs + 1) * 8 ≤ w.nodes_at
@@ -185,7 +220,8 @@ pub record Saving (c : List ℕ) (r : List Float) (w : Rooms) (top used : ℕ) (
   pub real : 0 < leg
   pub entries_inside : used + count ≤ w.places
 
-module _ {c : List ℕ} {r : List Float} {w : Rooms} {top used : ℕ} {place : Place} {leg depth : ℕ} {joins : List EstJoinPath} {count : ℕ} (f : Saving c r w top used place leg depth joins count) where
+module _ {c : List ℕ} {r : List Float} {w : Rooms} {top used : ℕ} {place : Place} {leg depth : ℕ}
+    {joins : List EstJoinPath} {count : ℕ} (f : Saving c r w top used place leg depth joins count) where
   abbrev c1 : List ℕ
   c1 = set c (leg * 8 + 4) place.idx_prev
 
@@ -224,7 +260,8 @@ module _ {c : List ℕ} {r : List Float} {w : Rooms} {top used : ℕ} {place : P
 
   two_other : (q : ℕ) → q ≢ w.pairs_at + leg * 2 → q ≢ w.pairs_at + leg * 2 + 1 → get_or r2 q nan ≡ get_or r q nan
   two_other q a b =
-      get_or-set_other r1 (w.pairs_at + leg * 2 + 1) q place.dist_to_next nan b ∙ get_or-set_other r (w.pairs_at + leg * 2) q place.time_to_next nan a
+      get_or-set_other r1 (w.pairs_at + leg * 2 + 1) q place.dist_to_next nan b
+      ∙ get_or-set_other r (w.pairs_at + leg * 2) q place.time_to_next nan a
 
   -- the four fields
   is_place : get_or c4 (leg * 8 + 4) 0 ≡ place.idx_prev
@@ -250,11 +287,13 @@ module _ {c : List ℕ} {r : List Float} {w : Rooms} {top used : ℕ} {place : P
 
   is_time : get_or r2 (w.pairs_at + leg * 2) nan ≡ place.time_to_next
   is_time =
-      get_or-set_other r1 (w.pairs_at + leg * 2 + 1) (w.pairs_at + leg * 2) place.dist_to_next nan (λ (d : w.pairs_at + leg * 2 ≡ w.pairs_at + leg * 2 + 1). omega arith)
+      get_or-set_other r1 (w.pairs_at + leg * 2 + 1) (w.pairs_at + leg * 2) place.dist_to_next nan
+      (λ (d : w.pairs_at + leg * 2 ≡ w.pairs_at + leg * 2 + 1). omega arith)
       ∙ get_or-set_same r (w.pairs_at + leg * 2) place.time_to_next nan (omega (arith, f.pairs_inside, f.inside))
 
   is_offset : get_or r2 (w.pairs_at + leg * 2 + 1) nan ≡ place.dist_to_next
-  is_offset = get_or-set_same r1 (w.pairs_at + leg * 2 + 1) place.dist_to_next nan (omega (arith, length-set r (w.pairs_at + leg * 2) place.time_to_next, f.pairs_inside, f.inside))
+  is_offset = get_or-set_same r1 (w.pairs_at + leg * 2 + 1) place.dist_to_next nan
+      (omega (arith, length-set r (w.pairs_at + leg * 2) place.time_to_next, f.pairs_inside, f.inside))
 
   module _ {c' : List ℕ} (p : EntriesPushed c4 c' w used joins) where
     -- pushing leaves the legs' units
@@ -264,19 +303,24 @@ module _ {c : List ℕ} {r : List Float} {w : Rooms} {top used : ℕ} {place : P
     pub save_elsewhere : SavedElsewhere c c' r r2 w
     save_elsewhere = record {
       cells = λ q a b.
-          p.elsewhere q (λ i k h g d e. b i k (omega (arith, f.counted, f.entries_inside)) d e) ∙ four_other q (λ k h g. a leg k f.inside h g);
-      reals = λ q a. two_other q (λ (d : q ≡ w.pairs_at + leg * 2). a leg 0 f.inside (omega arith) (omega arith)) (a leg 1 f.inside (omega arith));
+          p.elsewhere q (λ i k h g d e. b i k (omega (arith, f.counted, f.entries_inside)) d e)
+          ∙ four_other q (λ k h g. a leg k f.inside h g);
+      reals = λ q a. two_other q (λ (d : q ≡ w.pairs_at + leg * 2). a leg 0 f.inside (omega arith) (omega arith))
+          (a leg 1 f.inside (omega arith));
     }
 
     steady : Steady c c' r r2 w leg used
     steady = record {
       fields = λ j k o l a g h. leg_unit j k l h ∙ four_other (j * 8 + k) (λ t d e b. a (omega arith));
       times = λ j o l a.
-          two_other (w.pairs_at + j * 2) (λ (d : w.pairs_at + j * 2 ≡ w.pairs_at + leg * 2). a (omega arith)) (λ (d : w.pairs_at + j * 2 ≡ w.pairs_at + leg * 2 + 1). omega arith);
+          two_other (w.pairs_at + j * 2) (λ (d : w.pairs_at + j * 2 ≡ w.pairs_at + leg * 2). a (omega arith))
+          (λ (d : w.pairs_at + j * 2 ≡ w.pairs_at + leg * 2 + 1). omega arith);
       offsets = λ j o l a.
-          two_other (w.pairs_at + j * 2 + 1) (λ (d : w.pairs_at + j * 2 + 1 ≡ w.pairs_at + leg * 2). omega arith) (λ (d : w.pairs_at + j * 2 + 1 ≡ w.pairs_at + leg * 2 + 1). a (omega arith));
+          two_other (w.pairs_at + j * 2 + 1) (λ (d : w.pairs_at + j * 2 + 1 ≡ w.pairs_at + leg * 2). omega arith)
+          (λ (d : w.pairs_at + j * 2 + 1 ≡ w.pairs_at + leg * 2 + 1). a (omega arith));
       entries = λ i k h g e.
-          p.elsewhere (w.nodes_at + i * 8 + k) (λ l t a b d o q. omega arith) ∙ four_other (w.nodes_at + i * 8 + k) (λ t a b d. omega (arith, f.legs_before, f.inside));
+          p.elsewhere (w.nodes_at + i * 8 + k) (λ l t a b d o q. omega arith)
+          ∙ four_other (w.nodes_at + i * 8 + k) (λ t a b d. omega (arith, f.legs_before, f.inside));
     }
 
     kept_new : RunKept c' r2 w top used (waiting_of place leg depth joins)
@@ -293,7 +337,8 @@ module _ {c : List ℕ} {r : List Float} {w : Rooms} {top used : ℕ} {place : P
       fits = omega (arith, f.counted, f.entries_inside);
     }
 
-    pub save_saved : (runs : List Waiting) → SavedIn c r w top used runs → Untaken leg runs → SavedIn c' r2 w leg (used + length joins) (waiting_of place leg depth joins ∷ runs)
+    pub save_saved : (runs : List Waiting) → SavedIn c r w top used runs → Untaken leg runs
+        → SavedIn c' r2 w leg (used + length joins) (waiting_of place leg depth joins ∷ runs)
     save_saved runs h a =
         let u : used ≡ used + length joins - length joins = omega arith in
         let t : top ≡ top_of runs = top_is c r w top used runs h in (
@@ -303,10 +348,12 @@ module _ {c : List ℕ} {r : List Float} {w : Rooms} {top used : ℕ} {place : P
             (
               a,
               (
-                subst (λ (i : ℕ). RunKept c' r2 w i (used + length joins - length joins) (waiting_of place leg depth joins)) t
+                subst (λ (i : ℕ). RunKept c' r2 w i (used + length joins - length joins)
+                    (waiting_of place leg depth joins)) t
                     (subst (λ (i : ℕ). RunKept c' r2 w top i (waiting_of place leg depth joins)) u kept_new),
                 subst (λ (i : ℕ). SavedIn c' r2 w i (used + length joins - length joins) runs) t
-                    (subst (λ (i : ℕ). SavedIn c' r2 w top i runs) u (saved_still steady top used runs (omega arith) a h)),
+                    (subst (λ (i : ℕ). SavedIn c' r2 w top i runs) u
+                    (saved_still steady top used runs (omega arith) a h)),
               ),
             ),
           ),
@@ -321,18 +368,28 @@ pub record Readily (c : List ℕ) (w : Rooms) (top used : ℕ) : Type 0 where
   pub room : used ≤ w.places
   pub few : get_or c (top * 8 + 6) 0 ≤ 1024
 
-pub some_readily : {c : List ℕ} {r : List Float} {w : Rooms} {top used : ℕ} → SomeWaits c r w top used → Readily c w top used
+pub some_readily : {c : List ℕ} {r : List Float} {w : Rooms} {top used : ℕ} → SomeWaits c r w top used
+    → Readily c w top used
 some_readily {c} {r} {w} {top} {used} s =
     let h = s.saved in
     let v = h.1.1.1.0 in
     let e : get_or c (top * 8 + 6) 0 ≡ length s.run.joins = ap (λ (j : ℕ). get_or c (j * 8 + 6) 0) h.0 ∙ v.count in
-    record { inside = omega (arith, h.0, v.inside); there = omega (arith, h.1.0); room = omega (arith, v.fits, h.1.0); few = omega (arith, s.few) }
+    record {
+      inside = omega (arith, h.0, v.inside);
+      there = omega (arith, h.1.0);
+      room = omega (arith, v.fits, h.1.0);
+      few = omega (arith, s.few);
+    }
 
 module _ (c : List ℕ) (r : List Float) (w : Rooms) (top used : ℕ) (joins : List EstJoinPath) where
   pub pop_gives : EntriesCopied c w (used - get_or c (top * 8 + 6) 0) (get_or c (top * 8 + 6) 0) joins
       → (run : Waiting) (runs : List Waiting) → SavedIn c r w top used (run ∷ runs)
       → PoppedAs run runs joins (record {
-        place = record { time_to_next = get_or r (w.pairs_at + top * 2) nan; dist_to_next = get_or r (w.pairs_at + top * 2 + 1) nan; idx_prev = get_or c (top * 8 + 4) 0 };
+        place = record {
+          time_to_next = get_or r (w.pairs_at + top * 2) nan;
+          dist_to_next = get_or r (w.pairs_at + top * 2 + 1) nan;
+          idx_prev = get_or c (top * 8 + 4) 0;
+        };
         leg = top;
         depth = get_or c (top * 8 + 5) 0;
         below = get_or c (top * 8 + 7) 0;
@@ -341,8 +398,10 @@ module _ (c : List ℕ) (r : List Float) (w : Rooms) (top used : ℕ) (joins : L
       let e : top ≡ run.leg = h.0 in
       let v = h.1.1.1.0 in
       let n : get_or c (top * 8 + 6) 0 ≡ length run.joins = ap (λ (j : ℕ). get_or c (j * 8 + 6) 0) e ∙ v.count in
-      let a : get_or r (w.pairs_at + top * 2) nan ≡ run.place.time_to_next = ap (λ (j : ℕ). get_or r (w.pairs_at + j * 2) nan) e ∙ v.time in
-      let b : get_or r (w.pairs_at + top * 2 + 1) nan ≡ run.place.dist_to_next = ap (λ (j : ℕ). get_or r (w.pairs_at + j * 2 + 1) nan) e ∙ v.offset in
+      let a : get_or r (w.pairs_at + top * 2) nan ≡ run.place.time_to_next =
+      ap (λ (j : ℕ). get_or r (w.pairs_at + j * 2) nan) e ∙ v.time in
+      let b : get_or r (w.pairs_at + top * 2 + 1) nan ≡ run.place.dist_to_next =
+      ap (λ (j : ℕ). get_or r (w.pairs_at + j * 2 + 1) nan) e ∙ v.offset in
       let p : get_or c (top * 8 + 4) 0 ≡ run.place.idx_prev = ap (λ (j : ℕ). get_or c (j * 8 + 4) 0) e ∙ v.place in
       record {
         place = λ t. record { time_to_next = a t; dist_to_next = b t; idx_prev = p t };

@@ -4,8 +4,8 @@
 ghost use Rattle.std.specs.Prelude.{◌+◌, ◌*◌, ◌≤◌, ◌<◌, length};
 ghost use Rattle.arrayvec.specs.ArrayVec.{array_vec_len};
 ghost use Rattle.grow_waiting.specs.Held.{waiting_of, SavedElsewhere, SomeWaits};
-ghost use Rattle.grow_waiting.specs.Steps.{EntriesPushed, EntriesCopied, stacks_at_entry, stacks_at_exit, SavesOnTop, stacks_seen};
-ghost use Rattle.grow_waiting.specs.Steps.{TakesUp};
+ghost use Rattle.grow_waiting.specs.Steps.{EntriesPushed, EntriesCopied, SavesOnTop, TakesUp};
+ghost use Rattle.grow_waiting.specs.Steps.{stacks_at_entry, stacks_at_exit, stacks_seen};
 
 use net_insertion::Place;
 use net_join_paths::{EstJoinPath, JoinPaths};
@@ -20,8 +20,8 @@ pub struct Rooms {
     pub places: usize,
 }
 
-// A run that is taken up again: its place, its leg, how many legs it has taken, and the leg of the run saved before it, 0
-// for none as the cells hold it.
+// A run that is taken up again: its place, its leg, how many legs it has taken, and the leg of the run saved before it,
+// 0 for none as the cells hold it.
 #[derive(Clone, Copy)]
 pub struct Popped {
     pub place: Place,
@@ -43,7 +43,8 @@ fn push_entries(cells: &mut [u32], w: Rooms, used: usize, joins: &JoinPaths)
     }
 }
 
-// Copies the `count` entries from `from` on of that stack into a list, and nothing else.
+// Copies the `count` entries from `from` on of that stack into a list, and nothing else. The cells hold them as two
+// numbers of a node's unit, among others, so there is no slice of entries to clone.
 fn copy_entries(cells: &[u32], w: Rooms, from: usize, count: usize, joins: &mut JoinPaths)
     requires places_in_bounds { w.nodes_at + w.places * 8 ≤ length cells.now }
     requires count_in_bounds { from + count ≤ w.places }
@@ -74,7 +75,7 @@ pub fn save(
 )
     requires places_in_bounds { w.nodes_at + w.places * 8 ≤ length cells.old }
     requires legs_bound { (w.legs + 1) * 8 ≤ w.nodes_at }
-    requires legs_in_bounds { w.pairs_at + w.legs * 2 + 2 ≤ length reals.old }
+    requires pairs_in_bounds { w.pairs_at + w.legs * 2 + 2 ≤ length reals.old }
     requires leg_le_legs { leg ≤ w.legs }
     requires leg_nonzero { 0 < leg }
     requires all_legs_bound { w.legs ≤ 65535 }
@@ -108,7 +109,7 @@ pub fn pop(
 ) -> Popped
     requires places_in_bounds { w.nodes_at + w.places * 8 ≤ length cells.now }
     requires legs_bound { (w.legs + 1) * 8 ≤ w.nodes_at }
-    requires legs_in_bounds { w.pairs_at + w.legs * 2 + 2 ≤ length reals.now }
+    requires pairs_in_bounds { w.pairs_at + w.legs * 2 + 2 ≤ length reals.now }
     requires some_waits { SomeWaits cells.now reals.now w top used }
     ensures popped { TakesUp w top used (stacks_seen cells reals) joins.new.items result }
 {

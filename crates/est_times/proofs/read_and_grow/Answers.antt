@@ -29,9 +29,9 @@ grow_book-requires c =
     let k = c.read_book.auto in
     record {
       ready = accepted_ready _ _ _ _ _ _ r w;
-      book_in_bounds = e.reals;
-      book_in_bounds_2 = omega (arith, e.cells, k);
-      book_in_bounds_3 = omega (arith, e.marks, k);
+      reals_room = e.reals;
+      cells_room = omega (arith, e.cells, k);
+      marks_room = omega (arith, e.marks, k);
     }
 
 pub returns : goal.returns

@@ -7,11 +7,14 @@ pub returns-then-place-last-clause-answer : goal.returns-then-place-last-clause-
 returns-then-place-last-clause-answer c = finish_elsewhere _ _ _ _ _ _ c.if-place-last.true
 
 pub returns-then-node-ne0-clause-answer : goal.returns-then-node-ne0-clause-answer
-returns-then-node-ne0-clause-answer c = finish_with_next _ _ _ _ _ _ c.if-place-last.false _ c.load-node.ensures c.if-node-ne0.true
+returns-then-node-ne0-clause-answer c = finish_with_next _ _ _ _ _ _ c.if-place-last.false _ c.load-node.ensures
+    c.if-node-ne0.true
 
 pub returns-then-cells-at-gt0-clause-answer : goal.returns-then-cells-at-gt0-clause-answer
-returns-then-cells-at-gt0-clause-answer c = finish_ended _ _ _ _ _ _ c.if-place-last.false _ c.load-node.ensures c.if-node-ne0.false c.requires.n_nonzero c.if-cells-at-gt0.true
+returns-then-cells-at-gt0-clause-answer c = finish_ended _ _ _ _ _ _ c.if-place-last.false _ c.load-node.ensures
+    c.if-node-ne0.false c.requires.n_nonzero c.if-cells-at-gt0.true
 
 pub returns-clause-answer : goal.returns-clause-answer
 returns-clause-answer c =
-    (finish_good _ _ _ _ _ _ c.if-place-last.false _ c.load-node.ensures c.if-node-ne0.false c.requires.n_nonzero c.args.last_end (omega (arith, c.if-cells-at-gt0.false))).0
+    (finish_good _ _ _ _ _ _ c.if-place-last.false _ c.load-node.ensures c.if-node-ne0.false c.requires.n_nonzero
+    c.args.last_end (omega (arith, c.if-cells-at-gt0.false))).0

@@ -6,4 +6,5 @@ pub returns-then-places-n : goal.returns-then-places-n
 returns-then-places-n c = last_full _ _ _ c.if-places-n.true
 
 pub returns : goal.returns
-returns c = last_stored _ _ _ _ _ _ c.if-places-n.false c.fake_node-last.ensures c.store.ensures.floats c.store.ensures.numbers
+returns c = last_stored _ _ _ _ _ _ c.if-places-n.false c.fake_node-last.ensures c.store.ensures.floats
+    c.store.ensures.numbers

@@ -17,7 +17,11 @@ read_and_grow-grown-requires c = c.clear_before.ensures
 
 pub clear_behind-requires : goal.clear_behind-requires
 clear_behind-requires c =
-    omega (arith, nodes (goal.at.clear_behind-requires c).After-map_or-n, nodes_most _ _ _ _ c.read_and_grow-grown.result c.read_and_grow-grown.ensures)
+    omega (
+      arith,
+      nodes (goal.at.clear_behind-requires c).After-map_or-n,
+      nodes_most _ _ _ _ c.read_and_grow-grown.result c.read_and_grow-grown.ensures,
+    )
 
 pub shape_of-floats : goal.shape_of-floats
 shape_of-floats c =
@@ -35,5 +39,7 @@ pub returns : goal.returns
 returns c =
     let k = c.read_and_grow-grown.auto in
     let l = c.clear_before.auto in
-    network_grown _ _ _ _ _ _ _ _ _ _ c.read_and_grow-grown.result c.read_and_grow-grown.ensures l.floats l.numbers refl l.cells l.marks (omega (arith, k, l)) (omega (arith, k, l)) _ (nodes (goal.at.returns c).After-map_or-n)
-    c.clear_behind.ensures.floats c.clear_behind.ensures.numbers (cleared_as (omega (arith, k, l)) (omega (arith, k, l)) (omega (arith, k, l)) c.clear_work.ensures)
+    network_grown _ _ _ _ _ _ _ _ _ _ c.read_and_grow-grown.result c.read_and_grow-grown.ensures l.floats l.numbers refl
+    l.cells l.marks (omega (arith, k, l)) (omega (arith, k, l)) _ (nodes (goal.at.returns c).After-map_or-n)
+    c.clear_behind.ensures.floats c.clear_behind.ensures.numbers
+    (cleared_as (omega (arith, k, l)) (omega (arith, k, l)) (omega (arith, k, l)) c.clear_work.ensures)

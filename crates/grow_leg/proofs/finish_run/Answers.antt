@@ -14,7 +14,9 @@ finish-requires c = let v = c.requires.ends.ends.grown in
 
 pub returns-in_err-finish : goal.returns-in_err-finish
 returns-in_err-finish c = λ b reals joins net run rest plan a.
-    turned_refused _ _ _ _ c.from_residual.result _ c.from_residual.ensures.1 (finish_refused plan a c.finish.result c.finish.ensures.answer _ c.in_err-finish.was)
+    turned_refused _ _ _ _ c.from_residual.result _ c.from_residual.ensures.1
+    (finish_refused plan a c.finish.result c.finish.ensures.answer _ c.in_err-finish.was)
 
 pub returns : goal.returns
-returns c = λ b reals joins net run rest plan a. finish_gives plan a c.finish.result _ c.finish.ensures.answer c.finish.ensures.cells c.in_ok-finish.was
+returns c = λ b reals joins net run rest plan a.
+    finish_gives plan a c.finish.result _ c.finish.ensures.answer c.finish.ensures.cells c.in_ok-finish.was

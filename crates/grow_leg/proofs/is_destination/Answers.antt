@@ -7,10 +7,12 @@ pub loop-i-init : goal.loop-i-init
 loop-i-init c = none_yet _ _
 
 pub returns-then-destination_link-link_idx : goal.returns-then-destination_link-link_idx
-returns-then-destination_link-link_idx c = one_there _ _ c.loop-i.i (omega (arith, c.destinations-i-end.ensures)) _ c.destination_link.ensures c.if-destination_link-link_idx.true
+returns-then-destination_link-link_idx c = one_there _ _ c.loop-i.i
+    (omega (arith, c.destinations-i-end.ensures)) _ c.destination_link.ensures c.if-destination_link-link_idx.true
 
 pub loop-i-preserved : goal.loop-i-preserved
-loop-i-preserved c = none_next _ _ c.loop-i.i c.loop-i.invariant _ c.destination_link.ensures c.if-destination_link-link_idx.false
+loop-i-preserved c = none_next _ _ c.loop-i.i c.loop-i.invariant _ c.destination_link.ensures
+    c.if-destination_link-link_idx.false
 
 pub returns : goal.returns
 returns c = none_there _ _ _ (omega (arith, c.destinations-i-end.ensures)) c.loop-i.invariant

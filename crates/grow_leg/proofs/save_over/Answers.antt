@@ -5,55 +5,70 @@ use Prim.Native.Nat.{ℕ}
 use native.Mathlib.Omega.{arith}
 use Rattle.book_format.specs.Format.{legs}
 use Rattle.book_format.specs.Chains.{Chained}
-use Rattle.grow_state.proofs.Keeping.{plan_legs, plan_room}
-use Rattle.grow_leg.proofs.GoingOn.{saved_refused, front_leg, front_depth, front_used, save_none, save_full, save_leg, save-gives}
+use Rattle.grow_state.proofs.Keeping.{plan_legs, plan_room, planned_in}
+use Rattle.grow_leg.proofs.GoingOn.{saved_refused, front_leg, front_depth, front_used, save_none, save_full, save_leg}
+use Rattle.grow_leg.proofs.GoingOn.{save-gives}
 use Rattle.grow_leg.proofs.save_over.Goals as goal
 
 pub take_leg-requires : goal.take_leg-requires
 take_leg-requires c =
+    let plan = planned_in _ c.args.p.now.planned c.requires.reals_room in
     let s = c.requires in
     let e = c.book.ensures.is in
     record {
       chained = subst (λ (b : List ℕ). Chained b c.args.cells.now) (sym e) s.some_ending.ends.ends.chained;
-      parent_bound = omega (arith, ap legs e, front_leg s.plan_in s.some_ending.ends.ends);
+      parent_bound = omega (arith, ap legs e, front_leg plan s.some_ending.ends.ends);
     }
 
 pub returns-in_err-leg : goal.returns-in_err-leg
-returns-in_err-leg c = λ fs us net run rest a f.
-    saved_refused _ _ _ _ _ _ _ _ _ c.from_residual.result _ c.from_residual.ensures.1 (save_none c.requires.plan_in a _ c.book.ensures.is c.take_leg.result c.take_leg.ensures _ c.in_err-leg.was)
+returns-in_err-leg c =
+    let plan = planned_in _ c.args.p.now.planned c.requires.reals_room in
+    λ fs us net run rest a f.
+    saved_refused _ _ _ _ _ _ _ _ _ c.from_residual.result _ c.from_residual.ensures.1
+    (save_none plan a _ c.book.ensures.is c.take_leg.result c.take_leg.ensures _ c.in_err-leg.was)
 
 pub waiting_entries-used-requires : goal.waiting_entries-used-requires
 waiting_entries-used-requires c =
+    let plan = planned_in _ c.args.p.now.planned c.requires.reals_room in
     let s = c.requires in
-    let all = front_used s.plan_in s.some_ending.ends.ends in
+    let all = front_used plan s.some_ending.ends.ends in
     record { used_bound = all.0; count_bound = omega (arith, all.1, c.len.ensures.value) }
 
 pub returns-then-r-used : goal.returns-then-r-used
-returns-then-r-used c = λ fs us net run rest a f. save_full c.requires.plan_in a _ c.book.ensures.is c.take_leg.result c.take_leg.ensures _ c.in_ok-leg.was (omega (arith, c.if-r-used.true, c.waiting_entries-used.ensures, c.len.ensures.value))
+returns-then-r-used c =
+    let plan = planned_in _ c.args.p.now.planned c.requires.reals_room in
+    λ fs us net run rest a f. save_full plan a _ c.book.ensures.is c.take_leg.result c.take_leg.ensures _
+    c.in_ok-leg.was (omega (arith, c.if-r-used.true, c.waiting_entries-used.ensures, c.len.ensures.value))
 
 pub overflow_add-front : goal.overflow_add-front
-overflow_add-front c = let s = c.requires in omega (arith, front_depth s.plan_in s.some_ending.ends.ends)
+overflow_add-front c =
+    let plan = planned_in _ c.args.p.now.planned c.requires.reals_room in
+    let s = c.requires in omega (arith, front_depth plan s.some_ending.ends.ends)
 
 pub save-requires : goal.save-requires
 save-requires c =
+    let plan = planned_in _ c.args.p.now.planned c.requires.reals_room in
     let s = c.requires in
     let a = s.some_ending.ends.ends in
-    let l = save_leg s.plan_in a _ c.book.ensures.is c.take_leg.result c.take_leg.ensures _ c.in_ok-leg.was in
+    let l = save_leg plan a _ c.book.ensures.is c.take_leg.result c.take_leg.ensures _ c.in_ok-leg.was in
     record {
-      places_in_bounds = omega (arith, a.grown.apart.nodes_inside, s.plan_in.same_nodes, s.plan_in.same_places);
-      legs_bound = plan_room s.plan_in;
-      legs_in_bounds = s.plan_in.pairs;
+      places_in_bounds = omega (arith, a.grown.apart.nodes_inside, plan.same_nodes, plan.same_places);
+      legs_bound = plan_room plan;
+      pairs_in_bounds = plan.pairs;
       leg_le_legs = l.1;
       leg_nonzero = l.0;
-      all_legs_bound = omega (arith, s.plan_in.all_legs, plan_legs s.plan_in);
-      depth_bound = front_depth s.plan_in a;
+      all_legs_bound = omega (arith, plan.all_legs, plan_legs plan);
+      depth_bound = front_depth plan a;
       count_bound = omega (arith, c.if-r-used.false, c.waiting_entries-used.ensures, c.len.ensures.value);
-      places_bound = omega (arith, s.plan_in.same_places, a.grown.room.most);
+      places_bound = omega (arith, plan.same_places, a.grown.room.most);
     }
 
 pub returns : goal.returns
 returns c =
+    let plan = planned_in _ c.args.p.now.planned c.requires.reals_room in
     let v = c.save in
     let n = c.waiting_entries-used.ensures in
     let m = c.len.ensures.value in
-    λ fs us net run rest a f. save-gives c.requires.plan_in a _ c.book.ensures.is c.take_leg.result c.take_leg.ensures _ c.in_ok-leg.was (omega (arith, c.if-r-used.false, n, m)) _ _ (omega (arith, v.auto)) v.ensures.elsewhere v.ensures.saved f _ (omega (arith, n, m))
+    λ fs us net run rest a f. save-gives plan a _ c.book.ensures.is c.take_leg.result c.take_leg.ensures _
+    c.in_ok-leg.was (omega (arith, c.if-r-used.false, n, m)) _ _
+    (omega (arith, v.auto)) v.ensures.elsewhere v.ensures.saved f _ (omega (arith, n, m))

@@ -7,21 +7,26 @@ returns-in_err-counts-clause-answer c =
     let i = c.insert_event in
     λ b reals start net plan v.
     inserted_refused _ _ _ _ _ _ _ _ c.from_residual.result _ c.from_residual.ensures.1
-    (origin_stops b _ reals plan _ _ _ _ _ _ _ _ _ _ i.result i.ensures.outcome _ c.requires.leads_from c.origin_run-run.ensures c.origin_event-arrive.ensures start net v _ c.in_err-counts.was)
+    (origin_stops b _ reals plan _ _ _ _ _ _ _ _ _ _ i.result i.ensures.outcome _ c.requires.leads_from
+    c.origin_run-run.ensures c.origin_event-arrive.ensures start net v _ c.in_err-counts.was)
 
 pub insert_event-requires-2-clause-growing : goal.insert_event-requires-2-clause-growing
 insert_event-requires-2-clause-growing c =
     let i = c.insert_event in
-    (first_grown _ _ _ _ _ _ _ _ _ _ _ _ _ i.result i.ensures.outcome c.origin_run-run.ensures c.requires.leads_from.within c.requires.growing _ _ c.in_ok-counts.was).0
+    (first_grown _ _ _ _ _ _ _ _ _ _ _ _ _ i.result i.ensures.outcome c.origin_run-run.ensures
+    c.requires.leads_from.within c.requires.growing _ _ c.in_ok-counts.was).0
 
 pub insert_event-requires-2-clause-idx_prev_bound : goal.insert_event-requires-2-clause-idx_prev_bound
 insert_event-requires-2-clause-idx_prev_bound c =
     let i = c.insert_event in
-    (first_grown _ _ _ _ _ _ _ _ _ _ _ _ _ i.result i.ensures.outcome c.origin_run-run.ensures c.requires.leads_from.within c.requires.growing _ _ c.in_ok-counts.was).1
+    (first_grown _ _ _ _ _ _ _ _ _ _ _ _ _ i.result i.ensures.outcome c.origin_run-run.ensures
+    c.requires.leads_from.within c.requires.growing _ _ c.in_ok-counts.was).1
 
 pub returns-clause-answer : goal.returns-clause-answer
 returns-clause-answer c =
     let i = c.insert_event in
     let j = c.insert_event-2 in
     λ b reals start net plan v.
-    origin_clears b _ reals plan _ _ _ _ _ _ _ _ _ _ i.result i.ensures.outcome _ c.requires.leads_from c.origin_run-run.ensures c.origin_event-arrive.ensures start net v _ _ c.in_ok-counts.was _ c.origin_event-clear.ensures _ _ _ j.result j.ensures.outcome
+    origin_clears b _ reals plan _ _ _ _ _ _ _ _ _ _ i.result i.ensures.outcome _ c.requires.leads_from
+    c.origin_run-run.ensures c.origin_event-arrive.ensures start net v _ _ c.in_ok-counts.was _
+    c.origin_event-clear.ensures _ _ _ j.result j.ensures.outcome

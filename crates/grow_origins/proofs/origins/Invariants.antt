@@ -4,4 +4,5 @@ use Rattle.grow_origins.proofs.origins.Given as goal
 
 abbrev pub invariant-loop-k : goal.invariant-loop-k
 invariant-loop-k l =
-    OriginLoop l.book l.p l.joins.items l.initial.floats l.initial.numbers l.initial.reals l.initial.cells l.initial.rest l.floats l.numbers l.reals l.cells l.rest l.last l.k
+    OriginLoop l.p.planned.book.now l.p.planned.plan l.joins.items l.initial.floats l.initial.numbers l.initial.reals
+    l.initial.cells l.initial.rest l.floats l.numbers l.reals l.cells l.rest l.last l.k

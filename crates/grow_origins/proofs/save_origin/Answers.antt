@@ -4,27 +4,52 @@ use mathlib.Core.List.{List}
 use Prim.Native.Nat.{ℕ}
 use native.Mathlib.Omega.{arith}
 use Rattle.book_legs.specs.Legs.{taken_leg}
+use Rattle.grow_state.proofs.Keeping.{planned_in}
 use Rattle.grow_origins.proofs.Saving.{origin_no_leg, save_asks, origin_saved}
 use Rattle.grow_origins.proofs.OriginLoop.{origins_refused}
 use Rattle.grow_origins.proofs.save_origin.Goals as goal
 
 pub returns-in_err-leg : goal.returns-in_err-leg
-returns-in_err-leg c = λ fs us idxs net run runs v.
-    origins_refused _ _ _ _ _ c.from_residual.result _ c.from_residual.ensures.1 (origin_no_leg _ _ _ _ _ _ _ _ _ _ _ _ _ _ c.requires.plan_in v _ (c.take_start.ensures ∙ ap (λ (b : List ℕ). taken_leg b 0 c.args.link_idx) c.book.ensures.is) _ c.in_err-leg.was)
+returns-in_err-leg c =
+    let plan = planned_in _ c.args.p.now.planned.planned c.requires.reals_room in
+    λ fs us idxs net run runs v.
+    origins_refused _ _ _ _ _ c.from_residual.result _ c.from_residual.ensures.1
+    (origin_no_leg _ _ _ _ _ _ _ _ _ _ _ _ _ _ plan v _
+    (c.take_start.ensures ∙ ap (λ (b : List ℕ). taken_leg b 0 c.args.link_idx) c.book.ensures.is) _
+    c.in_err-leg.was)
 
 pub save-requires-clause-leg_le_legs : goal.save-requires-clause-leg_le_legs
-save-requires-clause-leg_le_legs c = (save_asks _ _ _ _ _ _ _ _ _ _ _ _ _ _ c.requires.plan_in c.requires.some_origin_inserted.inserted_origin _ (c.take_start.ensures ∙ ap (λ (b : List ℕ). taken_leg b 0 c.args.link_idx) c.book.ensures.is) _ c.in_ok-leg.was c.requires.no_joins).1.1.1.0
+save-requires-clause-leg_le_legs c =
+    let plan = planned_in _ c.args.p.now.planned.planned c.requires.reals_room in
+    (save_asks _ _ _ _ _ _ _ _ _ _ _ _ _ _ plan c.requires.some_origin_inserted.inserted_origin _
+    (c.take_start.ensures ∙ ap (λ (b : List ℕ). taken_leg b 0 c.args.link_idx) c.book.ensures.is) _ c.in_ok-leg.was
+    c.requires.no_joins).1.1.1.0
 
 pub save-requires-clause-leg_nonzero : goal.save-requires-clause-leg_nonzero
-save-requires-clause-leg_nonzero c = (save_asks _ _ _ _ _ _ _ _ _ _ _ _ _ _ c.requires.plan_in c.requires.some_origin_inserted.inserted_origin _ (c.take_start.ensures ∙ ap (λ (b : List ℕ). taken_leg b 0 c.args.link_idx) c.book.ensures.is) _ c.in_ok-leg.was c.requires.no_joins).1.1.1.1.0
+save-requires-clause-leg_nonzero c =
+    let plan = planned_in _ c.args.p.now.planned.planned c.requires.reals_room in
+    (save_asks _ _ _ _ _ _ _ _ _ _ _ _ _ _ plan c.requires.some_origin_inserted.inserted_origin _
+    (c.take_start.ensures ∙ ap (λ (b : List ℕ). taken_leg b 0 c.args.link_idx) c.book.ensures.is) _ c.in_ok-leg.was
+    c.requires.no_joins).1.1.1.1.0
 
 pub save-requires-clause-all_legs_bound : goal.save-requires-clause-all_legs_bound
-save-requires-clause-all_legs_bound c = (save_asks _ _ _ _ _ _ _ _ _ _ _ _ _ _ c.requires.plan_in c.requires.some_origin_inserted.inserted_origin _ (c.take_start.ensures ∙ ap (λ (b : List ℕ). taken_leg b 0 c.args.link_idx) c.book.ensures.is) _ c.in_ok-leg.was c.requires.no_joins).1.1.1.1.1.0
+save-requires-clause-all_legs_bound c =
+    let plan = planned_in _ c.args.p.now.planned.planned c.requires.reals_room in
+    (save_asks _ _ _ _ _ _ _ _ _ _ _ _ _ _ plan c.requires.some_origin_inserted.inserted_origin _
+    (c.take_start.ensures ∙ ap (λ (b : List ℕ). taken_leg b 0 c.args.link_idx) c.book.ensures.is) _ c.in_ok-leg.was
+    c.requires.no_joins).1.1.1.1.1.0
 
 pub save-requires-clause-count_bound : goal.save-requires-clause-count_bound
-save-requires-clause-count_bound c = (save_asks _ _ _ _ _ _ _ _ _ _ _ _ _ _ c.requires.plan_in c.requires.some_origin_inserted.inserted_origin _ (c.take_start.ensures ∙ ap (λ (b : List ℕ). taken_leg b 0 c.args.link_idx) c.book.ensures.is) _ c.in_ok-leg.was c.requires.no_joins).1.1.1.1.1.1.1.0
+save-requires-clause-count_bound c =
+    let plan = planned_in _ c.args.p.now.planned.planned c.requires.reals_room in
+    (save_asks _ _ _ _ _ _ _ _ _ _ _ _ _ _ plan c.requires.some_origin_inserted.inserted_origin _
+    (c.take_start.ensures ∙ ap (λ (b : List ℕ). taken_leg b 0 c.args.link_idx) c.book.ensures.is) _ c.in_ok-leg.was
+    c.requires.no_joins).1.1.1.1.1.1.1.0
 
 pub returns : goal.returns
 returns c =
+    let plan = planned_in _ c.args.p.now.planned.planned c.requires.reals_room in
     let s = c.save in
-    λ fs us idxs net run runs v. origin_saved _ _ _ _ _ _ _ _ _ _ _ _ _ _ c.requires.plan_in v _ (c.take_start.ensures ∙ ap (λ (b : List ℕ). taken_leg b 0 c.args.link_idx) c.book.ensures.is) _ c.in_ok-leg.was c.requires.no_joins _ _ (omega (arith, s.auto)) s.ensures.elsewhere s.ensures.saved
+    λ fs us idxs net run runs v. origin_saved _ _ _ _ _ _ _ _ _ _ _ _ _ _ plan v _
+    (c.take_start.ensures ∙ ap (λ (b : List ℕ). taken_leg b 0 c.args.link_idx) c.book.ensures.is) _ c.in_ok-leg.was
+    c.requires.no_joins _ _ (omega (arith, s.auto)) s.ensures.elsewhere s.ensures.saved

@@ -8,4 +8,6 @@ use Rattle.grow_path.proofs.Testing.{some_bad_any}
 use Rattle.grow_path.proofs.some_bad.Goals as goal
 
 pub returns : goal.returns
-returns c = any_from_yields_List bad_point _ _ _ c.any.ensures.ran (YieldsList-from_first (λ x. x) (λ l. l) c.args.events refl) (λ x b q k. search rules) ∙ sym (some_bad_any c.args.events)
+returns c = any_from_yields_List bad_point _ _ _ c.any.ensures.ran
+    (YieldsList-from_first (λ x. x) (λ l. l) c.args.events refl) (λ x b q k. search rules)
+    ∙ sym (some_bad_any c.args.events)

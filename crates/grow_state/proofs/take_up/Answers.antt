@@ -9,12 +9,18 @@ pop-popped-requires c =
     record {
       places_in_bounds = omega (arith, s.driving.holds.grown.apart.nodes_inside, s.plan.same_nodes, s.plan.same_places);
       legs_bound = omega (arith, s.plan.all_legs, s.plan.same_nodes, s.plan.nodes_at);
-      legs_in_bounds = s.plan.pairs;
+      pairs_in_bounds = s.plan.pairs;
       some_waits = drive_pops s c.requires.top_nonzero;
     }
 
 pub overflow_sub-rest : goal.overflow_sub-rest
-overflow_sub-rest c = omega (arith, drive_few c.requires.some_drive c.requires.top_nonzero _ _ c.pop-popped.ensures.popped, c.len.ensures.value)
+overflow_sub-rest c = omega (
+  arith,
+  drive_few c.requires.some_drive c.requires.top_nonzero _ _
+      c.pop-popped.ensures.popped,
+  c.len.ensures.value,
+)
 
 pub returns : goal.returns
-returns c = λ b fs us path net runs d. taken_up_lem d c.requires.top_nonzero _ _ c.len.ensures.value _ c.pop-popped.ensures.popped
+returns c = λ b fs us path net runs d. taken_up_lem d c.requires.top_nonzero _ _ c.len.ensures.value _
+    c.pop-popped.ensures.popped

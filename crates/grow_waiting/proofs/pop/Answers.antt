@@ -4,7 +4,8 @@ use Rattle.grow_waiting.proofs.Runs.{some_readily, pop_gives}
 use Rattle.grow_waiting.proofs.pop.Goals as goal
 
 pub copy_entries-requires-clause-count_in_bounds : goal.copy_entries-requires-clause-count_in_bounds
-copy_entries-requires-clause-count_in_bounds c = let s = some_readily c.requires.some_waits in omega (arith, s.there, s.room)
+copy_entries-requires-clause-count_in_bounds c = let s = some_readily c.requires.some_waits in
+    omega (arith, s.there, s.room)
 
 pub copy_entries-requires-clause-count_bound : goal.copy_entries-requires-clause-count_bound
 copy_entries-requires-clause-count_bound c = (some_readily c.requires.some_waits).few
