@@ -1,6 +1,6 @@
--- `pass_rules::checks_fail` meets its contract: `Checked` is the loop's invariant.
+-- `pass_rules::LinkedNodes::checks_fail` meets its contract: `Checked` is the loop's invariant.
 use Rattle.pass_rules.proofs.Held.{checked_start, checked_fails, checked_more, checked_all}
-use Rattle.pass_rules.proofs.checks_fail.Goals as goal
+use Rattle.pass_rules.proofs.LinkedNodes.checks_fail.Goals as goal
 
 pub loop-i-init : goal.loop-i-init
 loop-i-init c = checked_start _ _
