@@ -15,8 +15,8 @@ pub record Inside (node : ℕ → EstTime) (n : ℕ) : Type 0 where
   pub prev_alt : (i : ℕ) → i < n → (node i).idx_prev_alt < n
 
 -- a table of two slices
-abbrev pub table : List Float → List ℕ → Table
-table fs us = record { floats = fs; numbers = us }
+abbrev pub table_of : List Float → List ℕ → Table
+table_of fs us = record { floats = fs; numbers = us }
 
 -- A table with room for n nodes whose indices name nodes. Stands in contracts where the table is lent to be written, and
 -- no type holds it.

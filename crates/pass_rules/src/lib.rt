@@ -6,7 +6,7 @@ ghost use Rattle.std.proofs.Props.{props};
 ghost use Rattle.net_node.specs.Lent.{table_at_entry};
 ghost use Rattle.pass_rules.specs.Checks.{prev_holds, next_holds, fake_holds, node_holds, row14};
 ghost use Rattle.pass_rules.specs.Plain.{plain, neighbours_hold};
-ghost use Rattle.pass_rules.specs.Walks.{Linked, table, done_in, pass_of, ahead, ahead_alt, behind_alt, end_of, swap};
+ghost use Rattle.pass_rules.specs.Walks.{Linked, table_of, done_in, pass_of, ahead, ahead_alt, behind_alt, end_of, swap};
 ghost use Rattle.pass_rules.specs.Walks.{passable, RelinkWalk};
 
 use net_node::EstTime;
@@ -18,7 +18,7 @@ pub struct LinkedNodes<'a> {
     pub floats: &'a [f64],
     pub numbers: &'a [u32],
     pub count: usize,
-    ghost linked: { Linked (table floats.now numbers.now) count } by { Prim.hlevel props },
+    ghost linked: { Linked (table_of floats.now numbers.now) count } by { Prim.hlevel props },
 }
 
 // Along which links a pass goes, and how it links a node and the join or split that it reaches.
@@ -42,7 +42,7 @@ pub trait Links: Order {
 
     // A node exchanges links with the base of the join or split that is reached.
     fn swap(floats: &mut [f64], numbers: &mut [u32], n: usize, curr: u32, save: u32, found: u32)
-        requires linked { Linked (table floats.old numbers.old) n }
+        requires linked { Linked (table_of floats.old numbers.old) n }
         requires curr_lt_n { curr < n }
         requires save_lt_n { save < n }
         requires found_lt_n { found < n }
