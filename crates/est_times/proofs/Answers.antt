@@ -15,7 +15,7 @@ use Rattle.std.specs.Prelude.{Result, Ok, Err}
 use Rattle.report.specs.declared.Report.{Report}
 use Rattle.refusals.specs.declared.Refusal.{Refusal}
 use Rattle.refusals.specs.Refusals.{told}
-use Rattle.refusals.proofs.Answers.{refusal_some}
+use Rattle.refusals.proofs.Numbers.{refusal_some}
 use Rattle.est_times.specs.Sheet.{Finished, job, answered, sheet_of, HasNumber, SheetMade}
 use Rattle.est_times.specs.Stages.{BuiltAs, sheet_nodes}
 use Rattle.est_times.proofs.Networks.{sound}
