@@ -1,7 +1,8 @@
 -- The queue of a time pass, the source's `BinaryHeap`. Document 01 under "Passes": "Forward takes the smaller time,
 -- ties the smaller index; backward the greatest by `EstTimePrev`'s `partial_cmp`": time, sub, index. The definition is
 -- a list, out of which the best entry is taken; where entries stand in it says nothing.
-use Rattle.std.specs.Prelude.{◌≡◌, Bool, true, false, ◌&&◌, cond, List, [], ◌∷◌, ℕ, zero, suc, ◌+◌, ◌-◌, ◌*◌, ◌≤◌, ◌<◌, T, ltb, eqb, length, get_or, Float}
+use Rattle.std.specs.Prelude.{◌≡◌, Bool, true, false, ◌&&◌, cond, List, [], ◌∷◌, ℕ, zero, suc, ◌+◌, ◌-◌, ◌*◌, ◌≤◌, ◌<◌}
+use Rattle.std.specs.Prelude.{T, ltb, eqb, length, get_or, Float}
 use Rattle.std.specs.declared.cmp.Ordering.{Ordering}
 use Rattle.std.specs.declared.cmp.Ordering.TheVariants.{Less, Equal, Greater}
 use Rattle.std.specs.Float.{nan, binary64}

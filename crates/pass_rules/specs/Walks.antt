@@ -18,8 +18,8 @@ pub record Inside (node : ℕ → EstTime) (n : ℕ) : Type 0 where
 abbrev pub table_of : List Float → List ℕ → Table
 table_of fs us = record { floats = fs; numbers = us }
 
--- A table with room for n nodes whose indices name nodes. Stands in contracts where the table is lent to be written, and
--- no type holds it.
+-- A table with room for n nodes whose indices name nodes. Stands in contracts where the table is lent to be written:
+-- the type `LinkedNodes` holds it where it is only read.
 pub record Linked (t : Table) (n : ℕ) : Type 0 where
   pub room : Room t.floats t.numbers n
   pub inside : Inside (node_at t.floats t.numbers) n

@@ -6,13 +6,14 @@ ghost use Rattle.std.proofs.Props.{props};
 ghost use Rattle.net_node.specs.Lent.{table_at_entry};
 ghost use Rattle.pass_rules.specs.Checks.{prev_holds, next_holds, fake_holds, node_holds, row14};
 ghost use Rattle.pass_rules.specs.Plain.{plain, neighbours_hold};
-ghost use Rattle.pass_rules.specs.Walks.{Linked, table_of, done_in, pass_of, ahead, ahead_alt, behind_alt, end_of, swap};
-ghost use Rattle.pass_rules.specs.Walks.{passable, RelinkWalk};
+ghost use Rattle.pass_rules.specs.Walks.{Linked, table_of, done_in, pass_of, ahead, ahead_alt, behind_alt, end_of};
+ghost use Rattle.pass_rules.specs.Walks.{swap, passable, RelinkWalk};
 
 use net_node::EstTime;
 use pass_queue::{Backward, Forward, Order};
 
-// The nodes of a network that is only read, the first `count` of a table: what row 5 leaves.
+// The nodes of a network that is only read, the first `count` of a table: what row 5 leaves. Each method with an index
+// asks that it be below `count`: indices are plain numbers, which other nodes hold.
 #[derive(Clone, Copy)]
 pub struct LinkedNodes<'a> {
     pub floats: &'a [f64],

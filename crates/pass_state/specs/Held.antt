@@ -1,6 +1,7 @@
--- A time pass at work in the lent slices: the table's nodes, a flag for each node that is done (timed or passed), and the
--- queue.
-use Rattle.std.specs.Prelude.{◌≡◌, Bool, true, false, not, ◌||◌, List, ◌∷◌, ℕ, zero, suc, ◌+◌, ◌*◌, ◌-◌, ◌≤◌, ◌<◌, length, Float, Option, Some, None}
+-- A time pass at work in the lent slices: the table's nodes, a flag for each node that is done (timed or passed), and
+-- the queue.
+use Rattle.std.specs.Prelude.{◌≡◌, Bool, true, false, not, ◌||◌, List, ◌∷◌, ℕ, zero, suc, ◌+◌, ◌*◌, ◌-◌, ◌≤◌, ◌<◌, length}
+use Rattle.std.specs.Prelude.{Float, Option, Some, None}
 use Rattle.std.specs.Float.Ieee.{is_nan}
 use Rattle.laws.specs.Answer.{Answer, given}
 use Rattle.net_node.specs.Table.{Table, float_width, number_width}
@@ -10,9 +11,9 @@ use Rattle.pass_rules.specs.Net.{failed, Pass}
 use Rattle.pass_rules.specs.Walks.{Linked, done_in}
 use Rattle.pass_state.specs.declared.Stand.{Stand}
 
--- The slices that a pass is lent: the table in `floats` and `numbers`, the flags, the queue in `times` and `nodes`. Stands
--- in contracts, and not as a struct of five `&mut` in the code: that would owe each function five more clauses, that it
--- leaves behind the same references.
+-- The slices that a pass is lent: the table in `floats` and `numbers`, the flags, the queue in `times` and `nodes`.
+-- Stands in contracts, and not as a struct of five `&mut` in the code: each function would owe five clauses more, that
+-- it leaves the same references behind, and take the struct apart for net_node and pass_queue.
 pub record PassSlices : Type 0 where
   pub floats : List Float
   pub numbers : List ℕ

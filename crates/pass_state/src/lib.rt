@@ -1,5 +1,5 @@
-// A time pass at work: which nodes are done, its queue, and the turn of an entry. Both passes are one code, over a trait
-// with what differs. Contracts: specs/Held.antt, specs/Strands.antt, specs/Promises.antt.
+// A time pass at work: which nodes are done, its queue, and the turn of an entry. Both passes are one code, over a
+// trait with what differs. Contracts: specs/Held.antt, specs/Strands.antt, specs/Promises.antt.
 #![tactic(auto)]
 
 ghost use Rattle.std.specs.Prelude.{◌≡◌, ℕ, ◌+◌, ◌-◌, ◌*◌, ◌≤◌, ◌<◌, length, set};
@@ -8,9 +8,10 @@ ghost use Rattle.net_node.specs.Lent.{table_at_entry, table_at_exit};
 ghost use Rattle.pass_queue.specs.Queue.{HeapRoom};
 ghost use Rattle.pass_rules.specs.Walks.{Linked, table_of, done_in, behind_alt};
 ghost use Rattle.pass_state.specs.Held.{slices, NodeIn, Working, Standing};
-ghost use Rattle.pass_state.specs.Strands.{time_ahead, alternative_entry, end_entry, finished, finished_flags};
-ghost use Rattle.pass_state.specs.Strands.{standing, alternating, stepping, stranding, settling, turning, turning_all};
-ghost use Rattle.pass_state.specs.Promises.{lent, stops_by, Enqueues, no_more, fewer, PassTo, StandsTo, Relinked, EndsTo};
+ghost use Rattle.pass_state.specs.Strands.{time_ahead, entry_before, alternative_entry, end_entry, finished};
+ghost use Rattle.pass_state.specs.Strands.{finished_flags, standing, alternating, stepping, stranding, settling, turning, turning_all};
+ghost use Rattle.pass_state.specs.Promises.{lent, stops_by, Enqueues, no_more, fewer, PassTo, StandsTo};
+ghost use Rattle.pass_state.specs.Promises.{Relinked, EndsTo};
 
 use net_node::EstTime;
 use pass_queue::{Backward, Entry, Forward, Order};
@@ -88,6 +89,17 @@ pub trait TimePass: Links {
         ensures flags { flags.new ≡ finished_flags Self.backward flags.old i };
 }
 
+// Forward: the entry of a node i at a time, whose next is so much later.
+fn entry_before(time: f64, to_next: f64, i: u32) -> Entry
+    ensures { result ≡ entry_before time to_next i }
+{
+    Entry {
+        time: time + to_next,
+        sub: 0.0,
+        node: i,
+    }
+}
+
 // A step adds the time to next. An entry's time is that at which its next is reached.
 impl TimePass for Forward {
     fn time_ahead(here: EstTime, _ahead: EstTime, _less: f64) -> f64 {
@@ -95,19 +107,11 @@ impl TimePass for Forward {
     }
 
     fn alternative_entry(node: EstTime, alternative: EstTime, i: u32) -> Entry {
-        Entry {
-            time: node.time_sched + alternative.time_to_next,
-            sub: 0.0,
-            node: i,
-        }
+        entry_before(node.time_sched, alternative.time_to_next, i)
     }
 
     fn end_entry(node: EstTime, _ahead: EstTime, i: u32, _less: f64) -> Entry {
-        Entry {
-            time: node.time_sched + node.time_to_next,
-            sub: 0.0,
-            node: i,
-        }
+        entry_before(node.time_sched, node.time_to_next, i)
     }
 
     fn finish(floats: &mut [f64], numbers: &mut [u32], flags: &mut [u32], i: u32, time: f64) {
