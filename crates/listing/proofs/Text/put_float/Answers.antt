@@ -1,8 +1,8 @@
--- `listing::put_float` meets its contract: `Kept` is the loop's invariant.
+-- `listing::Text::put_float` meets its contract: `Kept` is the loop's invariant.
 use native.Mathlib.Omega.{arith}
 use Rattle.listing.proofs.Texts.{then_put, put_as}
 use Rattle.listing.proofs.Numbers.{kept_all, kept_again, kept_end}
-use Rattle.listing.proofs.put_float.Goals as goal
+use Rattle.listing.proofs.Text.put_float.Goals as goal
 
 pub loop-count-init : goal.loop-count-init
 loop-count-init c = kept_all _ c.bits_of-bits.ensures
@@ -17,4 +17,4 @@ pub loop-count-preserved : goal.loop-count-preserved
 loop-count-preserved c = kept_again c.loop-count.invariant c.loop-count-test.true
 
 pub returns : goal.returns
-returns c = then_put c.put_byte-to.ensures (put_as c.put_hex.ensures (kept_end c.loop-count.invariant c.loop-count-test.false))
+returns c = then_put c.put_byte.ensures (put_as c.put_hex.ensures (kept_end c.loop-count.invariant c.loop-count-test.false))
