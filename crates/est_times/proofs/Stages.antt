@@ -18,7 +18,7 @@ use Rattle.net_node.specs.declared.EstTime.{EstTime}
 use Rattle.net_node.specs.Table.{node_at, Room, Table, at}
 use Rattle.net_node.specs.Lent.{Sizes}
 use Rattle.grow_rules.specs.Growth.{Grown, departure}
-use Rattle.pass_rules.specs.Walks.{Inside}
+use Rattle.pass_rules.specs.Walks.{Linked, table_of}
 use Rattle.pass_rules.specs.Passes.{passes}
 use Rattle.pass_all.specs.Answers.{TimedAs}
 use Rattle.report.specs.declared.Report.{Report}
@@ -66,8 +66,7 @@ whole_told b z fs us grown g r e = subst (GrownAs (network b z) fs us) e g
 pub record Ripe (b : List ℕ) (r c m : ℕ) (fs : List Float) (us : List ℕ) (n : ℕ) : Type 0 where
   pub head : 16 ≤ length b
   pub float : book_float (departure_bits b) ≡ true
-  pub room : Room fs us n
-  pub inside : Inside (node_at fs us) n
+  pub linked : Linked (table_of fs us) n
   pub three : 3 ≤ n
   pub reals : n * 2 ≤ r
   pub cells : n * 2 ≤ c
@@ -98,12 +97,14 @@ module _ (b : List ℕ) (f n r c m : ℕ) (fs : List Float) (us : List ℕ) (rep
       record {
         head = head_there s.passes;
         float = departure_float s.passes;
-        room = record { floats = omega (arith, o.floats); numbers = omega (arith, o.numbers); most = omega (arith, o.most) };
-        inside = record {
-          next = λ j h. let x = s.whole.linked.next j (omega arith) in let y = ap (λ (z : EstTime). z.idx_next) (same_node j) in omega arith;
-          next_alt = λ j h. let x = s.whole.linked.next_alt j (omega arith) in let y = ap (λ (z : EstTime). z.idx_next_alt) (same_node j) in omega arith;
-          prev = λ j h. let x = s.whole.linked.prev j (omega arith) in let y = ap (λ (z : EstTime). z.idx_prev) (same_node j) in omega arith;
-          prev_alt = λ j h. let x = s.whole.linked.prev_alt j (omega arith) in let y = ap (λ (z : EstTime). z.idx_prev_alt) (same_node j) in omega arith;
+        linked = record {
+          room = record { floats = omega (arith, o.floats); numbers = omega (arith, o.numbers); most = omega (arith, o.most) };
+          inside = record {
+            next = λ j h. let x = s.whole.linked.next j (omega arith) in let y = ap (λ (z : EstTime). z.idx_next) (same_node j) in omega arith;
+            next_alt = λ j h. let x = s.whole.linked.next_alt j (omega arith) in let y = ap (λ (z : EstTime). z.idx_next_alt) (same_node j) in omega arith;
+            prev = λ j h. let x = s.whole.linked.prev j (omega arith) in let y = ap (λ (z : EstTime). z.idx_prev) (same_node j) in omega arith;
+            prev_alt = λ j h. let x = s.whole.linked.prev_alt j (omega arith) in let y = ap (λ (z : EstTime). z.idx_prev_alt) (same_node j) in omega arith;
+          };
         };
         three = omega arith;
         reals = omega (arith, e.queue);

@@ -54,8 +54,8 @@ pub fn read_and_grow(
 
 // The departure of a book that was read.
 fn departure_of(book: &[u8]) -> f64
-    requires in_bounds { 16 ≤ length book.now }
-    requires book_value { book_float (departure_bits book.now) ≡ true }
+    requires head { 16 ≤ length book.now }
+    requires departure { book_float (departure_bits book.now) ≡ true }
     ensures { result ≡ departure book.now }
 {
     f64::from_bits(fields::u64_at(book, 8))

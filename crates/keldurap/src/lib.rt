@@ -1,44 +1,20 @@
 // The entries for other languages. Each is thin: it calls the proved function of its crate and hands on its answer.
 // Contracts: specs/Entries.antt. They hold in the default floating-point mode; include/keldurap.h and users/rust call
-// each of these raw entries in it, whatever the caller's is.
+// each of these raw entries in it, whatever the caller's is. Entries that differ in the proved function alone stay
+// several: C and Rust call each by its name.
 #![tactic(auto)]
 
-ghost use Rattle.std.specs.Prelude.{◌≡◌, ◌≤◌};
+ghost use Rattle.std.specs.Prelude.{◌≡◌};
 ghost use Rattle.std.specs.Float.{binary64};
 ghost use Rattle.report.specs.Numbers.{report_in};
 ghost use Rattle.root.specs.Root.{sqrt};
 ghost use Rattle.space.specs.Lent.{work_at_entry, work_at_exit};
 ghost use Rattle.net_node.specs.Lent.{lent_at_entry, lent_at_exit, table_seen};
-ghost use Rattle.refusals.specs.Refusals.{told};
 ghost use Rattle.event_maker.specs.Maker.{lent_leg, list_at_entry, list_at_exit};
-ghost use Rattle.listing.specs.Listing.{sheet_in, listed_number};
-ghost use Rattle.keldurap.specs.Entries.{count_told, BookChecked, EventsGiven, TimesGiven, NetworkGiven, SheetGiven, ListingGiven};
+ghost use Rattle.listing.specs.Listing.{sheet_in};
+ghost use Rattle.keldurap.specs.Entries.{BookChecked, EventsGiven, TimesGiven, NetworkGiven, SheetGiven, ListingGiven};
 
-use listing::ListingError;
-use refusals::Refusal;
 use report::Report;
-
-// ---- an answer's number, and what is told beside it
-
-// How many events or nodes an answer has, none for a refusal.
-fn told_count(answer: Result<usize, Refusal>) -> u32
-    requires { count_told (told answer) ≤ 4294967295 }
-    ensures { result ≡ count_told (told answer) }
-{
-    answer.unwrap_or(0) as u32
-}
-
-// The number of a listing's answer: 0 where there is one.
-fn listed_number(answer: Result<usize, ListingError>) -> u32
-    ensures { result ≡ listed_number answer }
-{
-    match answer {
-        Ok(_) => 0,
-        Err(error) => error.into(),
-    }
-}
-
-// ---- the entries
 
 // The square root of x, rounded to nearest, a tie to even.
 #[unsafe(no_mangle)]
@@ -78,7 +54,7 @@ pub extern "C" fn keldurap_raw_make_events(
         (list_at_entry floats numbers) (list_at_exit floats numbers) count.new result }
 {
     let made = event_maker::make_events(train_length, samples, offsets, links, floats, numbers);
-    *count = told_count(made);
+    *count = made.unwrap_or(0) as u32;
     refusals::number_of(made)
 }
 
@@ -99,7 +75,7 @@ pub extern "C" fn keldurap_raw_update_times(
         (lent_at_exit floats numbers reals cells marks) departure nodes.new result }
 {
     let timed = pass_table::update_times(floats, numbers, departure, reals, cells, marks);
-    *nodes = told_count(timed);
+    *nodes = timed.unwrap_or(0) as u32;
     refusals::number_of(timed)
 }
 
@@ -158,5 +134,5 @@ pub extern "C" fn keldurap_raw_list_sheet(
 {
     let listed = listing::list_sheet(floats, numbers, Report::from(*report), out);
     *text_length = listed.unwrap_or(0);
-    listed_number(listed)
+    listed.map_or_else(u32::from, |_| 0)
 }

@@ -19,59 +19,78 @@ use Rattle.std.specs.Prelude.{Option as Place, Some, None, Result, Err}
 use Rattle.listing.specs.declared.ListingError.{ListingError}
 use Rattle.listing.specs.declared.ListingError.TheVariants.{Unfilled}
 use Rattle.listing.specs.Listing.{line, lines, sheet_text, text_if, sheet_in, listed_as, bytes_left, TextListed}
-use Rattle.listing.specs.Written.{Written, Puts, Finishes}
+use Rattle.listing.specs.declared.Text.{Text}
+use Rattle.listing.specs.Written.{WrittenTo, Written, Puts, Finishes}
 
 -- ---- bytes
 
 -- there is room for a byte
-pub byte_put : (out : List ℕ) (at b : ℕ) → at < length out → Puts out (Some at) (b ∷ []) (set out at b) (Some (at + 1))
-byte_put out at b l = record {
-  sized = length-set out at b;
-  behind = λ text w. record {
-    to = (
-      omega (arith, length-set out at b),
-      ap (λ (k : ℕ). take k (set out at b)) (add-one at) ∙ take-suc-set out at b l ∙ ap (λ (t : List ℕ). t ++ b ∷ []) w.to.1,
-    );
-  };
+pub byte_put : {t u : Text} {at b : ℕ} → t.at ≡ Some at → at < length t.out.now → u.out.ghost_name ≡ t.out.ghost_name → u.out.now ≡ set t.out.now at b → u.at ≡ Some (at + 1) → Puts t (b ∷ []) u
+byte_put {t} {u} {at} {b} s l name now next = record {
+  same_slice = name;
+  sized = ap length now ∙ length-set t.out.now at b;
+  behind = λ text w.
+      let v : WrittenTo t.out.now (Some at) text = subst (λ (p : Place ℕ). WrittenTo t.out.now p text) s w.to in record {
+        to = subst (λ (p : Place ℕ). WrittenTo u.out.now p (text ++ b ∷ [])) (sym next)
+            (subst (λ (o : List ℕ). WrittenTo o (Some (at + 1)) (text ++ b ∷ [])) (sym now) (
+              omega (arith, length-set t.out.now at b),
+              ap (λ (k : ℕ). take k (set t.out.now at b)) (add-one at) ∙ take-suc-set t.out.now at b l ∙ ap (λ (x : List ℕ). x ++ b ∷ []) v.1,
+            ));
+      };
 }
 
 -- there is none
-pub byte_lost : (out : List ℕ) (at b : ℕ) → length out ≤ at → Puts out (Some at) (b ∷ []) out None
-byte_lost out at b l = record {
-  sized = refl;
-  behind = λ text w. record {
-    to = omega (arith, sym (ap length w.to.1) ∙ length-take-le at out w.to.0, w.to.0, length-append text (b ∷ []));
-  };
+pub byte_lost : {t u : Text} {at b : ℕ} → t.at ≡ Some at → length t.out.now ≤ at → u.out.ghost_name ≡ t.out.ghost_name → u.out.now ≡ t.out.now → u.at ≡ None → Puts t (b ∷ []) u
+byte_lost {t} {u} {at} {b} s l name now next = record {
+  same_slice = name;
+  sized = ap length now;
+  behind = λ text w.
+      let v : WrittenTo t.out.now (Some at) text = subst (λ (p : Place ℕ). WrittenTo t.out.now p text) s w.to in record {
+        to = subst (λ (p : Place ℕ). WrittenTo u.out.now p (text ++ b ∷ [])) (sym next)
+            (subst (λ (o : List ℕ). WrittenTo o None (text ++ b ∷ [])) (sym now)
+            (omega (arith, sym (ap length v.1) ∙ length-take-le at t.out.now v.0, v.0, length-append text (b ∷ []))));
+      };
 }
 
 -- the text before had not fitted
-pub still_lost : (out more : List ℕ) → Puts out None more out None
-still_lost out more = record { sized = refl; behind = λ text w. record { to = omega (arith, w.to, length-append text more) } }
+pub still_lost : (t : Text) (more : List ℕ) → t.at ≡ None → Puts t more t
+still_lost t more s = record {
+  same_slice = refl;
+  sized = refl;
+  behind = λ text w.
+      let v : WrittenTo t.out.now None text = subst (λ (p : Place ℕ). WrittenTo t.out.now p text) s w.to in record {
+        to = subst (λ (p : Place ℕ). WrittenTo t.out.now p (text ++ more)) (sym s) (omega (arith, v, length-append text more));
+      };
+}
 
 -- ---- one text behind another
 
-pub nothing_put : (out : List ℕ) (at : Place ℕ) → Puts out at [] out at
-nothing_put out at = record { sized = refl; behind = λ text w. subst (Written out at) (sym (append-nil text)) w }
+pub nothing_put : (t : Text) → Puts t [] t
+nothing_put t = record { same_slice = refl; sized = refl; behind = λ text w. subst (Written t) (sym (append-nil text)) w }
 
-pub then_put : {a b c : List ℕ} {i j k : Place ℕ} {s t : List ℕ} → Puts a i s b j → Puts b j t c k → Puts a i (s ++ t) c k
-then_put {c = c} {k = k} {s = s} {t = t} p q = record { sized = q.sized ∙ p.sized; behind = λ text w. subst (Written c k) (append_assoc text s t) (q.behind (text ++ s) (p.behind text w)) }
+pub then_put : {a b c : Text} {s t : List ℕ} → Puts a s b → Puts b t c → Puts a (s ++ t) c
+then_put {c = c} {s = s} {t = t} p q = record {
+  same_slice = q.same_slice ∙ p.same_slice;
+  sized = q.sized ∙ p.sized;
+  behind = λ text w. subst (Written c) (append_assoc text s t) (q.behind (text ++ s) (p.behind text w));
+}
 
-pub put_as : {a b : List ℕ} {i j : Place ℕ} {s t : List ℕ} → Puts a i s b j → s ≡ t → Puts a i t b j
-put_as {a} {b} {i} {j} p e = subst (λ (u : List ℕ). Puts a i u b j) e p
+pub put_as : {a b : Text} {s t : List ℕ} → Puts a s b → s ≡ t → Puts a t b
+put_as {a} {b} p e = subst (λ (u : List ℕ). Puts a u b) e p
 
 -- ---- a loop that puts the text s i before its turn i
 
-pub record Turned (a : List ℕ) (at : Place ℕ) (s : ℕ → List ℕ) (n : ℕ) (b : List ℕ) (to : Place ℕ) (i : ℕ) : Type 0 where
-  pub puts : Puts a at (s i) b to
+pub record Turned (a : Text) (s : ℕ → List ℕ) (n : ℕ) (b : Text) (i : ℕ) : Type 0 where
+  pub puts : Puts a (s i) b
   pub most : i ≤ n
 
-pub turned_none : (a : List ℕ) (at : Place ℕ) (s : ℕ → List ℕ) (n : ℕ) → s 0 ≡ [] → Turned a at s n a at 0
-turned_none a at s n e = record { puts = put_as (nothing_put a at) (sym e); most = omega arith }
+pub turned_none : (a : Text) (s : ℕ → List ℕ) (n : ℕ) → s 0 ≡ [] → Turned a s n a 0
+turned_none a s n e = record { puts = put_as (nothing_put a) (sym e); most = omega arith }
 
-pub turned_more : {a b c : List ℕ} {at to k : Place ℕ} {s : ℕ → List ℕ} {n i : ℕ} {t : List ℕ} → Turned a at s n b to i → i < n → Puts b to t c k → s i ++ t ≡ s (i + 1) → Turned a at s n c k (i + 1)
+pub turned_more : {a b c : Text} {s : ℕ → List ℕ} {n i : ℕ} {t : List ℕ} → Turned a s n b i → i < n → Puts b t c → s i ++ t ≡ s (i + 1) → Turned a s n c (i + 1)
 turned_more u l p e = record { puts = put_as (then_put u.puts p) e; most = omega (arith, l) }
 
-pub turned_all : {a b : List ℕ} {at to : Place ℕ} {s : ℕ → List ℕ} {n i : ℕ} → Turned a at s n b to i → n ≤ i → Puts a at (s n) b to
+pub turned_all : {a b : Text} {s : ℕ → List ℕ} {n i : ℕ} → Turned a s n b i → n ≤ i → Puts a (s n) b
 turned_all {s = s} {n = n} {i = i} u l =
     let e : i ≡ n = omega (arith, u.most) in
     put_as u.puts (ap s e)
@@ -90,17 +109,21 @@ line_one node i e = ap (λ (n : EstTime). lines node i ++ line i n) e ∙ sym (a
 -- ---- the slice when all has been written
 
 -- a text that has been put at the start
-module _ {a b : List ℕ} {to : Place ℕ} {text : List ℕ} (p : Puts a (Some 0) text b to) where
-  whole : Written b to text
-  whole = p.behind [] (record { to = (omega arith, refl) })
+module _ {a b : Text} {text : List ℕ} (s : a.at ≡ Some 0) (p : Puts a text b) where
+  whole : Written b text
+  whole = p.behind [] (record { to = subst (λ (q : Place ℕ). WrittenTo a.out.now q []) (sym s) (omega arith, refl) })
 
-  pub text_listed : {end : List ℕ} {r : Result ℕ ListingError} → Finishes b to end r → TextListed (some text) a end r
+  pub text_listed : {end : List ℕ} {r : Result ℕ ListingError} → Finishes b end r → TextListed (some text) a.out.now end r
   text_listed {end} {r} f =
       let l = f.listed text whole in
       record {
         answer = subst (λ (n : ℕ). r ≡ listed_as (some text) n) p.sized l.answer;
         bytes = subst (λ (n : ℕ). end ≡ bytes_left (some text) n) p.sized l.bytes;
       }
+
+-- the slice that a text was put into is the one that is lent
+pub listed_in : {text : Option (List ℕ)} {out left end : List ℕ} {r : Result ℕ ListingError} → TextListed text out left r → end ≡ left → TextListed text out end r
+listed_in {text} {out} {r = r} l e = subst (λ (x : List ℕ). TextListed text out x r) (sym e) l
 
 -- ---- a table has so many nodes, and the report says n
 

@@ -17,7 +17,8 @@ use refusals::Refusal;
 use report::Report;
 use space::Zero;
 
-// Why there is no listing.
+// Why there is no listing. Not a `Refusal`: rows 1 to 16 are about books and tables, and have no row for a slice to
+// print into.
 #[derive(Clone, Copy, Debug, PartialEq, Eq)]
 pub enum ListingError {
     // the slice is too short for it
@@ -41,53 +42,7 @@ impl From<ListingError> for u32 {
     }
 }
 
-// Where the next byte of a text goes; `None` where the text has not fitted. `write!` would tell nothing of when it fails,
-// and a listing's promise says exactly when, so fields are put by hand.
-type Place = Option<usize>;
-
-// Puts a byte behind a text that goes up to `at`, and answers where the next one goes.
-fn put_byte(out: &mut [u8], at: Place, byte: u8) -> Place
-    ensures { Puts out.old at (byte ∷ []) out.new result }
-{
-    let at = at?;
-    if at < out.len() {
-        out[at] = byte;
-        return Some(at + 1);
-    }
-    None
-}
-
-// Puts bytes behind a text.
-fn put_bytes(out: &mut [u8], at: Place, bytes: &[u8]) -> Place
-    ensures { Puts out.old at bytes.now out.new result }
-{
-    let mut to = at;
-    for byte in bytes {
-        to = put_byte(out, to, *byte);
-    }
-    to
-}
-
-// Puts a number in decimal behind a text.
-fn put_decimal(out: &mut [u8], at: Place, n: u64) -> Place
-    ensures { Puts out.old at (decimal n) out.new result }
-{
-    if n < 10 {
-        return put_byte(out, at, 48 + n as u8);
-    }
-    let to = put_decimal(out, at, n / 10);
-    put_byte(out, to, 48 + (n % 10) as u8)
-}
-
-// Puts a word and a number in decimal behind a text.
-fn put_count(out: &mut [u8], at: Place, word: &[u8], n: u64) -> Place
-    ensures { Puts out.old at (word.now ++ decimal n) out.new result }
-{
-    let to = put_bytes(out, at, word);
-    put_decimal(out, to, n)
-}
-
-// A hexadecimal digit.
+// A hexadecimal digit. std's `char::from_digit` gives an `Option` of a `char`, which a byte has to be made of again.
 #[tactic(auto, unfolding(crate::specs::Listing::glyph))]
 fn glyph(d: u64) -> u8
     requires { d < 16 }
@@ -96,32 +51,7 @@ fn glyph(d: u64) -> u8
     if d < 10 { 48 + d as u8 } else { 87 + d as u8 }
 }
 
-// Puts the last `count` hexadecimal digits of a number behind a text.
-fn put_hex(out: &mut [u8], at: Place, n: u64, count: usize) -> Place
-    ensures { Puts out.old at (digits 16 count n) out.new result }
-{
-    if count == 0 {
-        return at;
-    }
-    let to = put_hex(out, at, n / 16, count - 1);
-    put_byte(out, to, glyph(n % 16))
-}
-
-// Puts a blank and the hexadecimal digits of a float's bits behind a text, without closing zeros.
-fn put_float(out: &mut [u8], at: Place, x: f64) -> Place
-    ensures { Puts out.old at (32 ∷ float x) out.new result }
-{
-    let mut bits = floats::bits_of(x);
-    let mut count = 16;
-    while (1 < count) & (bits % 16 == 0) {
-        bits /= 16;
-        count -= 1;
-    }
-    let to = put_byte(out, at, b' ');
-    put_hex(out, to, bits, count)
-}
-
-// The letter of a kind.
+// The letter of a kind. `From` can't stand here: the kind is net_node's and the byte is std's.
 fn letter(kind: EstType) -> u8
     ensures { result ≡ letter kind }
 {
@@ -132,56 +62,134 @@ fn letter(kind: EstType) -> u8
     }
 }
 
-// Puts a node's line behind a text.
-fn put_line(out: &mut [u8], at: Place, i: usize, node: EstTime) -> Place
-    ensures { Puts out.old at (line i node) out.new result }
-{
-    let mut to = put_decimal(out, at, i as u64);
-    to = put_byte(out, to, b' ');
-    to = put_byte(out, to, letter(node.link_event.est_type));
-    to = put_count(out, to, b" ", node.link_event.link_idx as u64);
-    to = put_count(out, to, b" ", node.idx_next as u64);
-    to = put_count(out, to, b" ", node.idx_next_alt as u64);
-    to = put_count(out, to, b" ", node.idx_prev as u64);
-    to = put_count(out, to, b" ", node.idx_prev_alt as u64);
-    to = put_float(out, to, node.time_sched);
-    to = put_float(out, to, node.time_to_next);
-    to = put_float(out, to, node.dist_to_next);
-    to = put_float(out, to, node.speed);
-    put_byte(out, to, b'\n')
+// A text that is put into a slice, and where its next byte goes; `None` where it has not fitted. `write!` would tell
+// nothing of when it fails, and a listing's promise says exactly when, so fields are put by hand.
+struct Text<'a> {
+    out: &'a mut [u8],
+    at: Option<usize>,
 }
 
-// Puts the lines of the first n nodes behind a text.
-fn put_lines(out: &mut [u8], at: Place, floats: &[f64], numbers: &[u32], n: usize) -> Place
-    requires { n ≤ filled (length floats.now) (length numbers.now) }
-    ensures { Puts out.old at (lines (node_at floats.now numbers.now) n)
-        out.new result }
-{
-    let mut to = at;
-    for i in 0..n {
-        to = put_line(out, to, i, net_node::load(floats, numbers, i));
+impl Text<'_> {
+    // Puts a byte behind the text.
+    fn put_byte(&mut self, byte: u8)
+        ensures { Puts self.old (byte ∷ []) self.new }
+    {
+        let Some(at) = self.at else {
+            return;
+        };
+        if at < self.out.len() {
+            self.out[at] = byte;
+            self.at = Some(at + 1);
+            return;
+        }
+        self.at = None;
     }
-    to
-}
 
-// Puts a report's line behind a text.
-fn put_head(out: &mut [u8], at: Place, report: Report) -> Place
-    ensures { Puts out.old at (head report) out.new result }
-{
-    let mut to = put_count(out, at, b"nodes ", report.nodes as u64);
-    to = put_count(out, to, b" added ", report.added as u64);
-    to = put_count(out, to, b" splits ", report.splits as u64);
-    to = put_count(out, to, b" joined ", report.joined as u64);
-    to = put_count(out, to, b" finished ", report.finished as u64);
-    put_byte(out, to, b'\n')
-}
+    // Puts bytes behind the text.
+    fn put_bytes(&mut self, bytes: &[u8])
+        ensures { Puts self.old bytes.now self.new }
+    {
+        for byte in bytes {
+            self.put_byte(*byte);
+        }
+    }
 
-// Makes zero what lies behind a text that goes up to `at`, or everything if it has not fitted.
-fn finish(s: &mut [u8], at: Place) -> Result<usize, ListingError>
-    ensures { Finishes s.old at s.new result }
-{
-    space::clear_from(s, at.unwrap_or(0));
-    at.ok_or(ListingError::Short)
+    // Puts a number in decimal behind the text.
+    fn put_decimal(&mut self, n: u64)
+        ensures { Puts self.old (decimal n) self.new }
+    {
+        if n < 10 {
+            self.put_byte(48 + n as u8);
+            return;
+        }
+        self.put_decimal(n / 10);
+        self.put_byte(48 + (n % 10) as u8);
+    }
+
+    // Puts a word and a number in decimal behind the text.
+    fn put_field(&mut self, word: &[u8], n: u64)
+        ensures { Puts self.old (word.now ++ decimal n) self.new }
+    {
+        self.put_bytes(word);
+        self.put_decimal(n);
+    }
+
+    // Puts the last `count` hexadecimal digits of a number behind the text, as many as the number has places.
+    fn put_hex(&mut self, n: u64, count: usize)
+        ensures { Puts self.old (digits 16 count n) self.new }
+    {
+        if count == 0 {
+            return;
+        }
+        self.put_hex(n / 16, count - 1);
+        self.put_byte(glyph(n % 16));
+    }
+
+    // Puts a blank and the hexadecimal digits of a float's bits behind the text, without closing zeros. The loop is no
+    // `for` over an index: it ends at the first digit from behind that is not 0.
+    fn put_float(&mut self, x: f64)
+        ensures { Puts self.old (32 ∷ float x) self.new }
+    {
+        let mut bits = floats::bits_of(x);
+        let mut count = 16;
+        while (1 < count) & (bits % 16 == 0) {
+            bits /= 16;
+            count -= 1;
+        }
+        self.put_byte(b' ');
+        self.put_hex(bits, count);
+    }
+
+    // Puts a node's line behind the text.
+    fn put_line(&mut self, i: usize, node: EstTime)
+        ensures { Puts self.old (line i node) self.new }
+    {
+        self.put_decimal(i as u64);
+        self.put_byte(b' ');
+        self.put_byte(letter(node.link_event.est_type));
+        self.put_field(b" ", node.link_event.link_idx as u64);
+        self.put_field(b" ", node.idx_next as u64);
+        self.put_field(b" ", node.idx_next_alt as u64);
+        self.put_field(b" ", node.idx_prev as u64);
+        self.put_field(b" ", node.idx_prev_alt as u64);
+        self.put_float(node.time_sched);
+        self.put_float(node.time_to_next);
+        self.put_float(node.dist_to_next);
+        self.put_float(node.speed);
+        self.put_byte(b'\n');
+    }
+
+    // Puts the lines of the first n nodes behind the text: as many as the report says, which may be fewer than the
+    // slices hold.
+    fn put_lines(&mut self, floats: &[f64], numbers: &[u32], n: usize)
+        requires { n ≤ filled (length floats.now) (length numbers.now) }
+        ensures { Puts self.old (lines (node_at floats.now numbers.now) n) self.new }
+    {
+        for i in 0..n {
+            self.put_line(i, net_node::load(floats, numbers, i));
+        }
+    }
+
+    // Puts a report's line behind the text.
+    fn put_head(&mut self, report: Report)
+        ensures { Puts self.old (head report) self.new }
+    {
+        self.put_field(b"nodes ", report.nodes as u64);
+        self.put_field(b" added ", report.added as u64);
+        self.put_field(b" splits ", report.splits as u64);
+        self.put_field(b" joined ", report.joined as u64);
+        self.put_field(b" finished ", report.finished as u64);
+        self.put_byte(b'\n');
+    }
+
+    // Makes zero what lies behind the text, or everything if it has not fitted: how long the text is.
+    fn finish(self) -> Result<usize, ListingError>
+        ensures { Finishes self.entry self.exit.0.now result }
+    {
+        let Text { out, at } = self;
+        space::clear_from(out, at.unwrap_or(0));
+        at.ok_or(ListingError::Short)
+    }
 }
 
 // Lists a sheet: its report, then as many nodes as that says. A slice that is too short is left zero, and so is one for
@@ -201,16 +209,18 @@ pub fn list_sheet(
         Zero::clear(out);
         return Err(ListingError::Unfilled);
     }
-    let to = put_head(out, Some(0), report);
-    let end = put_lines(out, to, floats, numbers, n);
-    finish(out, end)
+    let mut text = Text { out, at: Some(0) };
+    text.put_head(report);
+    text.put_lines(floats, numbers, n);
+    text.finish()
 }
 
 // Lists a refusal.
 pub fn list_refused(refusal: Refusal, out: &mut [u8]) -> Result<usize, ListingError>
     ensures { TextListed (some (refused_text (refusal_number refusal))) out.old out.new result }
 {
-    let to = put_count(out, Some(0), b"refused ", u32::from(refusal) as u64);
-    let end = put_byte(out, to, b'\n');
-    finish(out, end)
+    let mut text = Text { out, at: Some(0) };
+    text.put_field(b"refused ", u32::from(refusal) as u64);
+    text.put_byte(b'\n');
+    text.finish()
 }

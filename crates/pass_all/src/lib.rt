@@ -6,12 +6,13 @@ ghost use Rattle.std.specs.Prelude.{◌≡◌, ◌*◌, ◌≤◌, length};
 ghost use Rattle.laws.specs.Answer.{number_of};
 ghost use Rattle.refusals.specs.Refusals.{told};
 ghost use Rattle.space.specs.Space.{zeros};
-ghost use Rattle.net_node.specs.Table.{node_at, Room};
+ghost use Rattle.net_node.specs.Table.{Room};
 ghost use Rattle.net_node.specs.Lent.{table_at_entry, table_at_exit, table_seen};
-ghost use Rattle.pass_rules.specs.Walks.{Inside, done_in};
+ghost use Rattle.pass_rules.specs.Walks.{Linked, table_of, done_in};
 ghost use Rattle.pass_rules.specs.Passes.{some_left, all_zero, passes};
 ghost use Rattle.pass_all.specs.Answers.{TimedAs};
 
+use pass_rules::LinkedNodes;
 use refusals::Refusal;
 
 // Row 15: whether a pass has left a node out. A node is done whose flag is set. All flags are looked at, whatever is
@@ -50,17 +51,21 @@ pub fn run_passes(
     cells: &mut [u32],
     marks: &mut [u32],
 ) -> Result<(), Refusal>
-    requires room { Room floats.old numbers.old n }
-    requires inside { Inside (node_at floats.old numbers.old) n }
-    requires le_n { 3 ≤ n }
-    requires n_in_bounds { n * 2 ≤ length reals.old }
-    requires n_in_bounds_2 { n * 2 ≤ length cells.old }
-    requires n_in_bounds_3 { n ≤ length marks.old }
-    requires cells_value { cells.old ≡ zeros (length cells.old) }
+    requires linked { Linked (table_of floats.old numbers.old) n }
+    requires three_nodes { 3 ≤ n }
+    requires times_room { n * 2 ≤ length reals.old }
+    requires nodes_room { n ≤ length marks.old }
+    requires flags_room { n * 2 ≤ length cells.old }
+    requires cells_zero { cells.old ≡ zeros (length cells.old) }
     ensures { TimedAs (passes (table_at_entry floats numbers) n departure) (number_of (told result))
         (table_at_exit floats numbers) }
 {
-    if pass_rules::checks_fail(floats, numbers, n) {
+    let nodes = LinkedNodes {
+        floats,
+        numbers,
+        count: n,
+    };
+    if nodes.checks_fail() {
         return Err(Refusal::BadLinks);
     }
     let (timed, passed) = cells[..n * 2].split_at_mut(n);

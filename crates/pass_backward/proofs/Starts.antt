@@ -8,14 +8,12 @@ use lib.Dec.{eqb}
 use lib.ListN.{length, set}
 use lib.Ieee.{Float, binary64, of_bits, is_nan}
 use Rattle.std.specs.Prelude.{Some, None}
-use Rattle.net_node.specs.Table.{node_at, Room}
 use Rattle.pass_queue.specs.declared.Entry.{Entry}
 use Rattle.pass_rules.specs.Net.{Pass, also_done}
-use Rattle.pass_rules.specs.Walks.{Inside, done_in}
+use Rattle.pass_rules.specs.Walks.{table_of, done_in}
 use Rattle.pass_rules.specs.Backward.{turns, last_two, backward}
-use Rattle.pass_state.specs.Held.{slices, PassIn, EnqueuedAs}
+use Rattle.pass_state.specs.Held.{slices, PassIn, EnqueuedAs, Unbegun}
 use Rattle.pass_state.proofs.Left.{done_other}
-use Rattle.pass_rules.proofs.Sets.{table_of}
 use Rattle.pass_state.proofs.Kept.{flagged_at, in_start, queued_in, in_flag_new}
 
 abbrev pub last_of : ℕ → Entry
@@ -48,17 +46,18 @@ module _ (fs : List Float) (us flags : List ℕ) (n : ℕ) where
   abbrev pub started : Pass
   started = flagged_at (flagged_at (record { table = table_of fs us; done = done_in flags; queue = last_of n ∷ [] }) (n - 2)) (n - 1)
 
-  module _ (f : (i : ℕ) → done_in flags i ≡ false) where
+  module _ {ts : List Float} {ns : List ℕ} (u : Unbegun (slices fs us flags ts ns) n) where
     pub start_is : backward (table_of fs us) n ≡ turns n n started.table started.done started.queue
     unfolding backward
-    start_is = ap (λ (d : ℕ → Bool). turns n n (table_of fs us) d (last_of n ∷ [])) (sym (last_two_lem (done_in flags) n f))
+    start_is = ap (λ (d : ℕ → Bool). turns n n (table_of fs us) d (last_of n ∷ [])) (sym (last_two_lem (done_in flags) n u.unset))
 
-    pub start_in : {ts ts' : List Float} {ns ns' : List ℕ} {count : ℕ} → EnqueuedAs true ts ns ts' ns' 0 (last_of n) (Some count)
-        → Room fs us n → Inside (node_at fs us) n → 3 ≤ n → n ≤ length flags → n * 2 ≤ length ts → n ≤ length ns → length ts ≡ length ts' → length ns ≡ length ns'
+    pub start_in : {ts' : List Float} {ns' : List ℕ} {count : ℕ} → EnqueuedAs true ts ns ts' ns' 0 (last_of n) (Some count)
+        → length ts ≡ length ts' → length ns ≡ length ns'
         → PassIn true n (slices fs us (set (set flags (n - 2) 1) (n - 1) 1) ts' ns') count (n - 1) started
-    start_in {ts} {ts'} {ns} {ns'} {count} q room inside three l lts lns lt ln =
-        let v0 = in_start true n (slices fs us flags ts ns) room inside l lts lns in
+    start_in {ts'} {ns'} {count} q lt ln =
+        let three : 3 ≤ n = u.three in
+        let v0 = in_start true n (slices fs us flags ts ns) u in
         let v1 = queued_in v0 (last_of n) (omega arith) q lt ln (n + 1) (omega arith) in
-        let v2 = in_flag_new v1 (n - 2) (omega arith) (set flags (n - 2) 1) refl (f (n - 2)) n (omega arith) in
-        let un : also_done (done_in flags) (n - 2) (n - 1) ≡ false = done_other (done_in flags) (n - 2) (n - 1) (λ (o : n - 1 ≡ n - 2). omega arith) ∙ f (n - 1) in
+        let v2 = in_flag_new v1 (n - 2) (omega arith) (set flags (n - 2) 1) refl (u.unset (n - 2)) n (omega arith) in
+        let un : also_done (done_in flags) (n - 2) (n - 1) ≡ false = done_other (done_in flags) (n - 2) (n - 1) (λ (o : n - 1 ≡ n - 2). omega arith) ∙ u.unset (n - 1) in
         in_flag_new v2 (n - 1) (omega arith) (set (set flags (n - 2) 1) (n - 1) 1) refl un (n - 1) (omega arith)

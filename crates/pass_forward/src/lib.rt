@@ -2,10 +2,8 @@
 // specs/Promises.antt.
 #![tactic(auto)]
 
-ghost use Rattle.std.specs.Prelude.{◌≡◌, false, ℕ, ◌*◌, ◌≤◌, length};
-ghost use Rattle.net_node.specs.Table.{node_at, Room};
-ghost use Rattle.pass_rules.specs.Walks.{Inside, done_in};
 ghost use Rattle.pass_rules.specs.Forward.{forward};
+ghost use Rattle.pass_state.specs.Held.{slices, Unbegun};
 ghost use Rattle.pass_state.specs.Promises.{PassEnds};
 
 use pass_queue::{Entry, Forward};
@@ -21,13 +19,7 @@ pub fn update_times_forward(
     times: &mut [f64],
     nodes: &mut [u32],
 ) -> Option<()>
-    requires room { Room floats.old numbers.old n }
-    requires inside { Inside (node_at floats.old numbers.old) n }
-    requires le_n { 3 ≤ n }
-    requires n_in_bounds { n ≤ length flags.old }
-    requires by_index { (i : ℕ) → done_in flags.old i ≡ false }
-    requires n_in_bounds_2 { n * 2 ≤ length times.old }
-    requires n_in_bounds_3 { n ≤ length nodes.old }
+    requires { Unbegun (slices floats.old numbers.old flags.old times.old nodes.old) n }
     ensures { PassEnds floats numbers flags n (λ t. forward t n departure) result }
 {
     let e = Entry {

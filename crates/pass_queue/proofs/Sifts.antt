@@ -8,7 +8,7 @@ use native.Mathlib.Omega.{arith}
 use lib.ListN.{length}
 use lib.Ieee.{Float}
 use Rattle.pass_queue.specs.declared.Entry.{Entry}
-use Rattle.pass_queue.specs.Queue.{before, Ordered, best, others, slot, times_in, Holds}
+use Rattle.pass_queue.specs.Queue.{before, Ordered, best, others, slot, HeapRoom, times_in, Holds}
 use Rattle.pass_queue.specs.Slots.{put_times, put_nodes, BestChild}
 use Rattle.pass_queue.proofs.Orders.{before_laws}
 use Rattle.pass_queue.proofs.Kept.{each_kept, length_others, holds_none}
@@ -74,14 +74,14 @@ module _ (backward : Bool) (ts₀ : List Float) (ns₀ : List ℕ) (n : ℕ) (e 
           let s : total (counted x) (slot ts₀ ns₀) n ≡ times_in x es = (held_heap backward ts₀ ns₀ n es v).same x in
           omega (arith, total_one (counted x) (slot ts₀ ns₀) n)
 
-  module _ {ts : List Float} {ns : List ℕ} {i : ℕ} (v : Rising backward ts₀ ns₀ n e ts ns i) (room : (n + 1) * 2 ≤ length ts₀) (names : n < length ns₀) where
+  module _ {ts : List Float} {ns : List ℕ} {i : ℕ} (v : Rising backward ts₀ ns₀ n e ts ns i) (room : HeapRoom ts₀ ns₀ (n + 1)) where
     -- e is put where the hole is
     pub rising_put : Under Ordered (before backward) counted e (slot ts ns) i → (es : List Entry) → Holds backward ts₀ ns₀ n es → Holds backward (put_times ts i e) (put_nodes ns i e) (n + 1) (e ∷ es)
     rising_put under es w =
         let r = v.held es w in
         let l : i ≤ n = v.within in
         heap_held backward (put_times ts i e) (put_nodes ns i e) (n + 1) (e ∷ es)
-        (filled Ordered (before backward) counted (before_laws backward) r.0 (slot (put_times ts i e) (put_nodes ns i e)) (put_here ts ns i e (omega (arith, v.times)) (omega (arith, v.nodes))) (put_other ts ns i e) r.1 under)
+        (filled Ordered (before backward) counted (before_laws backward) r.0 (slot (put_times ts i e) (put_nodes ns i e)) (put_here ts ns i e (omega (arith, v.times, room.times)) (omega (arith, v.nodes, room.nodes))) (put_other ts ns i e) r.1 under)
         (r.0.entry, w.listed) (omega (arith, w.many))
 
     pub rising_top : i ≤ 0 → (es : List Entry) → Holds backward ts₀ ns₀ n es → Holds backward (put_times ts i e) (put_nodes ns i e) (n + 1) (e ∷ es)
@@ -101,8 +101,8 @@ module _ (backward : Bool) (ts₀ : List Float) (ns₀ : List ℕ) (n : ℕ) (e 
       pub rising_on : before backward e x ≡ true → (ts' : List Float) (ns' : List ℕ) → ts' ≡ put_times ts i x → ns' ≡ put_nodes ns i x → Rising backward ts₀ ns₀ n e ts' ns' p
       rising_on h ts' ns' f g =
           let l : i ≤ n = v.within in
-          let a : i * 2 + 2 ≤ length ts = omega (arith, v.times) in
-          let b : i < length ns = omega (arith, v.nodes) in
+          let a : i * 2 + 2 ≤ length ts = omega (arith, v.times, room.times) in
+          let b : i < length ns = omega (arith, v.nodes, room.nodes) in
           let c : p < n + 1 = omega (arith, over) in
           let d : p ≢ i = λ (z : p ≡ i). omega (arith, over) in
           let put : slot ts' ns' i ≡ slot ts ns p = written ts ns i x a b ts' ns' f g ∙ loaded in
@@ -155,7 +155,7 @@ module _ (backward : Bool) (ts₀ : List Float) (ns₀ : List ℕ) (n : ℕ) (e 
           let c : counted y e ≡ counted y (slot ts₀ ns₀ n) = ap (counted y) l in
           omega (arith, total_one (counted y) (slot ts₀ ns₀) n)
 
-  module _ {ts : List Float} {ns : List ℕ} {i : ℕ} (v : Sinking backward ts₀ ns₀ n e ts ns i) (room : (n + 1) * 2 ≤ length ts₀) (names : n < length ns₀) where
+  module _ {ts : List Float} {ns : List ℕ} {i : ℕ} (v : Sinking backward ts₀ ns₀ n e ts ns i) (room : HeapRoom ts₀ ns₀ (n + 1)) where
     abbrev Done : Type 0
     Done = (x : Entry) (es : List Entry) → Holds backward ts₀ ns₀ (n + 1) (x ∷ es) → Holds backward (put_times ts i e) (put_nodes ns i e) n (others backward x es)
 
@@ -164,7 +164,7 @@ module _ (backward : Bool) (ts₀ : List Float) (ns₀ : List ℕ) (n : ℕ) (e 
         let r = v.held x es w in
         let l : i < n = v.within in
         heap_held backward (put_times ts i e) (put_nodes ns i e) n (others backward x es)
-        (filled Ordered (before backward) counted (before_laws backward) r.0 (slot (put_times ts i e) (put_nodes ns i e)) (put_here ts ns i e (omega (arith, v.times)) (omega (arith, v.nodes))) (put_other ts ns i e) (over x es w) r.1)
+        (filled Ordered (before backward) counted (before_laws backward) r.0 (slot (put_times ts i e) (put_nodes ns i e)) (put_here ts ns i e (omega (arith, v.times, room.times)) (omega (arith, v.nodes, room.nodes))) (put_other ts ns i e) (over x es w) r.1)
         (each_kept Ordered backward x es w.listed).1 (omega (arith, w.many, length_others backward x es))
 
     pub sinking_end : n / 2 ≤ i → Done
@@ -178,8 +178,8 @@ module _ (backward : Bool) (ts₀ : List Float) (ns₀ : List ℕ) (n : ℕ) (e 
       pub sinking_on : before backward x e ≡ true → (ts' : List Float) (ns' : List ℕ) → ts' ≡ put_times ts i x → ns' ≡ put_nodes ns i x → Sinking backward ts₀ ns₀ n e ts' ns' k
       sinking_on h ts' ns' f g =
           let l : i < n = v.within in
-          let a : i * 2 + 2 ≤ length ts = omega (arith, v.times) in
-          let b : i < length ns = omega (arith, v.nodes) in
+          let a : i * 2 + 2 ≤ length ts = omega (arith, v.times, room.times) in
+          let b : i < length ns = omega (arith, v.nodes, room.nodes) in
           let d : k ≢ i = λ (z : k ≡ i). omega (arith, c.least) in
           let put : slot ts' ns' i ≡ slot ts ns k = written ts ns i x a b ts' ns' f g ∙ loaded in
           let same = kept ts ns i x a b ts' ns' f g in

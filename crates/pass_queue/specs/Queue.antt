@@ -1,7 +1,8 @@
 -- The queue of a time pass, the source's `BinaryHeap`. Document 01 under "Passes": "Forward takes the smaller time,
 -- ties the smaller index; backward the greatest by `EstTimePrev`'s `partial_cmp`": time, sub, index. The definition is
 -- a list, out of which the best entry is taken; where entries stand in it says nothing.
-use Rattle.std.specs.Prelude.{◌≡◌, Bool, true, false, ◌&&◌, cond, List, [], ◌∷◌, ℕ, zero, suc, ◌+◌, ◌-◌, ◌*◌, ◌≤◌, ◌<◌, T, ltb, eqb, length, get_or, Float}
+use Rattle.std.specs.Prelude.{◌≡◌, Bool, true, false, ◌&&◌, cond, List, [], ◌∷◌, ℕ, zero, suc, ◌+◌, ◌-◌, ◌*◌, ◌≤◌, ◌<◌}
+use Rattle.std.specs.Prelude.{T, ltb, eqb, length, get_or, Float}
 use Rattle.std.specs.declared.cmp.Ordering.{Ordering}
 use Rattle.std.specs.declared.cmp.Ordering.TheVariants.{Less, Equal, Greater}
 use Rattle.std.specs.Float.{nan, binary64}
@@ -80,6 +81,12 @@ others backward e (x ∷ xs) = worse backward e x ∷ others backward (better ba
 -- the entry in slot i: its time and sub in the one slice, its node in the other
 unfoldable pub slot : List Float → List ℕ → ℕ → Entry
 slot ts ns i = record { time = get_or ts (i * 2) nan; sub = get_or ts (i * 2 + 1) nan; node = get_or ns i 0 }
+
+-- Both slices have room for n entries. Stands in contracts of the heap's functions: the slices are lent, so no type
+-- holds them.
+pub record HeapRoom (ts : List Float) (ns : List ℕ) (n : ℕ) : Type 0 where
+  pub times : n * 2 ≤ length ts
+  pub nodes : n ≤ length ns
 
 -- how often an entry, by its bits, is among the first n slots, and in a list
 unfoldable pub same_entry : Entry → Entry → Bool

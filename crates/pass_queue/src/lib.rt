@@ -1,11 +1,13 @@
-// The queue of a time pass: a binary heap in lent slices, since there is no heap memory for std's BinaryHeap. Contracts:
-// specs/Queue.antt, specs/Slots.antt.
+// The queue of a time pass: a binary heap in the first n slots of lent slices. There is no heap memory for std's
+// BinaryHeap or a Vec of entries, and the slots behind the n are room to grow; a struct of both `&mut` and n would owe
+// each function two clauses more, that it leaves the same references behind. Contracts: specs/Queue.antt,
+// specs/Slots.antt.
 #![tactic(auto)]
 
 ghost use Rattle.std.specs.Prelude.{◌≡◌, Bool, true, false, ◌+◌, ◌*◌, ◌-◌, ◌≤◌, ◌<◌, length};
 ghost use Rattle.std.specs.Ordering.{is_lt};
 ghost use Rattle.std.specs.Float.Ieee.{lt};
-ghost use Rattle.pass_queue.specs.Queue.{order_by, by_bits, before, Ordered, slot, Added};
+ghost use Rattle.pass_queue.specs.Queue.{order_by, by_bits, before, Ordered, slot, HeapRoom, Added};
 ghost use Rattle.pass_queue.specs.Queue.{Dropped, TakenOut};
 ghost use Rattle.pass_queue.specs.Slots.{put_times, put_nodes, BestChild};
 
@@ -77,8 +79,7 @@ impl Order for Backward {
 // The entry in slot i.
 #[tactic(auto, unfolding(crate::specs::Queue::slot))]
 fn entry_at(times: &[f64], nodes: &[u32], i: usize) -> Entry
-    requires i_in_bounds { i * 2 + 2 ≤ length times.now }
-    requires i_in_bounds_2 { i < length nodes.now }
+    requires { HeapRoom times.now nodes.now (i + 1) }
     ensures { result ≡ slot times.now nodes.now i }
 {
     let at = i * 2;
@@ -92,8 +93,7 @@ fn entry_at(times: &[f64], nodes: &[u32], i: usize) -> Entry
 // Puts an entry into slot i.
 #[tactic(auto, unfolding(crate::specs::Slots::put_times, crate::specs::Slots::put_nodes))]
 fn put_entry(times: &mut [f64], nodes: &mut [u32], i: usize, e: Entry)
-    requires i_in_bounds { i * 2 + 2 ≤ length times.old }
-    requires i_in_bounds_2 { i < length nodes.old }
+    requires { HeapRoom times.old nodes.old (i + 1) }
     ensures times { times.new ≡ put_times times.old i e }
     ensures nodes { nodes.new ≡ put_nodes nodes.old i e }
 {
@@ -105,8 +105,7 @@ fn put_entry(times: &mut [f64], nodes: &mut [u32], i: usize, e: Entry)
 
 // Moves a hole from slot n up to where e may stand.
 fn rise<O: Order>(times: &mut [f64], nodes: &mut [u32], n: usize, e: Entry) -> usize
-    requires n_in_bounds { (n + 1) * 2 ≤ length times.old }
-    requires n_in_bounds_2 { n < length nodes.old }
+    requires room { HeapRoom times.old nodes.old (n + 1) }
     requires ordered { Ordered e }
     ensures within { result ≤ n }
     ensures held { Added O.backward times.old nodes.old (put_times times.new result e)
@@ -127,8 +126,7 @@ fn rise<O: Order>(times: &mut [f64], nodes: &mut [u32], n: usize, e: Entry) -> u
 
 // Puts an entry into a heap of n.
 pub fn push<O: Order>(times: &mut [f64], nodes: &mut [u32], n: usize, e: Entry)
-    requires n_in_bounds { (n + 1) * 2 ≤ length times.old }
-    requires n_in_bounds_2 { n < length nodes.old }
+    requires room { HeapRoom times.old nodes.old (n + 1) }
     requires ordered { Ordered e }
     ensures { Added O.backward times.old nodes.old times.new
         nodes.new n e }
@@ -139,9 +137,8 @@ pub fn push<O: Order>(times: &mut [f64], nodes: &mut [u32], n: usize, e: Entry)
 
 // The one of the slots below slot i that is taken first.
 fn best_child<O: Order>(times: &[f64], nodes: &[u32], n: usize, i: usize) -> usize
-    requires n_in_bounds { n * 2 ≤ length times.now }
-    requires n_in_bounds_2 { n ≤ length nodes.now }
-    requires i_bound { i * 2 + 1 < n }
+    requires room { HeapRoom times.now nodes.now n }
+    requires has_child { i * 2 + 1 < n }
     ensures { BestChild O.backward times.now nodes.now n i result }
 {
     let left = i * 2 + 1;
@@ -160,9 +157,8 @@ fn best_child<O: Order>(times: &[f64], nodes: &[u32], n: usize, i: usize) -> usi
 // Moves a hole from the top down to where e, the entry behind the first n, may stand.
 fn sink<O: Order>(times: &mut [f64], nodes: &mut [u32], n: usize, e: Entry) -> usize
     requires n_nonzero { 0 < n }
-    requires n_in_bounds { (n + 1) * 2 ≤ length times.old }
-    requires n_in_bounds_2 { n < length nodes.old }
-    requires e_value { e ≡ slot times.old nodes.old n }
+    requires room { HeapRoom times.old nodes.old (n + 1) }
+    requires behind { e ≡ slot times.old nodes.old n }
     ensures within { result < n }
     ensures held { Dropped O.backward times.old nodes.old (put_times times.new result e)
         (put_nodes nodes.new result e) n }
@@ -183,8 +179,7 @@ fn sink<O: Order>(times: &mut [f64], nodes: &mut [u32], n: usize, e: Entry) -> u
 // Takes the best entry out of a heap of n.
 pub fn pop<O: Order>(times: &mut [f64], nodes: &mut [u32], n: usize) -> Entry
     requires n_nonzero { 0 < n }
-    requires n_in_bounds { n * 2 ≤ length times.old }
-    requires n_in_bounds_2 { n ≤ length nodes.old }
+    requires room { HeapRoom times.old nodes.old n }
     ensures { TakenOut O.backward times.old nodes.old times.new nodes.new
         n result }
 {

@@ -7,10 +7,7 @@ use Rattle.net_node.specs.declared.EstTime.{EstTime}
 use Rattle.net_node.specs.Table.{node_at, Table, at, set_next, set_prev, set_arc}
 use Rattle.pass_rules.specs.Forward.{swap_join}
 use Rattle.pass_rules.specs.Backward.{swap_split}
-use Rattle.pass_rules.specs.Walks.{Inside}
-
-abbrev pub table_of : List Float → List ℕ → Table
-table_of fs us = record { floats = fs; numbers = us }
+use Rattle.pass_rules.specs.Walks.{Inside, table_of}
 
 abbrev pub Holds : List Float → List ℕ → Table → Type 0
 Holds fs us t = (fs ≡ t.floats) × (us ≡ t.numbers)

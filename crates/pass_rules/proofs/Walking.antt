@@ -11,10 +11,10 @@ use Rattle.net_node.specs.declared.EstTime.{EstTime}
 use Rattle.net_node.specs.Table.{node_at, Table, at, is_fake}
 use Rattle.laws.specs.Answer.{Answer, refused, given}
 use Rattle.pass_rules.specs.Net.{Pass}
-use Rattle.pass_rules.specs.Walks.{Inside, done_in, pass_of, ahead, end_of, passable, relink_walk}
+use Rattle.pass_rules.specs.Walks.{Inside, table_of, done_in, pass_of, ahead, end_of, passable, relink_walk}
 use Rattle.pass_rules.specs.Forward as Forward
 use Rattle.pass_rules.specs.Backward as Backward
-use Rattle.pass_rules.proofs.Sets.{table_of, next_inside, prev_inside}
+use Rattle.pass_rules.proofs.Sets.{next_inside, prev_inside}
 
 -- ---- a turn
 

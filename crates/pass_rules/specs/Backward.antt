@@ -166,4 +166,5 @@ last_two n i = eqb i (n - 1) || eqb i (n - 2)
 -- the last two nodes are passed, and the one before the last is in the queue
 unfoldable pub backward : Table → ℕ → Answer Pass
 unfolding turns last_two
-backward t n = turns n n t (last_two n) (record { time = of_bits binary64 0; sub = of_bits binary64 0; node = n - 2 } ∷ [])
+backward t n = turns n n t (last_two n)
+    (record { time = of_bits binary64 0; sub = of_bits binary64 0; node = n - 2 } ∷ [])

@@ -5,3 +5,4 @@ pub mod Backward
 pub mod Passes
 pub mod Walks
 pub mod Plain
+pub mod Held

@@ -1,6 +1,6 @@
 -- What the code of the relink walks answers, and what it asks of a network. Only contracts use these words.
-use Rattle.std.specs.Prelude.{◌≡◌, Bool, true, false, List, [], ℕ, ◌-◌, ◌<◌, ltb, get_or, Option, Some, None}
-use Rattle.net_node.specs.Table.{Table}
+use Rattle.std.specs.Prelude.{◌≡◌, Bool, true, false, List, [], ℕ, ◌-◌, ◌<◌, ltb, get_or, Float, Option, Some, None}
+use Rattle.net_node.specs.Table.{Table, Room, node_at}
 use Rattle.net_node.specs.declared.EstTime.{EstTime}
 use Rattle.laws.specs.Answer.{Answer, given}
 use Rattle.pass_rules.specs.Net.{failed, Pass}
@@ -13,6 +13,16 @@ pub record Inside (node : ℕ → EstTime) (n : ℕ) : Type 0 where
   pub next_alt : (i : ℕ) → i < n → (node i).idx_next_alt < n
   pub prev : (i : ℕ) → i < n → (node i).idx_prev < n
   pub prev_alt : (i : ℕ) → i < n → (node i).idx_prev_alt < n
+
+-- a table of two slices
+abbrev pub table_of : List Float → List ℕ → Table
+table_of fs us = record { floats = fs; numbers = us }
+
+-- A table with room for n nodes whose indices name nodes. Stands in contracts where the table is lent to be written:
+-- the type `LinkedNodes` holds it where it is only read.
+pub record Linked (t : Table) (n : ℕ) : Type 0 where
+  pub room : Room t.floats t.numbers n
+  pub inside : Inside (node_at t.floats t.numbers) n
 
 -- whether a node is done (timed forward, passed backward): its flag is set
 unfoldable pub done_in : List ℕ → ℕ → Bool

@@ -2,15 +2,25 @@
 #![tactic(auto)]
 
 ghost use Rattle.std.specs.Prelude.{◌≡◌, not, ◌&&◌, ◌+◌, ◌-◌, ◌≤◌, ◌<◌, length};
-ghost use Rattle.net_node.specs.Table.{node_at, Room};
-ghost use Rattle.net_node.specs.Lent.{table_at_entry, table_seen};
+ghost use Rattle.std.proofs.Props.{props};
+ghost use Rattle.net_node.specs.Lent.{table_at_entry};
 ghost use Rattle.pass_rules.specs.Checks.{prev_holds, next_holds, fake_holds, node_holds, row14};
 ghost use Rattle.pass_rules.specs.Plain.{plain, neighbours_hold};
-ghost use Rattle.pass_rules.specs.Walks.{Inside, done_in, pass_of, ahead, ahead_alt, behind_alt, end_of, swap};
-ghost use Rattle.pass_rules.specs.Walks.{passable, RelinkWalk};
+ghost use Rattle.pass_rules.specs.Walks.{Linked, table_of, done_in, pass_of, ahead, ahead_alt, behind_alt, end_of};
+ghost use Rattle.pass_rules.specs.Walks.{swap, passable, RelinkWalk};
 
 use net_node::EstTime;
 use pass_queue::{Backward, Forward, Order};
+
+// The nodes of a network that is only read, the first `count` of a table: what row 5 leaves. Each method with an index
+// asks that it be below `count`: indices are plain numbers, which other nodes hold.
+#[derive(Clone, Copy)]
+pub struct LinkedNodes<'a> {
+    pub floats: &'a [f64],
+    pub numbers: &'a [u32],
+    pub count: usize,
+    ghost linked: { Linked (table_of floats.now numbers.now) count } by { Prim.hlevel props },
+}
 
 // Along which links a pass goes, and how it links a node and the join or split that it reaches.
 pub trait Links: Order {
@@ -33,8 +43,7 @@ pub trait Links: Order {
 
     // A node exchanges links with the base of the join or split that is reached.
     fn swap(floats: &mut [f64], numbers: &mut [u32], n: usize, curr: u32, save: u32, found: u32)
-        requires room { Room floats.old numbers.old n }
-        requires inside { Inside (node_at floats.old numbers.old) n }
+        requires linked { Linked (table_of floats.old numbers.old) n }
         requires curr_lt_n { curr < n }
         requires save_lt_n { save < n }
         requires found_lt_n { found < n }
@@ -154,75 +163,74 @@ fn is_plain(here: EstTime, before: EstTime, after: EstTime, n: usize, i: usize) 
                             & (!(before.idx_next_alt as usize == i) & !here.is_fake()))))))
 }
 
-// Whether all checks of a node hold.
-fn node_holds(floats: &[f64], numbers: &[u32], n: usize, i: usize) -> bool
-    requires room { Room floats.now numbers.now n }
-    requires inside { Inside (node_at floats.now numbers.now) n }
-    requires i_lt_n { i < n }
-    ensures { result ≡ node_holds (node_at floats.now numbers.now) n i }
-{
-    let here = net_node::load(floats, numbers, i);
-    let before = net_node::load(floats, numbers, here.idx_prev as usize);
-    let after = net_node::load(floats, numbers, here.idx_next as usize);
-    if is_plain(here, before, after, n, i) {
-        return true;
-    }
-    let own = own_links_hold(here, n, i);
-    let near = neighbours_hold(before, after, n, i);
-    own & near
-}
+impl LinkedNodes<'_> {
+    ghost use Rattle.pass_rules.specs.Held.{table_held, nodes_held};
 
-// Row 14: whether a check of some node fails.
-pub fn checks_fail(floats: &[f64], numbers: &[u32], n: usize) -> bool
-    requires room { Room floats.now numbers.now n }
-    requires inside { Inside (node_at floats.now numbers.now) n }
-    ensures { result ≡ row14 (node_at floats.now numbers.now) n }
-{
-    for i in 0..n {
-        if !node_holds(floats, numbers, n, i) {
+    // The node of index i.
+    fn load(&self, i: u32) -> EstTime
+        requires { i < self.now.count }
+        ensures { result ≡ nodes_held self.now i }
+    {
+        net_node::load(self.floats, self.numbers, i as usize)
+    }
+
+    // Whether all checks of a node hold.
+    fn node_holds(&self, i: u32) -> bool
+        requires { i < self.now.count }
+        ensures { result ≡ node_holds (nodes_held self.now) self.now.count i }
+    {
+        let n = self.count;
+        let at = i as usize;
+        let here = self.load(i);
+        let before = self.load(here.idx_prev);
+        let after = self.load(here.idx_next);
+        if is_plain(here, before, after, n, at) {
             return true;
         }
+        let own = own_links_hold(here, n, at);
+        let near = neighbours_hold(before, after, n, at);
+        own & near
     }
-    false
-}
 
-// Whether a node is a Fake that leads to a node which is neither done nor the walk's end. A node is done (timed
-// forward, passed backward) whose flag is set.
-fn is_passable<L: Links>(floats: &[f64], numbers: &[u32], flags: &[u32], n: usize, i: u32) -> bool
-    requires room { Room floats.now numbers.now n }
-    requires inside { Inside (node_at floats.now numbers.now) n }
-    requires n_in_bounds { n ≤ length flags.now }
-    requires i_lt_n { i < n }
-    ensures { result ≡ passable L.backward (pass_of (table_seen floats numbers)
-        (done_in flags.now)) n i }
-{
-    let node = net_node::load(floats, numbers, i as usize);
-    let to = L::ahead(node) as usize;
-    let end = L::end_of(n);
-    let done = 0 < flags[to];
-    node.is_fake() & (!done & !(to == end))
-}
-
-// The relink walk of a pass: from node i along Fakes that lead to nodes which are neither done nor its end.
-pub fn relink_walk<L: Links>(
-    floats: &[f64],
-    numbers: &[u32],
-    flags: &[u32],
-    n: usize,
-    i: u32,
-) -> Option<u32>
-    requires room { Room floats.now numbers.now n }
-    requires inside { Inside (node_at floats.now numbers.now) n }
-    requires n_in_bounds { n ≤ length flags.now }
-    requires i_lt_n { i < n }
-    ensures { RelinkWalk L.backward (table_seen floats numbers) (done_in flags.now) n i result }
-{
-    let mut at = i;
-    for _ in 0..=n {
-        if !is_passable::<L>(floats, numbers, flags, n, at) {
-            return Some(at);
+    // Row 14: whether a check of some node fails.
+    pub fn checks_fail(&self) -> bool
+        ensures { result ≡ row14 (nodes_held self.now) self.now.count }
+    {
+        for i in 0..self.count as u32 {
+            if !self.node_holds(i) {
+                return true;
+            }
         }
-        at = L::ahead(net_node::load(floats, numbers, at as usize));
+        false
     }
-    None
+
+    // Whether a node is a Fake that leads to a node which is neither done nor the walk's end. A node is done (timed
+    // forward, passed backward) whose flag is set.
+    fn is_passable<L: Links>(&self, flags: &[u32], i: u32) -> bool
+        requires flags_room { self.now.count ≤ length flags.now }
+        requires i_lt_count { i < self.now.count }
+        ensures { result ≡ passable L.backward (pass_of (table_held self.now) (done_in flags.now)) self.now.count i }
+    {
+        let node = self.load(i);
+        let to = L::ahead(node) as usize;
+        let end = L::end_of(self.count);
+        let done = 0 < flags[to];
+        node.is_fake() & (!done & !(to == end))
+    }
+
+    // The relink walk of a pass: from node i along Fakes that lead to nodes which are neither done nor its end.
+    pub fn relink_walk<L: Links>(&self, flags: &[u32], i: u32) -> Option<u32>
+        requires flags_room { self.now.count ≤ length flags.now }
+        requires i_lt_count { i < self.now.count }
+        ensures { RelinkWalk L.backward (table_held self.now) (done_in flags.now) self.now.count i result }
+    {
+        let mut at = i;
+        for _ in 0..=self.count {
+            if !self.is_passable::<L>(flags, at) {
+                return Some(at);
+            }
+            at = L::ahead(self.load(at));
+        }
+        None
+    }
 }

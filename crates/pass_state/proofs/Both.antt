@@ -16,15 +16,14 @@ use Rattle.pass_queue.specs.declared.Entry.{Entry}
 use Rattle.pass_queue.specs.Queue.{best, others}
 use Rattle.laws.specs.Answer.{Answer, refused, given, and_then}
 use Rattle.pass_rules.specs.Net.{asserting, Pass}
-use Rattle.pass_rules.specs.Walks.{pass_of, ahead, ahead_alt, behind_alt, relink_walk, swap}
+use Rattle.pass_rules.specs.Walks.{Linked, table_of, pass_of, ahead, ahead_alt, behind_alt, relink_walk, swap}
 use Rattle.pass_rules.specs.Forward as Forward
 use Rattle.pass_rules.specs.Backward as Backward
-use Rattle.pass_rules.proofs.Sets.{table_of}
 use Rattle.pass_state.specs.Held.{PassSlices, slices, table_in, left, PassIn, PassAs, EnqueuedAs}
 use Rattle.pass_state.specs.Strands.{time_ahead, alternative_entry, end_entry, finished, finished_flags, At, standing, relinked, alternated_by, step, strand, settle, turn, turns, relinking, alternating}
 use Rattle.pass_state.specs.Promises.{stops_by}
 use Rattle.pass_state.proofs.Left.{left_kept}
-use Rattle.pass_state.proofs.Links.{Linked, Names, linked_join, linked_split}
+use Rattle.pass_state.proofs.Links.{Names, linked_join, linked_split}
 use Rattle.pass_state.proofs.Kept.{tabled, done_at_of, queueing, node_in, linked_in, in_done}
 use Rattle.pass_state.proofs.Relinks.{Relinker}
 use Rattle.pass_state.proofs.Steps.{Stepper, alternate_none, alternate_some}

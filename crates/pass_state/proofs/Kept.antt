@@ -9,18 +9,17 @@ use lib.ListN.{length, set, length-set}
 use lib.Ieee.{Float, is_nan}
 use Rattle.std.specs.Prelude.{Option, Some, None}
 use Rattle.net_node.specs.declared.EstTime.{EstTime}
-use Rattle.net_node.specs.Table.{node_at, Room, Table, at, set_time}
+use Rattle.net_node.specs.Table.{node_at, Table, at, set_time}
 use Rattle.pass_queue.specs.declared.Entry.{Entry}
 use Rattle.pass_queue.specs.Queue.{best, others, Each, Holds}
 use Rattle.pass_queue.proofs.Kept.{each_kept, holds_none}
 use Rattle.laws.specs.Answer.{Answer, given}
 use Rattle.pass_rules.specs.Net.{Pass, also_done}
-use Rattle.pass_rules.proofs.Sets.{table_of}
-use Rattle.pass_rules.specs.Walks.{Inside, done_in}
+use Rattle.pass_rules.specs.Walks.{Linked, table_of, done_in}
 use Rattle.pass_rules.specs.Backward.{queued}
-use Rattle.pass_state.specs.Held.{PassSlices, slices, table_in, left, PassIn, Working, PassBy, PassAs, EnqueuedAs}
+use Rattle.pass_state.specs.Held.{PassSlices, slices, table_in, left, PassIn, Working, PassBy, PassAs, EnqueuedAs, Unbegun}
 use Rattle.pass_state.proofs.Left.{left_most, left_kept, left_falls, flags_set}
-use Rattle.pass_state.proofs.Links.{Linked, linked_time}
+use Rattle.pass_state.proofs.Links.{linked_time}
 
 -- a pass with another table, with one more node done, with a node done at a time, and with another queue
 abbrev pub tabled : Pass → Table → Pass
@@ -43,14 +42,12 @@ module _ {backward : Bool} {n : ℕ} {held : PassSlices} {count most : ℕ} {p :
   pub in_more : (more : ℕ) → most ≤ more → PassIn backward n held count more p
   in_more more h = record {
     table = v.table;
-    room = v.room;
-    inside = v.inside;
+    linked = v.linked;
     flags = v.flags;
     done = v.done;
     queue = v.queue;
     named = v.named;
-    times = v.times;
-    nodes = v.nodes;
+    room = v.room;
     few = omega (arith, v.few);
   }
 
@@ -64,8 +61,7 @@ module _ {backward : Bool} {n : ℕ} {held : PassSlices} {count most : ℕ} {p :
   done_in_lem i r e = ap (λ (f : ℕ → Bool). f i) v.done ∙ sym e
 
   pub linked_in : Linked p.table n
-  unfolding at
-  linked_in = subst (λ (t : Table). Linked t n) (sym v.table) (record { room = v.room; inside = v.inside })
+  linked_in = subst (λ (t : Table). Linked t n) (sym v.table) v.linked
 
   -- ---- the table
 
@@ -76,14 +72,12 @@ module _ {backward : Bool} {n : ℕ} {held : PassSlices} {count most : ℕ} {p :
       let l' : Linked (table_of gs vs) n = subst (λ (s : Table). Linked s n) e l in
       record {
         table = e;
-        room = l'.room;
-        inside = l'.inside;
+        linked = l';
         flags = v.flags;
         done = v.done;
         queue = v.queue;
         named = v.named;
-        times = v.times;
-        nodes = v.nodes;
+        room = v.room;
         few = v.few;
       }
 
@@ -95,14 +89,12 @@ module _ {backward : Bool} {n : ℕ} {held : PassSlices} {count most : ℕ} {p :
       let within : i < length held.flags = omega (arith, v.flags) in
       record {
         table = v.table;
-        room = v.room;
-        inside = v.inside;
+        linked = v.linked;
         flags = let l = ap length e ∙ length-set held.flags i 1 in omega (arith, v.flags);
         done = ap (λ (f : ℕ → Bool). also_done f i) v.done ∙ sym (flags_set held.flags i within) ∙ ap (λ (l : List ℕ). done_in l) (sym e);
         queue = v.queue;
         named = v.named;
-        times = v.times;
-        nodes = v.nodes;
+        room = v.room;
         few = few;
       }
 
@@ -128,14 +120,12 @@ module _ {backward : Bool} {n : ℕ} {held : PassSlices} {count most : ℕ} {p :
       → PassIn backward n (slices held.floats held.numbers held.flags ts' ns') (count + 1) more (queueing p (e ∷ p.queue))
   in_queue e h ts' ns' q lt ln more m = record {
     table = v.table;
-    room = v.room;
-    inside = v.inside;
+    linked = v.linked;
     flags = v.flags;
     done = v.done;
     queue = q;
     named = (h, v.named);
-    times = omega (arith, v.times);
-    nodes = omega (arith, v.nodes);
+    room = record { times = omega (arith, v.room.times); nodes = omega (arith, v.room.nodes) };
     few = omega (arith, v.few);
   }
 
@@ -166,14 +156,12 @@ module _ {backward : Bool} {n : ℕ} {held : PassSlices} {count most : ℕ} {p :
             within = subst (λ (y : Entry). y.node < n) (sym t.0) k.0;
             holds = record {
               table = v.table;
-              room = v.room;
-              inside = v.inside;
+              linked = v.linked;
               flags = v.flags;
               done = v.done;
               queue = t.1;
               named = k.1;
-              times = omega (arith, v.times);
-              nodes = omega (arith, v.nodes);
+              room = record { times = omega (arith, v.room.times); nodes = omega (arith, v.room.nodes) };
               few = omega (arith, v.few);
             };
           }
@@ -197,18 +185,15 @@ module _ {backward : Bool} {n : ℕ} {held : PassSlices} {count most : ℕ} {p :
 
 -- ---- the start: nothing is queued yet
 
-pub in_start : (backward : Bool) (n : ℕ) (held : PassSlices) → Room held.floats held.numbers n → Inside (node_at held.floats held.numbers) n → n ≤ length held.flags → n * 2 ≤ length held.times → n ≤ length held.nodes
-    → PassIn backward n held 0 n (record { table = table_in held; done = done_in held.flags; queue = [] })
-in_start backward n held r i f t m = record {
+pub in_start : (backward : Bool) (n : ℕ) (held : PassSlices) → Unbegun held n → PassIn backward n held 0 n (record { table = table_in held; done = done_in held.flags; queue = [] })
+in_start backward n held u = record {
   table = refl;
-  room = r;
-  inside = i;
-  flags = f;
+  linked = u.linked;
+  flags = u.flags;
   done = refl;
   queue = holds_none backward held.times held.nodes;
   named = tt;
-  times = t;
-  nodes = m;
+  room = u.room;
   few = omega (arith, left_most (done_in held.flags) n);
 }
 

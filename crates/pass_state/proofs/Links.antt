@@ -6,17 +6,11 @@ use Prim.Native.Nat.{ℕ, ◌<◌}
 use lib.Ieee.{Float}
 use Rattle.laws.proofs.Truth.{equal_or_not}
 use Rattle.net_node.proofs.Sets.{Changed, time_set, next_set, prev_set, arc_set}
-use Rattle.net_node.proofs.Tables.{RoomIn}
 use Rattle.net_node.specs.declared.EstTime.{EstTime}
 use Rattle.net_node.specs.Table.{node_at, Table, at, set_time, set_next, set_prev, set_arc, with_time, with_next, with_prev, with_arc}
-use Rattle.pass_rules.specs.Walks.{Inside}
+use Rattle.pass_rules.specs.Walks.{Inside, Linked}
 use Rattle.pass_rules.specs.Forward.{swap_join}
 use Rattle.pass_rules.specs.Backward.{swap_split}
-
--- a table with room for n nodes whose indices name nodes
-pub record Linked (t : Table) (n : ℕ) : Type 0 where
-  pub room : RoomIn t n
-  pub inside : Inside (at t) n
 
 -- the four indices of a node
 pub record Names (x : EstTime) (n : ℕ) : Type 0 where
@@ -31,10 +25,12 @@ names_in fs us {n} v i h x e =
     subst (λ (y : EstTime). Names y n) (sym e) (record { next = v.next i h; next_alt = v.next_alt i h; prev = v.prev i h; prev_alt = v.prev_alt i h })
 
 names_at : (t : Table) (n : ℕ) → Linked t n → (i : ℕ) → i < n → Names (at t i) n
+unfolding at
 names_at t n v i h = record { next = v.inside.next i h; next_alt = v.inside.next_alt i h; prev = v.inside.prev i h; prev_alt = v.inside.prev_alt i h }
 
 -- a node changed whose indices then name nodes
 linked_change : (t s : Table) (n i : ℕ) (x : EstTime) → Linked t n → Changed t s n i x → Names x n → Linked s n
+unfolding at
 linked_change t s n i x v c w = record {
   room = c.room;
   inside = record { next = λ k l. (names k l).next; next_alt = λ k l. (names k l).next_alt; prev = λ k l. (names k l).prev; prev_alt = λ k l. (names k l).prev_alt };
@@ -76,7 +72,7 @@ module _ (t : Table) (n : ℕ) (v : Linked t n) (curr save found : ℕ) (c : cur
   unfolding swap_join
   linked_join =
       let base = (at t found).idx_prev in
-      let b : (at t found).idx_prev < n = v.inside.prev found f in
+      let b : (at t found).idx_prev < n = (names_at t n v found f).prev in
       let t1 = set_next t curr found in
       let t2 = set_next t1 base save in
       let t3 = set_prev t2 save base in
@@ -89,7 +85,7 @@ module _ (t : Table) (n : ℕ) (v : Linked t n) (curr save found : ℕ) (c : cur
   unfolding swap_split
   linked_split =
       let base = (at t found).idx_next in
-      let b : (at t found).idx_next < n = v.inside.next found f in
+      let b : (at t found).idx_next < n = (names_at t n v found f).next in
       let t1 = set_prev t curr found in
       let t2 = set_prev t1 base save in
       let t3 = set_next t2 save base in

@@ -13,9 +13,9 @@ use Rattle.net_node.specs.declared.EstTime.{EstTime}
 use Rattle.net_node.specs.Table.{node_at, Table, at}
 use Rattle.laws.specs.Answer.{Answer, refused, given, and_then}
 use Rattle.pass_rules.specs.Net.{asserting, Pass}
-use Rattle.pass_rules.specs.Walks.{done_in, pass_of}
+use Rattle.pass_rules.specs.Walks.{Linked, done_in, pass_of}
 use Rattle.pass_state.specs.Held.{PassSlices, slices, table_in, left, PassIn, FindsBy}
-use Rattle.pass_state.proofs.Links.{Linked, Names, names_in}
+use Rattle.pass_state.proofs.Links.{Names, names_in}
 use Rattle.pass_state.proofs.Kept.{tabled, node_in, done_in_lem, linked_in, in_table}
 
 -- over n nodes: which neighbour is followed, the walk from it, which looks at no queue, and what is linked anew where it ends elsewhere
@@ -83,7 +83,7 @@ module _ {n : ℕ} (w : Relinker n) {backward : Bool} {held : PassSlices} {count
             let t = w.swap p.table curr next found in
             let fg = c.0 ∙ ap (λ (y : Table). (w.swap y curr next found).floats) (sym v.table) in
             let uv = c.1 ∙ ap (λ (y : Table). (w.swap y curr next found).numbers) (sym v.table) in
-            let i : next < n = subst (λ (k : ℕ). k < n) (sym m) (w.inside (names_in held.floats held.numbers v.inside curr h x l)) in
+            let i : next < n = subst (λ (k : ℕ). k < n) (sym m) (w.inside (names_in held.floats held.numbers v.linked.inside curr h x l)) in
             let k : Linked t n = w.linked p.table (linked_in v) curr next found h i q.1 in (
               record { pass = tabled p t; is = relink_walk_lem (given found) q.0 ∙ ap given (w.swapped p curr next found (ne_eqb next found s)); holds = in_table v t gs vs fg uv k; fewer = omega arith },
               q.1,

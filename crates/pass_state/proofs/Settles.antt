@@ -87,7 +87,7 @@ module _ {n : ℕ} (w : Settler n) {backward : Bool} {held : PassSlices} {count 
       pub settle_queued : fake ≡ false → curr < n → next < n → {ts' : List Float} {ns' : List ℕ} {r : Option ℕ} → EnqueuedAs backward held.times held.nodes ts' ns' count (w.entry p curr next) r → length held.times ≡ length ts' → length held.nodes ≡ length ns'
           → PassAs (w.settle (w.form curr next p)) backward n (slices held.floats held.numbers held.flags ts' ns') (n - 1) (left p.done n + 1) r
       settle_queued b h k q lt ln =
-          let some : w.link y < n = w.inside (names_in held.floats held.numbers v.inside next k y m) in
+          let some : w.link y < n = w.inside (names_in held.floats held.numbers v.linked.inside next k y m) in
           let two : 1 < n = omega (arith, z, s) in
           let named : (w.entry p curr next).node < n = omega (arith, w.named p curr next) in
           pass_after (left p.done n + 1) (added_is false b) (omega arith) (enqueued_in v (w.entry p curr next) named q lt ln (n - 1) (omega arith) (left p.done n + 1) (omega arith))

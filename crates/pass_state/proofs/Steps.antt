@@ -79,7 +79,7 @@ module _ {n : ℕ} (w : Stepper n) {backward : Bool} (p : Pass) (curr next : ℕ
         record {
           told = (
             record { pass = done_at_of q next t; is = step_by false c ∙ ap (reached_by w curr next q) e ∙ a; holds = x; fewer = omega (arith, queued_as.fewer, left_falls q.done next n k un) },
-            (k, subst (λ (h : ℕ). h < n) (sym i) (w.inside (names_in after.floats after.numbers v.inside next k y m))),
+            (k, subst (λ (h : ℕ). h < n) (sym i) (w.inside (names_in after.floats after.numbers v.linked.inside next k y m))),
           );
         }
 

@@ -57,7 +57,7 @@ module _ (w : Turner) {n : ℕ} {held₀ : PassSlices} {count₀ : ℕ} {held : 
   turning_ends h p v =
       let m = s.sought p v in
       let q = m.holds in
-      record { pass = m.pass; is = m.is ∙ w.ended m.fuel m.pass (none_queued q (omega arith)); table = q.table; done = q.done; inside = q.inside }
+      record { pass = m.pass; is = m.is ∙ w.ended m.fuel m.pass (none_queued q (omega arith)); table = q.table; done = q.done; linked = q.linked }
 
   module _ (h : 0 < count) (e : Entry) {ts' : List Float} {ns' : List ℕ}
       (o : (x : Entry) (es : List Entry) → Holds w.backward held.times held.nodes count (x ∷ es) → (e ≡ best w.backward x es) × Holds w.backward ts' ns' (count - 1) (others w.backward x es))

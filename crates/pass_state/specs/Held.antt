@@ -1,16 +1,19 @@
--- A time pass at work in the lent slices: the table's nodes, a flag for each node that is done (timed or passed), and the
--- queue.
-use Rattle.std.specs.Prelude.{◌≡◌, Bool, true, false, not, ◌||◌, List, ◌∷◌, ℕ, zero, suc, ◌+◌, ◌*◌, ◌-◌, ◌≤◌, ◌<◌, length, Float, Option, Some, None}
+-- A time pass at work in the lent slices: the table's nodes, a flag for each node that is done (timed or passed), and
+-- the queue.
+use Rattle.std.specs.Prelude.{◌≡◌, Bool, true, false, not, ◌||◌, List, ◌∷◌, ℕ, zero, suc, ◌+◌, ◌*◌, ◌-◌, ◌≤◌, ◌<◌, length}
+use Rattle.std.specs.Prelude.{Float, Option, Some, None}
 use Rattle.std.specs.Float.Ieee.{is_nan}
 use Rattle.laws.specs.Answer.{Answer, given}
-use Rattle.net_node.specs.Table.{Table, node_at, Room}
+use Rattle.net_node.specs.Table.{Table, float_width, number_width}
 use Rattle.pass_queue.specs.declared.Entry.{Entry}
-use Rattle.pass_queue.specs.Queue.{one, Holds, Each}
+use Rattle.pass_queue.specs.Queue.{one, HeapRoom, Holds, Each}
 use Rattle.pass_rules.specs.Net.{failed, Pass}
-use Rattle.pass_rules.specs.Walks.{Inside, done_in}
+use Rattle.pass_rules.specs.Walks.{Linked, done_in}
 use Rattle.pass_state.specs.declared.Stand.{Stand}
 
--- the slices that a pass is lent: the table in `floats` and `numbers`, the flags, the queue in `times` and `nodes`
+-- The slices that a pass is lent: the table in `floats` and `numbers`, the flags, the queue in `times` and `nodes`.
+-- Stands in contracts, and not as a struct of five `&mut` in the code: each function would owe five clauses more, that
+-- it leaves the same references behind, and take the struct apart for net_node and pass_queue.
 pub record PassSlices : Type 0 where
   pub floats : List Float
   pub numbers : List ℕ
@@ -29,18 +32,22 @@ unfoldable pub left : (ℕ → Bool) → ℕ → ℕ
 left done zero = 0
 left done (suc n) = one (not (done n)) + left done n
 
+-- Node i stands in a table of two slices, and has a flag.
+pub record NodeIn (fs : List Float) (us flags : List ℕ) (i : ℕ) : Type 0 where
+  pub floats : i * float_width + float_width ≤ length fs
+  pub numbers : i * number_width + number_width ≤ length us
+  pub flag : i < length flags
+
 -- A pass over n nodes is what the slices hold. The queue has `count` entries, and entries and nodes left are at most
 -- `most` together: below n, so the queue has room.
 pub record PassIn (backward : Bool) (n : ℕ) (held : PassSlices) (count most : ℕ) (p : Pass) : Type 0 where
   pub table : p.table ≡ table_in held
-  pub room : Room held.floats held.numbers n
-  pub inside : Inside (node_at held.floats held.numbers) n
+  pub linked : Linked (table_in held) n
   pub flags : n ≤ length held.flags
   pub done : p.done ≡ done_in held.flags
   pub queue : Holds backward held.times held.nodes count p.queue
   pub named : Each (λ e. e.node < n) p.queue
-  pub times : n * 2 ≤ length held.times
-  pub nodes : n ≤ length held.nodes
+  pub room : HeapRoom held.times held.nodes n
   pub few : count + left p.done n ≤ most
 
 -- some pass is
@@ -106,13 +113,21 @@ pub record EnqueuedAs (backward : Bool) (ts : List Float) (ns : List ℕ) (ts' :
 
 -- ---- a whole pass
 
+-- What a pass begins with: a network of n nodes, none of which is done, and room for its queue.
+pub record Unbegun (held : PassSlices) (n : ℕ) : Type 0 where
+  pub linked : Linked (table_in held) n
+  pub three : 3 ≤ n
+  pub flags : n ≤ length held.flags
+  pub unset : (i : ℕ) → done_in held.flags i ≡ false
+  pub room : HeapRoom held.times held.nodes n
+
 -- It came to its end: the table, and a flag for each node that is done.
 pub record Ends (answer : Answer Pass) (n : ℕ) (t : Table) (flags : List ℕ) : Type 0 where
   pub pass : Pass
   pub is : answer ≡ given pass
   pub table : pass.table ≡ t
   pub done : pass.done ≡ done_in flags
-  pub inside : Inside (node_at t.floats t.numbers) n
+  pub linked : Linked t n
 
 -- it did, or an assertion failed
 abbrev pub EndsAs : Answer Pass → ℕ → Table → List ℕ → Option Unit → Type 0

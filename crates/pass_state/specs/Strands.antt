@@ -1,5 +1,5 @@
--- The parts of a pass, each as a function of a pass, for both passes in one: by whether it goes backward. `less` is what
--- the backward pass takes off; the forward pass takes nothing off. Only contracts use these words.
+-- The parts of a pass, each as a function of a pass, for both passes in one: by whether it goes backward. `less` is
+-- what the backward pass takes off; the forward pass takes nothing off. Only contracts use these words.
 use Rattle.std.specs.Prelude.{Bool, true, false, not, List, ℕ, set, Float}
 use Rattle.std.specs.Float.{binary64}
 use Rattle.std.specs.Float.Ieee.{add, sub, of_bits}
@@ -19,15 +19,27 @@ abbrev pub time_ahead : Bool → EstTime → EstTime → Float → Float
 time_ahead true here to less = sub binary64 to.time_sched less
 time_ahead false here to less = add binary64 here.time_sched here.time_to_next
 
+-- forward: the entry of a node i at a time, whose next is so much later
+abbrev pub entry_before : Float → Float → ℕ → Entry
+entry_before time to_next i = record { time = add binary64 time to_next; sub = of_bits binary64 0; node = i }
+
 -- the entry of a node's alternative i, which gets the node's time
 abbrev pub alternative_entry : Bool → EstTime → EstTime → ℕ → Entry
-alternative_entry true node other i = record { time = node.time_sched; sub = sub binary64 other.time_sched node.time_sched; node = i }
-alternative_entry false node other i = record { time = add binary64 node.time_sched other.time_to_next; sub = of_bits binary64 0; node = i }
+alternative_entry true node other i = record {
+  time = node.time_sched;
+  sub = sub binary64 other.time_sched node.time_sched;
+  node = i;
+}
+alternative_entry false node other i = entry_before node.time_sched other.time_to_next i
 
 -- the entry of a node i that a strand ends on, before the node `to`
 abbrev pub end_entry : Bool → EstTime → EstTime → ℕ → Float → Entry
-end_entry true node to i less = record { time = sub binary64 node.time_sched to.time_to_next; sub = less; node = i }
-end_entry false node to i less = record { time = add binary64 node.time_sched node.time_to_next; sub = of_bits binary64 0; node = i }
+end_entry true node to i less = record {
+  time = sub binary64 node.time_sched to.time_to_next;
+  sub = less;
+  node = i;
+}
+end_entry false node to i less = entry_before node.time_sched node.time_to_next i
 
 -- the table and the flags once node i, before which the network ends, is done at a time: backward node 0 is then too
 abbrev pub finished : Bool → Table → ℕ → Float → Table

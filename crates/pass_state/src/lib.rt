@@ -1,19 +1,21 @@
-// A time pass at work: which nodes are done, its queue, and the turn of an entry. Both passes are one code, over a trait
-// with what differs. Contracts: specs/Held.antt, specs/Strands.antt, specs/Promises.antt.
+// A time pass at work: which nodes are done, its queue, and the turn of an entry. Both passes are one code, over a
+// trait with what differs. Contracts: specs/Held.antt, specs/Strands.antt, specs/Promises.antt.
 #![tactic(auto)]
 
 ghost use Rattle.std.specs.Prelude.{◌≡◌, ℕ, ◌+◌, ◌-◌, ◌*◌, ◌≤◌, ◌<◌, length, set};
-ghost use Rattle.net_node.specs.Table.{float_width, number_width, node_at, Room, set_time};
+ghost use Rattle.net_node.specs.Table.{float_width, number_width, node_at, set_time};
 ghost use Rattle.net_node.specs.Lent.{table_at_entry, table_at_exit};
-ghost use Rattle.pass_rules.specs.Walks.{Inside, done_in, behind_alt};
-ghost use Rattle.pass_state.specs.Held.{slices, Working, Standing};
-ghost use Rattle.pass_state.specs.Strands.{time_ahead, alternative_entry, end_entry, finished, finished_flags};
-ghost use Rattle.pass_state.specs.Strands.{standing, alternating, stepping, stranding, settling, turning, turning_all};
-ghost use Rattle.pass_state.specs.Promises.{lent, stops_by, Enqueues, no_more, fewer, PassTo, StandsTo, Relinked, EndsTo};
+ghost use Rattle.pass_queue.specs.Queue.{HeapRoom};
+ghost use Rattle.pass_rules.specs.Walks.{Linked, table_of, done_in, behind_alt};
+ghost use Rattle.pass_state.specs.Held.{slices, NodeIn, Working, Standing};
+ghost use Rattle.pass_state.specs.Strands.{time_ahead, entry_before, alternative_entry, end_entry, finished};
+ghost use Rattle.pass_state.specs.Strands.{finished_flags, standing, alternating, stepping, stranding, settling, turning, turning_all};
+ghost use Rattle.pass_state.specs.Promises.{lent, stops_by, Enqueues, no_more, fewer, PassTo, StandsTo};
+ghost use Rattle.pass_state.specs.Promises.{Relinked, EndsTo};
 
 use net_node::EstTime;
 use pass_queue::{Backward, Entry, Forward, Order};
-use pass_rules::Links;
+use pass_rules::{LinkedNodes, Links};
 
 // Where a strand stands: on which node, which one it looks at, and how many entries the queue has then.
 #[derive(Clone, Copy, Debug)]
@@ -27,7 +29,7 @@ pub struct Stand {
 
 // Whether a node is done.
 #[tactic(auto, unfolding(pass_rules::specs::Walks::done_in))]
-fn is_done(flags: &[u32], i: u32) -> bool
+pub fn is_done(flags: &[u32], i: u32) -> bool
     requires { i < length flags.now }
     ensures { result ≡ done_in flags.now i }
 {
@@ -36,9 +38,7 @@ fn is_done(flags: &[u32], i: u32) -> bool
 
 // A node is done, at this time.
 pub fn set_done(floats: &mut [f64], numbers: &mut [u32], flags: &mut [u32], i: u32, time: f64)
-    requires float_width_in_bounds { i * float_width + float_width ≤ length floats.old }
-    requires number_width_in_bounds { i * number_width + number_width ≤ length numbers.old }
-    requires i_in_bounds { i < length flags.old }
+    requires { NodeIn floats.old numbers.old flags.old i }
     ensures floats { floats.new ≡ (set_time (table_at_entry floats numbers) i time).floats }
     ensures numbers { numbers.new ≡ (set_time (table_at_entry floats numbers) i time).numbers }
     ensures flags { flags.new ≡ set flags.old i 1 }
@@ -54,8 +54,7 @@ pub fn enqueue<O: Order>(
     count: usize,
     e: Entry,
 ) -> Option<usize>
-    requires count_in_bounds { (count + 1) * 2 ≤ length times.old }
-    requires count_in_bounds_2 { count < length nodes.old }
+    requires { HeapRoom times.old nodes.old (count + 1) }
     ensures { Enqueues times nodes O.backward count e result }
 {
     if e.time.is_nan() || e.sub.is_nan() {
@@ -84,12 +83,21 @@ pub trait TimePass: Links {
 
     // Node i, before which the network ends, is done at this time.
     fn finish(floats: &mut [f64], numbers: &mut [u32], flags: &mut [u32], i: u32, time: f64)
-        requires float_width_in_bounds { i * float_width + float_width ≤ length floats.old }
-        requires number_width_in_bounds { i * number_width + number_width ≤ length numbers.old }
-        requires i_in_bounds { i < length flags.old }
+        requires { NodeIn floats.old numbers.old flags.old i }
         ensures floats { floats.new ≡ (finished Self.backward (table_at_entry floats numbers) i time).floats }
         ensures numbers { numbers.new ≡ (finished Self.backward (table_at_entry floats numbers) i time).numbers }
         ensures flags { flags.new ≡ finished_flags Self.backward flags.old i };
+}
+
+// Forward: the entry of a node i at a time, whose next is so much later.
+fn entry_before(time: f64, to_next: f64, i: u32) -> Entry
+    ensures { result ≡ entry_before time to_next i }
+{
+    Entry {
+        time: time + to_next,
+        sub: 0.0,
+        node: i,
+    }
 }
 
 // A step adds the time to next. An entry's time is that at which its next is reached.
@@ -99,19 +107,11 @@ impl TimePass for Forward {
     }
 
     fn alternative_entry(node: EstTime, alternative: EstTime, i: u32) -> Entry {
-        Entry {
-            time: node.time_sched + alternative.time_to_next,
-            sub: 0.0,
-            node: i,
-        }
+        entry_before(node.time_sched, alternative.time_to_next, i)
     }
 
     fn end_entry(node: EstTime, _ahead: EstTime, i: u32, _less: f64) -> Entry {
-        Entry {
-            time: node.time_sched + node.time_to_next,
-            sub: 0.0,
-            node: i,
-        }
+        entry_before(node.time_sched, node.time_to_next, i)
     }
 
     fn finish(floats: &mut [f64], numbers: &mut [u32], flags: &mut [u32], i: u32, time: f64) {
@@ -158,9 +158,8 @@ fn relink<P: TimePass>(
     flags: &[u32],
     curr: u32,
 ) -> Option<u32>
-    requires room { Room floats.old numbers.old n }
-    requires inside { Inside (node_at floats.old numbers.old) n }
-    requires n_in_bounds { n ≤ length flags.now }
+    requires linked { Linked (table_of floats.old numbers.old) n }
+    requires flags_room { n ≤ length flags.now }
     requires curr_lt_n { curr < n }
     ensures { Relinked (table_at_entry floats numbers) (table_at_exit floats numbers) flags.now P.backward n curr
         result }
@@ -169,7 +168,12 @@ fn relink<P: TimePass>(
     if !is_done(flags, curr) || is_done(flags, next) {
         return None;
     }
-    let found = pass_rules::relink_walk::<P>(floats, numbers, flags, n, next)?;
+    let nodes = LinkedNodes {
+        floats,
+        numbers,
+        count: n,
+    };
+    let found = nodes.relink_walk::<P>(flags, next)?;
     if next == found {
         return Some(found);
     }
@@ -237,8 +241,8 @@ fn step<P: TimePass>(
 
 // Whether a strand ends before a node: a join forward, a split backward, the last or the first node.
 fn stops_at<P: TimePass>(floats: &[f64], numbers: &[u32], i: u32) -> bool
-    requires float_width_in_bounds { i * float_width + float_width ≤ length floats.now }
-    requires number_width_in_bounds { i * number_width + number_width ≤ length numbers.now }
+    requires floats_room { i * float_width + float_width ≤ length floats.now }
+    requires numbers_room { i * number_width + number_width ≤ length numbers.now }
     ensures { result ≡ stops_by (behind_alt P.backward) (node_at floats.now numbers.now i) }
 {
     let node = net_node::load(floats, numbers, i as usize);

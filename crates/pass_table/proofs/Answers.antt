@@ -11,7 +11,7 @@ use Rattle.std.specs.Result.{result_unwrap_or}
 use Rattle.laws.specs.Answer.{Answer, refused, given, and_then, unless, number_of}
 use Rattle.refusals.specs.Refusals.{refusal_number, told}
 use Rattle.refusals.specs.declared.Refusal.{Refusal}
-use Rattle.refusals.specs.declared.Refusal.TheVariants.{CutOff, LeftOver, OutOfBounds, BadValue, BadIndex, BadOrigin, BadLeg, NoPath, NoWayOn, MissingLeg, BadEvent, NoPlace, BadEnd, BadLinks, NotTimed, AllZero}
+use Rattle.refusals.proofs.Numbers.{refusal_some}
 use Rattle.net_node.specs.Table.{Table}
 use Rattle.net_node.specs.Left.{nodes_in, floats_kept, numbers_kept, floats_left, numbers_left}
 use Rattle.net_node.specs.Lent.{Slices}
@@ -22,26 +22,6 @@ use Rattle.pass_all.specs.Answers.{TimedAs}
 use Rattle.pass_table.specs.TableEntry.{table_times, wholly, times_of, nodes_told, TimesUpdated}
 use Rattle.pass_table.specs.Parts.{first_number}
 use Rattle.pass_table.proofs.FirstRows.{nonzero, most_nodes}
-
--- ---- a refusal has a number
-
-row_some : (r : Refusal) → refusal_number r ≢ 0
-row_some CutOff = nonzero 0
-row_some LeftOver = nonzero 1
-row_some OutOfBounds = nonzero 2
-row_some BadValue = nonzero 3
-row_some BadIndex = nonzero 4
-row_some BadOrigin = nonzero 5
-row_some BadLeg = nonzero 6
-row_some NoPath = nonzero 7
-row_some NoWayOn = nonzero 8
-row_some MissingLeg = nonzero 9
-row_some BadEvent = nonzero 10
-row_some NoPlace = nonzero 11
-row_some BadEnd = nonzero 12
-row_some BadLinks = nonzero 13
-row_some NotTimed = nonzero 14
-row_some AllZero = nonzero 15
 
 -- what `?` hands on is told as the refusal is
 pub handed_on : (r : Result ℕ Refusal) (x : Refusal) → IsErrAnd r (λ y. y ≡ x) → (t : Answer Table) (left : Table) → TimedAs t (refusal_number x) left → TimedAs t (number_of (told r)) left
@@ -73,7 +53,7 @@ module _ (lent : Table) (departure : Float) (n units rs cs ms : ℕ) (e : n ≡ 
 
 pub told_first : (lent : Table) (departure : Float) (n units rs cs ms : ℕ) → n ≡ nodes_in lent → units ≡ units_of rs cs ms → (x : Refusal) → refusal_number x ≡ first_number lent n departure (64 * units) → (left : Table)
     → TimedAs (table_times lent departure (bytes_of rs cs ms)) (refusal_number x) left
-told_first lent departure n units rs cs ms e f x g left = told_number lent departure n units rs cs ms e f (refusal_number x) g left (row_some x)
+told_first lent departure n units rs cs ms e f x g left = told_number lent departure n units rs cs ms e f (refusal_number x) g left (refusal_some x)
 
 -- ---- the whole answer
 
@@ -92,19 +72,19 @@ module _ (n : ℕ) (left : Table) where
   answer_as_lem (Ok k) e (refused j) p = absurd (p.1 (sym p.0))
   answer_as_lem (Ok k) e (given t) p = ap given e
   answer_as_lem (Err x) e (refused j) p = ap refused p.0
-  answer_as_lem (Err x) e (given t) p = absurd (row_some x p.0)
+  answer_as_lem (Err x) e (given t) p = absurd (refusal_some x p.0)
 
   floats_as_lem : (size : ℕ) (r : Result ℕ Refusal) → IfOk r (λ k. k ≡ n) → (a : Answer Table) → TimedAs a (number_of (told r)) left → floats_kept (result_unwrap_or r 0) left.floats size ≡ floats_left (and_then a (wholly n)) size
   floats_as_lem size (Ok k) e (refused j) p = absurd (p.1 (sym p.0))
   floats_as_lem size (Ok k) e (given t) p = ap (λ (x : ℕ). floats_kept x left.floats size) e ∙ ap (λ (x : Table). floats_kept n x.floats size) p.1
   floats_as_lem size (Err x) e (refused j) p = ap zero_floats (sub-zero size)
-  floats_as_lem size (Err x) e (given t) p = absurd (row_some x p.0)
+  floats_as_lem size (Err x) e (given t) p = absurd (refusal_some x p.0)
 
   numbers_as_lem : (size : ℕ) (r : Result ℕ Refusal) → IfOk r (λ k. k ≡ n) → (a : Answer Table) → TimedAs a (number_of (told r)) left → numbers_kept (result_unwrap_or r 0) left.numbers size ≡ numbers_left (and_then a (wholly n)) size
   numbers_as_lem size (Ok k) e (refused j) p = absurd (p.1 (sym p.0))
   numbers_as_lem size (Ok k) e (given t) p = ap (λ (x : ℕ). numbers_kept x left.numbers size) e ∙ ap (λ (x : Table). numbers_kept n x.numbers size) p.1
   numbers_as_lem size (Err x) e (refused j) p = ap zeros (sub-zero size)
-  numbers_as_lem size (Err x) e (given t) p = absurd (row_some x p.0)
+  numbers_as_lem size (Err x) e (given t) p = absurd (refusal_some x p.0)
 
 -- the slices that are lent; the table as the passes left it, of the same lengths; and all of them at the end
 pub updated : (lent : Slices) (departure : Float) (r : Result ℕ Refusal) → IfOk r (λ n. n ≡ nodes_in lent.table) → (passed : Table)

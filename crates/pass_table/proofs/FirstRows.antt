@@ -18,7 +18,7 @@ use Rattle.space.specs.Space.{units_of}
 use Rattle.net_node.specs.declared.EstTime.{EstTime}
 use Rattle.net_node.specs.Table.{float_width, number_width, node_at, Room, Table, at}
 use Rattle.net_node.specs.Left.{nodes_in, kind_at}
-use Rattle.pass_rules.specs.Walks.{Inside}
+use Rattle.pass_rules.specs.Walks.{Inside, Linked, table_of}
 use Rattle.pass_table.specs.TableEntry.{table_row3, table_row4, table_row5, table_rows, bad_floats, bad_node, stray_node}
 use Rattle.pass_table.specs.Parts.{nodes_number, first_number}
 
@@ -161,8 +161,7 @@ sizes_hold n units e =
 
 -- what the passes ask for, of slices of work space of these lengths
 pub record Ready (fs : List Float) (us : List ℕ) (n rs cs ms : ℕ) : Type 0 where
-  pub room : Room fs us n
-  pub inside : Inside (node_at fs us) n
+  pub linked : Linked (table_of fs us) n
   pub three : 3 ≤ n
   pub reals : n * 2 ≤ rs
   pub cells : n * 2 ≤ cs
@@ -179,8 +178,7 @@ ready fs us n departure units rs cs ms e f g =
     let d = none_of_three (record { floats = fs; numbers = us }) n departure (64 * units) (sym g) in
     let s = sizes_hold n units d.0 in
     let h = nodes_fit fs us n e in record {
-      room = record { floats = h.0; numbers = h.1; most = s.1.0 };
-      inside = indices_inside fs us n d.1;
+      linked = record { room = record { floats = h.0; numbers = h.1; most = s.1.0 }; inside = indices_inside fs us n d.1 };
       three = s.0;
       reals = omega (arith, s.1.1);
       cells = omega (arith, s.1.1);

@@ -47,7 +47,8 @@ table_row5 t n = some_below n (λ i. stray_node n (at t i))
 -- "Of 1 to 8 the lowest wins; after that the first met": rows 3, 4 and 5 in their order
 unfoldable pub table_rows : Table → ℕ → Float → ℕ → List Row
 unfolding table_row3 table_row4 table_row5
-table_rows t n departure bytes = row 3 (table_row3 n bytes) ∷ row 4 (table_row4 t n departure) ∷ row 5 (table_row5 t n) ∷ []
+table_rows t n departure bytes =
+    row 3 (table_row3 n bytes) ∷ row 4 (table_row4 t n departure) ∷ row 5 (table_row5 t n) ∷ []
 
 unfoldable pub table_times : Table → Float → ℕ → Answer Table
 unfolding table_rows

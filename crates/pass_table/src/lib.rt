@@ -60,8 +60,8 @@ fn is_stray_node(n: usize, node: EstTime) -> bool
 
 // Rows 4 and 5, as far as the nodes tell: whether one is bad, then whether one is stray.
 fn check_nodes(floats: &[f64], numbers: &[u32], n: usize) -> Result<(), Refusal>
-    requires float_width_in_bounds { n * float_width ≤ length floats.now }
-    requires number_width_in_bounds { n * number_width ≤ length numbers.now }
+    requires floats_room { n * float_width ≤ length floats.now }
+    requires numbers_room { n * number_width ≤ length numbers.now }
     ensures { number_of (told result) ≡ nodes_number (table_seen floats numbers) n }
 {
     let mut stray = false;
@@ -86,8 +86,8 @@ fn check_table(
     departure: f64,
     units: usize,
 ) -> Result<(), Refusal>
-    requires float_width_in_bounds { n * float_width ≤ length floats.now }
-    requires number_width_in_bounds { n * number_width ≤ length numbers.now }
+    requires floats_room { n * float_width ≤ length floats.now }
+    requires numbers_room { n * number_width ≤ length numbers.now }
     ensures { number_of (told result) ≡ first_number (table_seen floats numbers) n departure (64 * units) }
 {
     if size_refused(n, units) {

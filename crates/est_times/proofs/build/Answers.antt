@@ -13,7 +13,7 @@ returns-in_err-report c =
 pub overflow_mul-flags : goal.overflow_mul-flags
 overflow_mul-flags c =
     let r = ripe _ _ _ _ _ _ _ _ _ (whole_told _ _ _ _ c.read_and_grow.result c.read_and_grow.ensures _ c.in_ok-report.was) in
-    omega (arith, r.room.most)
+    omega (arith, r.linked.room.most)
 
 pub slice_bounds-flags-end : goal.slice_bounds-flags-end
 slice_bounds-flags-end c =
@@ -29,8 +29,8 @@ pub departure_of-departure-requires : goal.departure_of-departure-requires
 departure_of-departure-requires c =
     let r = ripe _ _ _ _ _ _ _ _ _ (whole_told _ _ _ _ c.read_and_grow.result c.read_and_grow.ensures _ c.in_ok-report.was) in
     record {
-      in_bounds = r.head;
-      book_value = r.float;
+      head = r.head;
+      departure = r.float;
     }
 
 pub run_passes-requires : goal.run_passes-requires
@@ -38,13 +38,12 @@ run_passes-requires c =
     let k = c.read_and_grow.auto in
     let r = ripe _ _ _ _ _ _ _ _ _ (whole_told _ _ _ _ c.read_and_grow.result c.read_and_grow.ensures _ c.in_ok-report.was) in
     record {
-      room = r.room;
-      inside = r.inside;
-      le_n = r.three;
-      n_in_bounds = omega (arith, r.reals, k);
-      n_in_bounds_2 = flags_fit _ _ _ r.cells k.cells _ c.clear.auto.s;
-      n_in_bounds_3 = omega (arith, r.marks, k);
-      cells_value = zeros_again _ _ c.clear.ensures;
+      linked = r.linked;
+      three_nodes = r.three;
+      times_room = omega (arith, r.reals, k);
+      flags_room = flags_fit _ _ _ r.cells k.cells _ c.clear.auto.s;
+      nodes_room = omega (arith, r.marks, k);
+      cells_zero = zeros_again _ _ c.clear.ensures;
     }
 
 pub returns-in_err-run_passes : goal.returns-in_err-run_passes

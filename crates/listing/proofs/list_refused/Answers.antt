@@ -1,11 +1,13 @@
 -- `listing::list_refused` meets its contract.
+use mathlib.Core.Path.{refl}
+use Rattle.std.proofs.Common.{rules}
 use Rattle.listing.specs.Listing.{refused_text}
-use Rattle.listing.proofs.Texts.{then_put, text_listed}
+use Rattle.listing.proofs.Texts.{then_put, text_listed, listed_in}
 use Rattle.listing.proofs.list_refused.Goals as goal
 
 pub returns : goal.returns
 unfolding refused_text
 returns c =
-    rw (← c.from.ensures)
-    let text = then_put c.put_count-to.ensures c.put_byte-end.ensures in
-    text_listed text c.finish.ensures
+    let text = then_put c.put_field.ensures c.put_byte.ensures in
+    let same_slice = text.same_slice in
+    rw (← c.from.ensures) (listed_in (text_listed refl text c.finish.ensures) (search rules))

@@ -9,11 +9,9 @@ returns-in_err-count c = start_queued c.args.floats.now c.args.numbers.now c.arg
 
 pub turns-requires-clause-working : goal.turns-requires-clause-working
 turns-requires-clause-working c =
-    let r = c.requires in
-    works (start_in c.args.floats.now c.args.numbers.now c.args.flags.now c.args.n r.by_index c.in_ok-count.ensures r.room r.inside r.le_n r.n_in_bounds r.n_in_bounds_2 r.n_in_bounds_3 (omega (arith, c.enqueue.auto)) (omega (arith, c.enqueue.auto)))
+    works (start_in c.args.floats.now c.args.numbers.now c.args.flags.now c.args.n c.requires c.in_ok-count.ensures (omega (arith, c.enqueue.auto)) (omega (arith, c.enqueue.auto)))
 
 pub returns : goal.returns
 returns c =
-    let r = c.requires in
-    rw (start_is c.args.floats.now c.args.numbers.now c.args.flags.now c.args.n r.by_index)
-    (c.turns.ensures _ (start_in c.args.floats.now c.args.numbers.now c.args.flags.now c.args.n r.by_index c.in_ok-count.ensures r.room r.inside r.le_n r.n_in_bounds r.n_in_bounds_2 r.n_in_bounds_3 (omega (arith, c.enqueue.auto)) (omega (arith, c.enqueue.auto))))
+    rw (start_is c.args.floats.now c.args.numbers.now c.args.flags.now c.args.n c.requires)
+    (c.turns.ensures _ (start_in c.args.floats.now c.args.numbers.now c.args.flags.now c.args.n c.requires c.in_ok-count.ensures (omega (arith, c.enqueue.auto)) (omega (arith, c.enqueue.auto))))

@@ -9,11 +9,9 @@ returns-in_err-count c = rw c.from_residual.ensures (start_fails c.args.floats.n
 
 pub turns-requires-clause-working : goal.turns-requires-clause-working
 turns-requires-clause-working c =
-    let r = c.requires in
-    works (start_in c.args.floats.now c.args.numbers.now c.args.flags.now c.args.n c.args.departure c.in_ok-count.ensures r.by_index r.room r.inside r.le_n r.n_in_bounds r.n_in_bounds_2 r.n_in_bounds_3 (omega (arith, c.enqueue.auto)) (omega (arith, c.enqueue.auto)) (c.set_done.ensures.floats, (c.set_done.ensures.numbers, c.set_done.ensures.flags)) (c.set_done-2.ensures.floats, (c.set_done-2.ensures.numbers, c.set_done-2.ensures.flags)))
+    works (start_in c.args.floats.now c.args.numbers.now c.args.flags.now c.args.n c.args.departure c.in_ok-count.ensures c.requires (omega (arith, c.enqueue.auto)) (omega (arith, c.enqueue.auto)) (c.set_done.ensures.floats, (c.set_done.ensures.numbers, c.set_done.ensures.flags)) (c.set_done-2.ensures.floats, (c.set_done-2.ensures.numbers, c.set_done-2.ensures.flags)))
 
 pub returns : goal.returns
 returns c =
-    let r = c.requires in
-    rw (start_is c.args.floats.now c.args.numbers.now c.args.flags.now c.args.n c.args.departure c.in_ok-count.ensures r.by_index)
-    (c.turns.ensures _ (start_in c.args.floats.now c.args.numbers.now c.args.flags.now c.args.n c.args.departure c.in_ok-count.ensures r.by_index r.room r.inside r.le_n r.n_in_bounds r.n_in_bounds_2 r.n_in_bounds_3 (omega (arith, c.enqueue.auto)) (omega (arith, c.enqueue.auto)) (c.set_done.ensures.floats, (c.set_done.ensures.numbers, c.set_done.ensures.flags)) (c.set_done-2.ensures.floats, (c.set_done-2.ensures.numbers, c.set_done-2.ensures.flags))))
+    rw (start_is c.args.floats.now c.args.numbers.now c.args.flags.now c.args.n c.args.departure c.in_ok-count.ensures c.requires)
+    (c.turns.ensures _ (start_in c.args.floats.now c.args.numbers.now c.args.flags.now c.args.n c.args.departure c.in_ok-count.ensures c.requires (omega (arith, c.enqueue.auto)) (omega (arith, c.enqueue.auto)) (c.set_done.ensures.floats, (c.set_done.ensures.numbers, c.set_done.ensures.flags)) (c.set_done-2.ensures.floats, (c.set_done-2.ensures.numbers, c.set_done-2.ensures.flags))))

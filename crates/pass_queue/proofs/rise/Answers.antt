@@ -13,13 +13,13 @@ returns-then-not-is_before g c =
     let v = c.loop-i.invariant in
     record {
       within = v.within;
-      held = rising_stop _ _ _ _ _ v r.n_in_bounds r.n_in_bounds_2 (omega (arith, c.loop-i-test.true)) _ refl _ c.entry_at-x.ensures (sym c.is_before.ensures ∙ c.if-not-is_before.true);
+      held = rising_stop _ _ _ _ _ v r.room (omega (arith, c.loop-i-test.true)) _ refl _ c.entry_at-x.ensures (sym c.is_before.ensures ∙ c.if-not-is_before.true);
     }
 
 pub loop-i-preserved : goal.loop-i-preserved
 loop-i-preserved g c =
     let r = c.requires in
-    rising_on _ _ _ _ _ c.loop-i.invariant r.n_in_bounds r.n_in_bounds_2 (omega (arith, c.loop-i-test.true)) _ refl _ c.entry_at-x.ensures (sym c.is_before.ensures ∙ c.if-not-is_before.false) _ _
+    rising_on _ _ _ _ _ c.loop-i.invariant r.room (omega (arith, c.loop-i-test.true)) _ refl _ c.entry_at-x.ensures (sym c.is_before.ensures ∙ c.if-not-is_before.false) _ _
     c.put_entry.ensures.times c.put_entry.ensures.nodes
 
 pub returns : goal.returns
@@ -28,5 +28,5 @@ returns g c =
     let v = c.loop-i.invariant in
     record {
       within = v.within;
-      held = rising_top _ _ _ _ _ v r.n_in_bounds r.n_in_bounds_2 (omega (arith, c.loop-i-test.false));
+      held = rising_top _ _ _ _ _ v r.room (omega (arith, c.loop-i-test.false));
     }

@@ -30,13 +30,12 @@ unfolding nodes_in
 run_passes-requires c =
     let r = ready _ _ _ _ _ _ _ _ c.nodes_filled-n.ensures c.units-units.ensures c.in_ok-check_table.ensures in
     record {
-      room = r.room;
-      inside = r.inside;
-      le_n = r.three;
-      n_in_bounds = r.reals;
-      n_in_bounds_2 = flags_fit _ _ _ r.cells c.clear.auto.s;
-      n_in_bounds_3 = r.marks;
-      cells_value = zeros_again _ _ c.clear.ensures;
+      linked = r.linked;
+      three_nodes = r.three;
+      times_room = r.reals;
+      flags_room = flags_fit _ _ _ r.cells c.clear.auto.s;
+      nodes_room = r.marks;
+      cells_zero = zeros_again _ _ c.clear.ensures;
     }
 
 pub returns-in_err-run_passes-clause-timed : goal.returns-in_err-run_passes-clause-timed

@@ -1,8 +1,0 @@
--- `listing::put_bytes` meets its contract: `Turned` is the loop's invariant.
-use lib.ListN.{length, take}
-use Prim.Native.Nat.{ℕ}
-use Rattle.listing.proofs.Texts.{Turned}
-use Rattle.listing.proofs.put_bytes.Given as goal
-
-abbrev pub invariant-loop-byte : goal.invariant-loop-byte
-invariant-loop-byte l = Turned l.initial.out l.fn.at (λ (k : ℕ). take k l.bytes) (length l.bytes) l.out l.to l.byte-index

@@ -1,7 +1,0 @@
--- `pass_rules::checks_fail` meets its contract: `Checked` is the loop's invariant.
-use Rattle.net_node.specs.Table.{node_at}
-use Rattle.pass_rules.proofs.Held.{Checked}
-use Rattle.pass_rules.proofs.checks_fail.Given as goal
-
-abbrev pub invariant-loop-i : goal.invariant-loop-i
-invariant-loop-i l = Checked (node_at l.floats l.numbers) l.n l.i
