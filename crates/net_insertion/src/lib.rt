@@ -47,6 +47,7 @@ fn is_match(join: f64, e: TimedEvent, node: EstTime) -> bool
 }
 
 // From a node along its alternatives to where the event goes.
+#[tactic(auto, using(crate::proofs::Seeking::seeking_start, crate::proofs::Seeking::seeking_on))]
 fn seek_place(nodes: &Nodes, join: f64, e: TimedEvent, start: u32) -> Seek
     requires { start < nodes.now.count }
     ensures { result ≡ seek nodes.now.count (nodes_held nodes.now) join e start }
