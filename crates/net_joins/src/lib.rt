@@ -261,8 +261,8 @@ fn go_on(
     Ok(Step::Waits)
 }
 
-// One event of a run that has added since its pop: its list is rebuilt, the run joins, or goes on with what is appended.
-// The list is left in `joins`.
+// One event of a run that has added since its pop: its list is rebuilt, and the run joins, or goes on with what is
+// appended. The list is left in `joins`.
 pub fn join_step(
     floats: &mut [f64],
     numbers: &mut [u32],

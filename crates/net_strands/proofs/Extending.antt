@@ -14,7 +14,9 @@ use Rattle.net_node.specs.declared.EstTime.{EstTime}
 use Rattle.net_event_map.specs.declared.Layout.{Layout}
 use Rattle.net_join_paths.specs.declared.EstJoinPath.{EstJoinPath}
 use Rattle.net_join_paths.specs.Entries.{push, and_then}
+use Rattle.net_join_paths.proofs.Entries.{over_as, valid_at}
 use Rattle.net_stack.specs.Stack.{is_arrive}
+use Rattle.net_stack.proofs.Arrives.{arrive_eq}
 use Rattle.net_strands.specs.Space.{followed, extended_as, extended, extended_all}
 use Rattle.net_strands.specs.Steps.{new_match}
 use Rattle.net_strands.proofs.Given.{Noting}
@@ -56,8 +58,8 @@ module _ (node : ℕ → EstTime) (n : ℕ) (e : LinkEvent) (seen : Bool) (x : E
           go false false p r z = absurd (true≢false (sym z))
 
       module _ (s : not seen ≡ false) (m : ℕ) (f : m ≡ new_match (is_arrive e.est_type) x.link_idx_match) where
-        pub extended-followed : extended node n e seen x es ≡ followed x.link_idx_match node n e m x.est_idx_next es
-        extended-followed =
+        pub extended_follows : extended node n e seen x es ≡ followed x.link_idx_match node n e m x.est_idx_next es
+        extended_follows =
             go (is_arrive e.est_type) (cleared e x) refl refl
             (ap (λ (b : Bool). b || cleared e x) (sym q) ∙ not-false (arrive || cleared e x) o)
             ∙ ap (λ (k : ℕ). followed x.link_idx_match node n e k x.est_idx_next es) (sym f)
@@ -111,3 +113,9 @@ pub record Building (node : ℕ → EstTime) (nodes : ℕ) (e : LinkEvent) (seen
   pub same : length cells ≡ length cells₀
   pub gathered : Gathering node nodes e seen old list k
   pub noted : Noting cells₀ w node nodes e cells list
+
+-- each way through one entry
+pub ruleset entry_laws = (extended_dropped, extended_copied, extended_unseen, extended_follows, arrive_eq)
+
+-- each way through the loop
+pub ruleset gathering_laws = (valid_at, over_as, gathering_over, gathering_whole)

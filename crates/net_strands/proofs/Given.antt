@@ -229,3 +229,9 @@ pub record Noting (cells₀ : List ℕ) (w : Layout) (node : ℕ → EstTime) (n
     (list : List EstJoinPath) : Type 0 where
   pub given : Given cells w node n e list
   pub touched : Touched w cells₀ cells
+
+-- what follows an entry that matches already
+pub ruleset matched_laws = (matched_copied, matched_noted, matched_grows, matched_left)
+
+-- what an entry gives, by the rule that its meaning comes to
+pub ruleset extends_laws = (extends_none, extends_pushed, extends_followed)

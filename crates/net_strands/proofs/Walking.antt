@@ -21,7 +21,7 @@ use Rattle.net_join_paths.specs.declared.EstJoinPath.{EstJoinPath}
 use Rattle.net_join_paths.specs.Entries.{entry, push, pushed_if}
 use Rattle.net_join_paths.specs.Spans.{pushed_all, nodes_in}
 use Rattle.net_join_paths.proofs.Entries.{and_then_some}
-use Rattle.net_join_paths.proofs.Spans.{Pushed, pushed_more}
+use Rattle.net_join_paths.proofs.Spans.{Pushed, pushed_start, pushed_more}
 use Rattle.net_stack.specs.Stack.{alternative_stacked}
 use Rattle.net_stack.specs.Openings.{stack_length, ends_strand, opening_of, opening_at, opening_left, opened_if}
 use Rattle.net_stack.proofs.Stacks.{stack_push}
@@ -392,3 +392,6 @@ module _ (node : ℕ → EstTime) (nodes : ℕ) (e : LinkEvent) (start : ℕ) (l
 
           pub standing-turned : Turned m list left x.idx_next stack₂ y met list'
           standing-turned = record { pushed = got.1; leaves = turned-leaves; goes = turned-goes }
+
+-- where both loops begin
+pub ruleset beginning_laws = (popping_start, popping_on, pushed_start)

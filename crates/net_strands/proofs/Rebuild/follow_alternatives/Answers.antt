@@ -8,7 +8,7 @@ use Rattle.net_node.proofs.Events.{event_eq}
 use Rattle.net_join_paths.specs.declared.EstJoinPath.{EstJoinPath}
 use Rattle.net_join_paths.specs.Entries.{entry, pushed_if}
 use Rattle.net_join_paths.proofs.Entries.{over_as}
-use Rattle.net_strands.proofs.Alternatives.{following_start, following_over, following_last, following_on}
+use Rattle.net_strands.proofs.Alternatives.{following_over, following_last, following_on}
 use Rattle.net_strands.proofs.Rebuild.follow_alternatives.Goals as goal
 use Rattle.net_strands.proofs.Rebuild.follow_alternatives.Goals.{Joined-eq, then-eq+in_ok-push_entry, else-eq}
 
@@ -24,9 +24,6 @@ got c =
       | then-eq+in_ok-push_entry w ↦ ap pushed w.if-eq.true ∙ w.in_ok-push_entry.ensures.list ∙ ap items (sym w.list-is)
       | else-eq w ↦ ap pushed w.if-eq.false ∙ ap items (sym w.list-is)
     ]
-
-pub loop-x-init : goal.loop-x-init
-loop-x-init c = following_start _ _ _ _ _ _ c.requires
 
 pub returns-in_err-push_entry : goal.returns-in_err-push_entry
 unfolding entry

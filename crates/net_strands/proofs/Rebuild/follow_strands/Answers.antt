@@ -3,7 +3,6 @@
 use mathlib.Core.Path.{◌≡◌, refl, sym, ap, ◌∙◌}
 use mathlib.Core.Bool.{Bool, false}
 use mathlib.Core.Option.{some}
-use mathlib.Core.List.{List, [], ◌∷◌, ◌++◌}
 use Prim.{tt}
 use Prim.Native.Nat.{ℕ, ◌+◌, ◌≤◌}
 use native.Mathlib.Omega.{arith}
@@ -14,12 +13,12 @@ use Rattle.net_node.proofs.Events.{event_eq}
 use Rattle.arrayvec.specs.ArrayVec.{ArrayVec}
 use Rattle.net_join_paths.specs.declared.EstJoinPath.{EstJoinPath}
 use Rattle.net_join_paths.specs.Entries.{entry, pushed_if}
-use Rattle.net_join_paths.proofs.Spans.{Pushed, pushed_start, pushed_then}
+use Rattle.net_join_paths.proofs.Spans.{Pushed, pushed_then}
 use Rattle.net_stack.specs.Stack.{alternative_stacked}
 use Rattle.net_stack.specs.Openings.{stack_length, opening_of, opens, opened_if}
 use Rattle.net_strands.specs.Given.{WalkGives}
 use Rattle.net_strands.proofs.Given.{given_kept, given_noted, extends_over}
-use Rattle.net_strands.proofs.Walking.{nothing_left, Closing, Turned, popping_start, popping_last, popping_on}
+use Rattle.net_strands.proofs.Walking.{nothing_left, Closing, Turned, popping_last}
 use Rattle.net_strands.proofs.Walking.{popping_closes, closes_says, known_gives, standing_over, standing_full}
 use Rattle.net_strands.proofs.Walking.{known_short, known_over, known_pushed, standing-turned}
 use Rattle.net_strands.proofs.Rebuild.follow_strands.Goals as goal
@@ -105,18 +104,6 @@ turned c =
     (s.holds ∙ ap (alternative_stacked c.load-node.result.idx_next_alt) p.holds) (omega (arith, s.top, p.room))
     _ _ (sym (c.eq-has_event.ensures ∙ event_eq _ _)) _ (got c)
 
-pub strands-init : goal.strands-init
-strands-init c =
-    let r =
-    c.requires in (
-      refl,
-      popping_start _ _ _ _ _ _ (c.push.ensures.items
-          ∙ ap (λ (s : List ℕ). s ++ (c.args.start ∷ [])) c.clear.ensures) r.start_lt_count,
-      pushed_start _ _,
-      r.given,
-      λ z t. t,
-    )
-
 pub close_node-requires-clause-i_lt_places : goal.close_node-requires-clause-i_lt_places
 close_node-requires-clause-i_lt_places c =
     omega (
@@ -156,14 +143,6 @@ pub strands-preserved-in_default-pop : goal.strands-preserved-in_default-pop
 strands-preserved-in_default-pop c =
     absurd ((closing (goal.at.strands-preserved-in_default-pop c).Then-top-ge65536).below
     (nothing_left _ c.in_default-pop.ensures.variant.1))
-
-pub loop-left-init : goal.loop-left-init
-loop-left-init c = (
-  omega arith,
-  popping_on _ _ _ _ _ c.strands.invariant.1 _ _ c.in-Some.ensures.items c.args.self.now.nodes.room.most
-      (omega (arith, c.if-top-ge65536.false)),
-  pushed_start _ _,
-)
 
 pub returns-then-left-nexts : goal.returns-then-left-nexts
 returns-then-left-nexts c = record {
