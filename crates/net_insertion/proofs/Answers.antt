@@ -101,3 +101,6 @@ module _ {t : Table} {n : ℕ} {join : Float} {p : Place} {e : TimedEvent} where
           holds (Split i) gs vs f (m.0 ∙ ap (λ (x : Table). (add_behind x n (n + 1) e).floats) z)
               (m.1 ∙ ap (λ (x : Table). (add_behind x n (n + 1) e).numbers) z),
         )
+
+-- each way to refuse
+pub ruleset refused_laws = (flagged_set, open_full, open_ended, split_full)

@@ -157,6 +157,7 @@ fn place_at(i: u32, e: TimedEvent) -> Place
 }
 
 // Inserts an event at a run's place into a network of n nodes. A node whose cell is set ends a finished run.
+#[tactic(auto, using(crate::proofs::Answers::refused_laws))]
 pub fn insert_est_time(
     floats: &mut [f64],
     numbers: &mut [u32],
