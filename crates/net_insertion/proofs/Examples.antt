@@ -9,13 +9,15 @@ use Rattle.net_node.specs.declared.EstType.{EstType}
 use Rattle.net_node.specs.declared.EstType.TheVariants.{Arrive, Clear, Fake}
 use Rattle.net_node.specs.declared.EstTime.{EstTime}
 use Rattle.net_node.specs.declared.TimedEvent.{TimedEvent}
-use Rattle.net_node.specs.Table.{same_event, node_at, put_floats, put_numbers, blank, Table, table_of, at, with_arc, with_speed, with_next, with_next_alt, with_prev, with_event}
+use Rattle.net_node.specs.Table.{same_event, node_at, put_floats, put_numbers, blank, Table, table_of, at, with_arc}
+use Rattle.net_node.specs.Table.{with_speed, with_next, with_next_alt, with_prev, with_event}
 use Rattle.net_insertion.specs.declared.Place.{Place}
 use Rattle.net_insertion.specs.declared.Seek.TheVariants.{Match, Split}
 use Rattle.std.specs.Prelude.{Ok, Err}
 use Rattle.refusals.specs.declared.Refusal.TheVariants.{NoPlace, BadEnd}
 use Rattle.net_insertion.specs.declared.Insertion.TheVariants.{Added, Moved}
-use Rattle.net_insertion.specs.Insertion.{linked_to, event_node, split_fake, add_behind, split_at, place_at, sought_in, inserted, inserted_table}
+use Rattle.net_insertion.specs.Insertion.{linked_to, event_node, split_fake, add_behind, split_at, place_at, sought_in}
+use Rattle.net_insertion.specs.Insertion.{inserted, inserted_table}
 
 abbrev 0s : Float
 0s = of_bits binary64 0
@@ -37,7 +39,10 @@ abbrev 4s : Float
 -- a node with the time and distance that it holds, its speed, next, next alternative, previous, kind and link
 abbrev whole : Float → Float → Float → ℕ → ℕ → ℕ → EstType → ℕ → EstTime
 whole time dist speed next alt prev kind link =
-    with_prev (with_next_alt (with_next (with_event (with_speed (with_arc blank time dist) speed) (record { link_idx = link; est_type = kind })) next) alt) prev
+    with_prev
+    (with_next_alt
+    (with_next (with_event (with_speed (with_arc blank time dist) speed)
+    (record { link_idx = link; est_type = kind })) next) alt) prev
 
 -- one whose speed and what it holds are 1
 abbrev node : EstType → ℕ → ℕ → ℕ → EstTime
@@ -57,7 +62,12 @@ abbrev then : ℕ → Place
 then i = record { time_to_next = 4s; dist_to_next = 4s; idx_prev = i }
 
 abbrev event : Float → EstType → ℕ → TimedEvent
-event speed kind link = record { time = 4s; offset = 4s; speed = speed; link_event = record { link_idx = link; est_type = kind } }
+event speed kind link = record {
+  time = 4s;
+  offset = 4s;
+  speed = speed;
+  link_event = record { link_idx = link; est_type = kind };
+}
 
 -- node 1 has the Arrive of link 1 for its next; two places are free
 abbrev arrived : Table

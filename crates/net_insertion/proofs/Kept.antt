@@ -1,4 +1,5 @@
--- What a caller may know of an insertion: where the place found lies, which nodes are written and which are left alone, and that the network stays indexed.
+-- What a caller may know of an insertion: where the place found lies, which nodes are written and which are left alone,
+-- and that the network stays indexed.
 use mathlib.Core.Path.{◌≡◌, refl, sym, ap, ◌∙◌, subst}
 use mathlib.Core.Logic.{◌≢◌}
 use mathlib.Core.Bool.{Bool, true, false}
@@ -19,9 +20,12 @@ use Rattle.std.specs.Prelude.{Result, Ok, Err}
 use Rattle.refusals.specs.declared.Refusal.{Refusal}
 use Rattle.net_insertion.specs.declared.Insertion.{Insertion}
 use Rattle.net_insertion.specs.declared.Insertion.TheVariants.{Added, Moved}
-use Rattle.net_insertion.specs.Insertion.{matches, linked_to, event_node, split_fake, add_behind, split_at, place_at, added_as, inserted_as, table_as, sought_in, inserted, inserted_table, InsertedInto}
+use Rattle.net_insertion.specs.Insertion.{matches, linked_to, event_node, split_fake, add_behind, split_at, place_at}
+use Rattle.net_insertion.specs.Insertion.{added_as, inserted_as, table_as, sought_in, inserted, inserted_table}
+use Rattle.net_insertion.specs.Insertion.{InsertedInto}
 use Rattle.net_insertion.proofs.Seeking.{Found, sought_found}
-use Rattle.net_insertion.proofs.Puts.{add_found, add_new, add_indexed, add_other, add_room, split_found, split_new, split_indexed, split_other, split_room}
+use Rattle.net_insertion.proofs.Puts.{add_found, add_new, add_indexed, add_other, add_room, split_found, split_new}
+use Rattle.net_insertion.proofs.Puts.{split_indexed, split_other, split_room}
 
 -- a table's nodes, as contracts name them
 pub at_is : (t : Table) → at t ≡ node_at t.floats t.numbers
@@ -29,12 +33,15 @@ unfolding at
 at_is t = refl
 
 -- the place found is a node
-pub place_found : (t : Table) (n : ℕ) (join : Float) (p : Place) (e : TimedEvent) → Indexed (at t) n → p.idx_prev < n → Found (at t) n join e (sought_in t n join p e)
+pub place_found : (t : Table) (n : ℕ) (join : Float) (p : Place) (e : TimedEvent) → Indexed (at t) n → p.idx_prev < n
+    → Found (at t) n join e (sought_in t n join p e)
 unfolding sought_in
 place_found t n join p e w h = sought_found (at t) n join e p.idx_prev (sought_in t n join p e) refl w h
 
 -- two tests for a finished run's event that agree on the nodes give one answer
-pub inserted_same : (t : Table) (n places : ℕ) (f g : ℕ → Bool) (join : Float) (p : Place) (e : TimedEvent) → Indexed (at t) n → p.idx_prev < n → ((i : ℕ) → i < n → f i ≡ g i) → inserted t n places f join p e ≡ inserted t n places g join p e
+pub inserted_same : (t : Table) (n places : ℕ) (f g : ℕ → Bool) (join : Float) (p : Place) (e : TimedEvent)
+    → Indexed (at t) n → p.idx_prev < n → ((i : ℕ) → i < n → f i ≡ g i)
+    → inserted t n places f join p e ≡ inserted t n places g join p e
 unfolding inserted
 inserted_same t n places f g join p e w h s = go (sought_in t n join p e) (place_found t n join p e w h)
   where
@@ -99,7 +106,8 @@ module _ (t : Table) (n places : ℕ) (ended : ℕ → Bool) (join : Float) (p :
   Kept after (Ok (Added q true)) = AddedBySplit after q
   Kept after (Err r) = Unit
 
-  pub added_grown : (after : Table) (q : Place) (split : Bool) → Kept after (Ok (Added q split)) → Grown after (n + more split) places q
+  pub added_grown : (after : Table) (q : Place) (split : Bool) → Kept after (Ok (Added q split))
+      → Grown after (n + more split) places q
   added_grown after q false k = k.grown
   added_grown after q true k = k.grown
 
@@ -117,7 +125,8 @@ module _ (t : Table) (n places : ℕ) (ended : ℕ → Bool) (join : Float) (p :
     unfolding place_at
     moved i s f = record { sought = s; place = refl; within = f.0; some = f.1.0; same = f.1.1; table = refl }
 
-    opened : (i : ℕ) → sought_in t n join p e ≡ Open i → Found (at t) n join e (Open i) → n < places → ended i ≡ false → AddedBehind (add_behind t i n e) (place_at n e)
+    opened : (i : ℕ) → sought_in t n join p e ≡ Open i → Found (at t) n join e (Open i) → n < places → ended i ≡ false
+        → AddedBehind (add_behind t i n e) (place_at n e)
     unfolding place_at
     opened i s f g d = record {
       node = i;
@@ -132,7 +141,8 @@ module _ (t : Table) (n places : ℕ) (ended : ℕ → Bool) (join : Float) (p :
       grown = record { indexed = add_indexed t i n places r w f.0 g e; last = refl; room = omega arith };
     }
 
-    divided : (i : ℕ) → sought_in t n join p e ≡ Split i → Found (at t) n join e (Split i) → n + 1 < places → AddedBySplit (add_behind (split_at t i n p) n (n + 1) e) (place_at (n + 1) e)
+    divided : (i : ℕ) → sought_in t n join p e ≡ Split i → Found (at t) n join e (Split i) → n + 1 < places
+        → AddedBySplit (add_behind (split_at t i n p) n (n + 1) e) (place_at (n + 1) e)
     unfolding place_at
     divided i s f g =
         let half : Table = split_at t i n p in
@@ -147,11 +157,20 @@ module _ (t : Table) (n places : ℕ) (ended : ℕ → Bool) (join : Float) (p :
           within = f.0;
           next = f.1.0;
           no_alt = f.1.1;
-          found = add_other half n (n + 1) e i (λ (o : i ≡ n). omega (arith, f.0)) (λ (o : i ≡ n + 1). omega (arith, f.0)) ∙ split_found t i n places r w f.0 l p;
-          fake = add_found half n (n + 1) places v x k g e ∙ ap (λ (z : EstTime). linked_to z (n + 1) e) (split_new t i n places r w f.0 l p);
+          found =
+              add_other half n (n + 1) e i (λ (o : i ≡ n). omega (arith, f.0)) (λ (o : i ≡ n + 1). omega (arith, f.0))
+              ∙ split_found t i n places r w f.0 l p;
+          fake = add_found half n (n + 1) places v x k g e
+              ∙ ap (λ (z : EstTime). linked_to z (n + 1) e) (split_new t i n places r w f.0 l p);
           added = add_new half n (n + 1) places v x k g e;
           others = λ j a b c. add_other half n (n + 1) e j b c ∙ split_other t i n p j a b;
-          grown = record { indexed = subst (Indexed (at (add_behind half n (n + 1) e))) (omega arith) (add_indexed half n (n + 1) places v x k g e); last = omega arith; room = omega arith };
+          grown = record {
+            indexed =
+                subst (Indexed (at (add_behind half n (n + 1) e))) (omega arith)
+                (add_indexed half n (n + 1) places v x k g e);
+            last = omega arith;
+            room = omega arith;
+          };
         }
 
     -- what holds after an insertion, by its answer
@@ -159,35 +178,44 @@ module _ (t : Table) (n places : ℕ) (ended : ℕ → Bool) (join : Float) (p :
     unfolding inserted_table inserted
     inserted_kept = go (sought_in t n join p e) refl (place_found t n join p e w h)
       where
-        behind : (i : ℕ) → sought_in t n join p e ≡ Open i → Found (at t) n join e (Open i) → (a b : Bool) → ltb n places ≡ a → ended i ≡ b → Kept (add_behind t i n e) (added_as a b (Added (place_at n e) false))
+        behind : (i : ℕ) → sought_in t n join p e ≡ Open i → Found (at t) n join e (Open i) → (a b : Bool)
+            → ltb n places ≡ a → ended i ≡ b → Kept (add_behind t i n e) (added_as a b (Added (place_at n e) false))
         behind i s f false b c d = tt
         behind i s f true true c d = tt
         behind i s f true false c d = opened i s f (ltb-true n places c) d
 
-        split : (i : ℕ) → sought_in t n join p e ≡ Split i → Found (at t) n join e (Split i) → (a : Bool) → ltb (n + 1) places ≡ a
+        split : (i : ℕ) → sought_in t n join p e ≡ Split i → Found (at t) n join e (Split i) → (a : Bool)
+            → ltb (n + 1) places ≡ a
             → Kept (add_behind (split_at t i n p) n (n + 1) e) (added_as a false (Added (place_at (n + 1) e) true))
         split i s f false c = tt
         split i s f true c = divided i s f (ltb-true (n + 1) places c)
 
-        go : (s : Seek) → sought_in t n join p e ≡ s → Found (at t) n join e s → Kept (table_as s t n p e) (inserted_as s n places ended e)
+        go : (s : Seek) → sought_in t n join p e ≡ s → Found (at t) n join e s
+            → Kept (table_as s t n p e) (inserted_as s n places ended e)
         go (Match i) s f = moved i s f
         go (Open i) s f = behind i s f (ltb n places) (ended i) refl refl
         go (Split i) s f = split i s f (ltb (n + 1) places) refl
 
-    pub kept_as : (a : Result Insertion Refusal) → inserted t n places ended join p e ≡ a → Kept (inserted_table t n join p e) a
+    pub kept_as : (a : Result Insertion Refusal) → inserted t n places ended join p e ≡ a
+        → Kept (inserted_table t n join p e) a
     kept_as a f = subst (Kept (inserted_table t n join p e)) f inserted_kept
 
-    pub grown_as : (q : Place) (split : Bool) → inserted t n places ended join p e ≡ Ok (Added q split) → Grown (inserted_table t n join p e) (n + more split) places q
+    pub grown_as : (q : Place) (split : Bool) → inserted t n places ended join p e ≡ Ok (Added q split)
+        → Grown (inserted_table t n join p e) (n + more split) places q
     grown_as q split f = added_grown (inserted_table t n join p e) q split (kept_as (Ok (Added q split)) f)
 
     -- the same from what the function promises
-    pub call_kept : (fs : List Float) (us : List ℕ) (a : Result Insertion Refusal) → a ≡ inserted t n places ended join p e → InsertedInto t n join p e fs us a → Kept (record { floats = fs; numbers = us }) a
+    pub call_kept : (fs : List Float) (us : List ℕ) (a : Result Insertion Refusal)
+        → a ≡ inserted t n places ended join p e → InsertedInto t n join p e fs us a
+        → Kept (record { floats = fs; numbers = us }) a
     call_kept fs us a f = go a (kept_as a (sym f))
       where
-        same : (fs ≡ (inserted_table t n join p e).floats) × (us ≡ (inserted_table t n join p e).numbers) → ◌≡◌ {A = Table} (inserted_table t n join p e) (record { floats = fs; numbers = us })
+        same : (fs ≡ (inserted_table t n join p e).floats) × (us ≡ (inserted_table t n join p e).numbers)
+            → ◌≡◌ {A = Table} (inserted_table t n join p e) (record { floats = fs; numbers = us })
         same l = λ k. record { floats = sym l.0 k; numbers = sym l.1 k }
 
-        go : (a : Result Insertion Refusal) → Kept (inserted_table t n join p e) a → InsertedInto t n join p e fs us a → Kept (record { floats = fs; numbers = us }) a
+        go : (a : Result Insertion Refusal) → Kept (inserted_table t n join p e) a → InsertedInto t n join p e fs us a
+            → Kept (record { floats = fs; numbers = us }) a
         go (Ok (Moved q)) v l = subst (λ (x : Table). Kept x (Ok (Moved q))) (same l) v
         go (Ok (Added q false)) v l = subst (λ (x : Table). Kept x (Ok (Added q false))) (same l) v
         go (Ok (Added q true)) v l = subst (λ (x : Table). Kept x (Ok (Added q true))) (same l) v

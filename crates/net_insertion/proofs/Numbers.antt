@@ -26,11 +26,13 @@ added_as_lem false ended q split = inl refl
 added_as_lem true true q split = inr refl
 added_as_lem true false q split = tt
 
-inserted_as_lem : (s : Seek) (n places : ℕ) (ended : ℕ → Bool) (e : TimedEvent) → RefusesAs (inserted_as s n places ended e)
+inserted_as_lem : (s : Seek) (n places : ℕ) (ended : ℕ → Bool) (e : TimedEvent)
+    → RefusesAs (inserted_as s n places ended e)
 inserted_as_lem (Match i) n places ended e = tt
 inserted_as_lem (Open i) n places ended e = added_as_lem (ltb n places) (ended i) (place_at n e) false
 inserted_as_lem (Split i) n places ended e = added_as_lem (ltb (n + 1) places) false (place_at (n + 1) e) true
 
-pub inserted_refuses : (t : Table) (n places : ℕ) (ended : ℕ → Bool) (join : Float) (p : Place) (e : TimedEvent) → RefusesAs (inserted t n places ended join p e)
+pub inserted_refuses : (t : Table) (n places : ℕ) (ended : ℕ → Bool) (join : Float) (p : Place) (e : TimedEvent)
+    → RefusesAs (inserted t n places ended join p e)
 unfolding inserted
 inserted_refuses t n places ended join p e = inserted_as_lem (sought_in t n join p e) n places ended e

@@ -1,4 +1,5 @@
--- Nodes written into a table: what is read at their places and at others, that the room stays, and that additions leave it indexed.
+-- Nodes written into a table: what is read at their places and at others, that the room stays, and that additions leave
+-- it indexed.
 use mathlib.Core.Path.{◌≡◌, ap, ◌∙◌}
 use mathlib.Core.Logic.{◌≢◌}
 use mathlib.Core.List.{List}
@@ -29,8 +30,22 @@ module _ (t : Table) (i n places : ℕ) (r : RoomIn t places) (w : Indexed (at t
     add_indexed =
         let f = fits_at w i (n + 1) h (omega arith) in
         both_indexed t i n (linked_to (at t i) n e) (event_node e i) places r w h g
-        (record { next = omega arith; next_alt = f.next_alt; prev = f.prev; prev_alt = f.prev_alt; next_alt_rises = f.next_alt_rises; prev_alt_rises = f.prev_alt_rises })
-        (record { next = omega arith; next_alt = omega arith; prev = omega arith; prev_alt = omega arith; next_alt_rises = λ o. omega arith; prev_alt_rises = λ o. omega arith })
+        (record {
+          next = omega arith;
+          next_alt = f.next_alt;
+          prev = f.prev;
+          prev_alt = f.prev_alt;
+          next_alt_rises = f.next_alt_rises;
+          prev_alt_rises = f.prev_alt_rises;
+        })
+        (record {
+          next = omega arith;
+          next_alt = omega arith;
+          prev = omega arith;
+          prev_alt = omega arith;
+          next_alt_rises = λ o. omega arith;
+          prev_alt_rises = λ o. omega arith;
+        })
 
   module _ (p : Place) where
     pub split_found : at (split_at t i n p) i ≡ with_next_alt (at t i) n
@@ -46,8 +61,22 @@ module _ (t : Table) (i n places : ℕ) (r : RoomIn t places) (w : Indexed (at t
     split_indexed =
         let f = fits_at w i (n + 1) h (omega arith) in
         both_indexed t i n (with_next_alt (at t i) n) (split_fake p i) places r w h g
-        (record { next = f.next; next_alt = omega arith; prev = f.prev; prev_alt = f.prev_alt; next_alt_rises = λ o. h; prev_alt_rises = f.prev_alt_rises })
-        (record { next = omega arith; next_alt = omega arith; prev = omega arith; prev_alt = omega arith; next_alt_rises = λ o. omega arith; prev_alt_rises = λ o. omega arith })
+        (record {
+          next = f.next;
+          next_alt = omega arith;
+          prev = f.prev;
+          prev_alt = f.prev_alt;
+          next_alt_rises = λ o. h;
+          prev_alt_rises = f.prev_alt_rises;
+        })
+        (record {
+          next = omega arith;
+          next_alt = omega arith;
+          prev = omega arith;
+          prev_alt = omega arith;
+          next_alt_rises = λ o. omega arith;
+          prev_alt_rises = λ o. omega arith;
+        })
 
 module _ (t : Table) (i n : ℕ) where
   pub add_other : (e : TimedEvent) (j : ℕ) → j ≢ i → j ≢ n → at (add_behind t i n e) j ≡ at t j
@@ -81,14 +110,20 @@ module _ (t : Table) (i k : ℕ) (fs gs : List Float) (us vs : List ℕ) (u v : 
   both_stored : (x y : EstTime) → u ≡ x → v ≡ y → Stored → Holds (both t i k x y)
   unfolding put
   both_stored x y a b s = (
-    s.floats_then ∙ ap (put_floats fs k) b ∙ ap (λ (l : List Float). put_floats l k y) (s.floats ∙ ap (put_floats t.floats i) a),
-    s.numbers_then ∙ ap (put_numbers us k) b ∙ ap (λ (l : List ℕ). put_numbers l k y) (s.numbers ∙ ap (put_numbers t.numbers i) a),
+    s.floats_then ∙ ap (put_floats fs k) b ∙ ap (λ (l : List Float). put_floats l k y)
+        (s.floats ∙ ap (put_floats t.floats i) a),
+    s.numbers_then ∙ ap (put_numbers us k) b
+        ∙ ap (λ (l : List ℕ). put_numbers l k y) (s.numbers ∙ ap (put_numbers t.numbers i) a),
   )
 
-  pub add_stored : (e : TimedEvent) (x : EstTime) → x ≡ node_at t.floats t.numbers i → u ≡ linked_to x k e → v ≡ event_node e i → Stored → Holds (add_behind t i k e)
+  pub add_stored : (e : TimedEvent) (x : EstTime) → x ≡ node_at t.floats t.numbers i → u ≡ linked_to x k e
+      → v ≡ event_node e i → Stored → Holds (add_behind t i k e)
   unfolding add_behind at
-  add_stored e x l a b = both_stored (linked_to (at t i) k e) (event_node e i) (a ∙ ap (λ (z : EstTime). linked_to z k e) l) b
+  add_stored e x l a b =
+      both_stored (linked_to (at t i) k e) (event_node e i) (a ∙ ap (λ (z : EstTime). linked_to z k e) l) b
 
-  pub split_stored : (p : Place) (x : EstTime) → x ≡ node_at t.floats t.numbers i → u ≡ with_next_alt x k → v ≡ split_fake p i → Stored → Holds (split_at t i k p)
+  pub split_stored : (p : Place) (x : EstTime) → x ≡ node_at t.floats t.numbers i → u ≡ with_next_alt x k
+      → v ≡ split_fake p i → Stored → Holds (split_at t i k p)
   unfolding split_at at
-  split_stored p x l a b = both_stored (with_next_alt (at t i) k) (split_fake p i) (a ∙ ap (λ (z : EstTime). with_next_alt z k) l) b
+  split_stored p x l a b =
+      both_stored (with_next_alt (at t i) k) (split_fake p i) (a ∙ ap (λ (z : EstTime). with_next_alt z k) l) b

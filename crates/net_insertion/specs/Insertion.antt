@@ -2,13 +2,15 @@
 -- event and speed gap strictly below J: move there. Else follow the next alternative, or add a Fake (a split) and add
 -- behind it." The network is a function from index to node where it is only read, and the table's two lists where it
 -- changes.
-use Rattle.std.specs.Prelude.{◌≡◌, Bool, true, false, ◌&&◌, List, ℕ, zero, suc, ◌+◌, ◌*◌, eqb, ltb, get_or, Float, Result, Ok, Err}
+use Rattle.std.specs.Prelude.{◌≡◌, Bool, true, false, ◌&&◌, List, ℕ, zero, suc, ◌+◌, ◌*◌, eqb, ltb, get_or, Float}
+use Rattle.std.specs.Prelude.{Result, Ok, Err}
 use Rattle.std.specs.Float.{binary64}
 use Rattle.std.specs.Float.Ieee.{sub, lt}
 use Rattle.floats.specs.Floats.{gap}
 use Rattle.net_node.specs.declared.EstTime.{EstTime}
 use Rattle.net_node.specs.declared.TimedEvent.{TimedEvent}
-use Rattle.net_node.specs.Table.{Table, put, at, same_event, blank, with_arc, with_speed, with_next, with_next_alt, with_prev}
+use Rattle.net_node.specs.Table.{Table, put, at, same_event, blank, with_arc, with_speed, with_next, with_next_alt}
+use Rattle.net_node.specs.Table.{with_prev}
 use Rattle.net_node.specs.Table.{with_event}
 use Rattle.net_insertion.specs.declared.Place.{Place}
 use Rattle.net_insertion.specs.declared.Seek.{Seek}
@@ -119,7 +121,8 @@ unfolding sought_in
 inserted_table t n join p e = table_as (sought_in t n join p e) t n p e
 
 -- what an answer says of the table's lists, which were t before: a refusal leaves them as they were
-abbrev pub InsertedInto : Table → ℕ → Float → Place → TimedEvent → List Float → List ℕ → Result Insertion Refusal → Type 0
+abbrev pub InsertedInto : Table → ℕ → Float → Place → TimedEvent → List Float → List ℕ → Result Insertion Refusal
+    → Type 0
 InsertedInto t n join p e floats numbers (Err r) = (floats ≡ t.floats) × (numbers ≡ t.numbers)
 InsertedInto t n join p e floats numbers (Ok i) =
     (floats ≡ (inserted_table t n join p e).floats) × (numbers ≡ (inserted_table t n join p e).numbers)

@@ -47,6 +47,7 @@ fn is_match(join: f64, e: TimedEvent, node: EstTime) -> bool
 }
 
 // From a node along its alternatives to where the event goes.
+#[tactic(auto, using(crate::proofs::Seeking::seeking_start, crate::proofs::Seeking::seeking_on))]
 fn seek_place(nodes: &Nodes, join: f64, e: TimedEvent, start: u32) -> Seek
     requires { start < nodes.now.count }
     ensures { result ≡ seek nodes.now.count (nodes_held nodes.now) join e start }
@@ -156,6 +157,7 @@ fn place_at(i: u32, e: TimedEvent) -> Place
 }
 
 // Inserts an event at a run's place into a network of n nodes. A node whose cell is set ends a finished run.
+#[tactic(auto, using(crate::proofs::Answers::refused_laws))]
 pub fn insert_est_time(
     floats: &mut [f64],
     numbers: &mut [u32],

@@ -54,10 +54,13 @@ module _ (c : List ℕ) (w : Layout) where
   chain_one i (j ∷ is) js h g =
       let p : i ≡ 0 → ⊥ = λ (e : i ≡ 0). omega (arith, h.0, h.1.0.some) in
       let o = chain_open i js g p in
-      ap (λ (k : ℕ). k ∷ is) (sym h.0) ∙ ap (λ (q : List ℕ). i ∷ q) (chain_one (after i) is o.later (subst (λ (k : ℕ). Chain c w (after k) is) (sym h.0) h.1.1) o.chain) ∙ sym o.is
+      ap (λ (k : ℕ). k ∷ is) (sym h.0) ∙ ap (λ (q : List ℕ). i ∷ q)
+      (chain_one (after i) is o.later (subst (λ (k : ℕ). Chain c w (after k) is) (sym h.0) h.1.1) o.chain) ∙ sym o.is
 
 -- cells that agree with a map's where its Arrives are kept are a chain of them
-module _ {c : List ℕ} {w : Layout} {node : ℕ → EstTime} {n : ℕ} (v : Mapped c w node n) (m : n ≤ w.places) (l : ℕ) (b : l < w.links) (d : List ℕ) (s : (i : ℕ) → get_or d (w.nodes_at + i * 8) 0 ≡ get_or c (w.nodes_at + i * 8) 0) where
+module _ {c : List ℕ} {w : Layout} {node : ℕ → EstTime} {n : ℕ} (v : Mapped c w node n) (m : n ≤ w.places) (l : ℕ)
+    (b : l < w.links) (d : List ℕ) (s : (i : ℕ)
+    → get_or d (w.nodes_at + i * 8) 0 ≡ get_or c (w.nodes_at + i * 8) 0) where
   abbrev from : ℕ → ℕ → List ℕ
   from a k = nodes_from node (arrive_at l) a k
 
@@ -69,26 +72,36 @@ module _ {c : List ℕ} {w : Layout} {node : ℕ → EstTime} {n : ℕ} (v : Map
       go (inr z) = let u = (walked node l a k i h (omega arith)).inside in absurd (omega (arith, u.from, u.below))
   chain_from (suc fuel) a k i e f h = go (equal_or_not i 0) (chain_from fuel)
     where
-      go : (i ≡ 0) ⊎ (i ≡ 0 → ⊥) → ((a k i : ℕ) → a + k ≡ n → k ≤ fuel → head_of (from a k) ≡ i → Chain d w i (from a k)) → Chain d w i (from a k)
+      go : (i ≡ 0) ⊎ (i ≡ 0 → ⊥) → ((a k i : ℕ) → a + k ≡ n → k ≤ fuel → head_of (from a k) ≡ i
+          → Chain d w i (from a k)) → Chain d w i (from a k)
       go (inl z) ih = subst (Chain d w i) (sym (walked_end v l a k (h ∙ z))) z
       go (inr z) ih =
           let u = walked node l a k i h (omega arith) in
           let q : ℕ = a + k - suc i in
           let o : i < n = omega (arith, u.inside.below) in
           let x : n - suc i ≡ q = omega arith in
-          let t : get_or d (w.nodes_at + i * 8) 0 ≡ head_of (from (suc i) q) = s i ∙ v.next l i b o u.inside.has_it ∙ ap (λ (j : ℕ). head_of (from (suc i) j)) x in
+          let t : get_or d (w.nodes_at + i * 8) 0 ≡ head_of (from (suc i) q) = s i ∙ v.next l i b o u.inside.has_it
+          ∙ ap (λ (j : ℕ). head_of (from (suc i) j)) x in
           subst (Chain d w i) (sym u.is) (
             refl,
             (
-              record { some = omega arith; placed = omega arith; rises = λ p. (walked node l (suc i) q (get_or d (w.nodes_at + i * 8) 0) (sym t) p).inside.from },
-              ih (suc i) q (get_or d (w.nodes_at + i * 8) 0) (omega (arith, u.inside.from)) (omega (arith, u.inside.from, u.inside.below)) (sym t),
+              record {
+                some = omega arith;
+                placed = omega arith;
+                rises = λ p. (walked node l (suc i) q (get_or d (w.nodes_at + i * 8) 0) (sym t) p).inside.from;
+              },
+              ih (suc i) q (get_or d (w.nodes_at + i * 8) 0) (omega (arith, u.inside.from))
+                  (omega (arith, u.inside.from, u.inside.below)) (sym t),
             ),
           )
 
-  pub map_chain : get_or d (w.links_at + l * 8) 0 ≡ get_or c (w.links_at + l * 8) 0 → Chain d w (get_or d (w.links_at + l * 8) 0) (event_nodes node (arrive_at l) n)
+  pub map_chain : get_or d (w.links_at + l * 8) 0 ≡ get_or c (w.links_at + l * 8) 0
+      → Chain d w (get_or d (w.links_at + l * 8) 0) (event_nodes node (arrive_at l) n)
   map_chain f =
-      let h : head_of (from 0 n) ≡ get_or d (w.links_at + l * 8) 0 = ap head_of (sym (all_are node (arrive_at l) n)) ∙ sym (f ∙ v.first l b) in
-      subst (Chain d w (get_or d (w.links_at + l * 8) 0)) (sym (all_are node (arrive_at l) n)) (chain_from n 0 n (get_or d (w.links_at + l * 8) 0) (omega arith) (omega arith) h)
+      let h : head_of (from 0 n) ≡ get_or d (w.links_at + l * 8) 0 = ap head_of (sym (all_are node (arrive_at l) n))
+      ∙ sym (f ∙ v.first l b) in
+      subst (Chain d w (get_or d (w.links_at + l * 8) 0)) (sym (all_are node (arrive_at l) n))
+      (chain_from n 0 n (get_or d (w.links_at + l * 8) 0) (omega arith) (omega arith) h)
 
 -- ---- the loop
 
@@ -106,7 +119,8 @@ abbrev pub turns : ℕ → ℕ → ℕ
 turns places zero = 0
 turns places (suc i) = places - suc i
 
-pub appending_start : (cells : List ℕ) (w : Layout) (l : ℕ) (list : List EstJoinPath) (i : ℕ) → Ending cells w (get_or cells (w.links_at + l * 8) 0) → i ≡ get_or cells (w.links_at + l * 8) 0
+pub appending_start : (cells : List ℕ) (w : Layout) (l : ℕ) (list : List EstJoinPath) (i : ℕ)
+    → Ending cells w (get_or cells (w.links_at + l * 8) 0) → i ≡ get_or cells (w.links_at + l * 8) 0
     → Appending cells w l list list i
 appending_start cells w l list i e f = record {
   all = e.nodes;
@@ -127,11 +141,13 @@ flag_bit : (t : Bool) → not (eqb (bit t) 0) ≡ t
 flag_bit true = refl
 flag_bit false = refl
 
-module _ {cells : List ℕ} {w : Layout} {l : ℕ} {list₀ list : List EstJoinPath} {i : ℕ} (v : Appending cells w l list₀ list i) where
+module _ {cells : List ℕ} {w : Layout} {l : ℕ} {list₀ list : List EstJoinPath} {i : ℕ}
+    (v : Appending cells w l list₀ list i) where
   abbrev goal : List ℕ → Option (List EstJoinPath)
   goal is = appended_all list₀ l is list₀
 
-  pub appending_whole : i ≡ 0 → (is : List ℕ) → Chain cells w (get_or cells (w.links_at + l * 8) 0) is → goal is ≡ some list
+  pub appending_whole : i ≡ 0 → (is : List ℕ) → Chain cells w (get_or cells (w.links_at + l * 8) 0) is
+      → goal is ≡ some list
   unfolding appended_all
   appending_whole h is c =
       ap goal (chain_one cells w (get_or cells (w.links_at + l * 8) 0) is v.all c v.from)
@@ -145,7 +161,8 @@ module _ {cells : List ℕ} {w : Layout} {l : ℕ} {list₀ list : List EstJoinP
     pub turns_less : (next : ℕ) → next ≡ get_or cells (w.nodes_at + i * 8) 0 → turns w.places next < turns w.places i
     turns_less next e = go next i e link_here
       where
-        go : (next i : ℕ) → next ≡ get_or cells (w.nodes_at + i * 8) 0 → ChainLink w.places i (get_or cells (w.nodes_at + i * 8) 0) → turns w.places next < turns w.places i
+        go : (next i : ℕ) → next ≡ get_or cells (w.nodes_at + i * 8) 0
+            → ChainLink w.places i (get_or cells (w.nodes_at + i * 8) 0) → turns w.places next < turns w.places i
         go next zero e k = absurd (omega (arith, k.some))
         go zero (suc i) e k = omega (arith, k.placed)
         go (suc next) (suc i) e k =
@@ -172,13 +189,15 @@ module _ {cells : List ℕ} {w : Layout} {l : ℕ} {list₀ list : List EstJoinP
           ∙ ap (λ (q : List ℕ). appended_all list₀ l q list) (chain_open cells w i v.rest v.chain h).is
           ∙ ap (λ (b : Bool). and_then (appended_if b l i list) (appended_all list₀ l later)) (sym named_is)
 
-      pub appending_over : put ≡ none → (is : List ℕ) → Chain cells w (get_or cells (w.links_at + l * 8) 0) is → goal is ≡ none
+      pub appending_over : put ≡ none → (is : List ℕ) → Chain cells w (get_or cells (w.links_at + l * 8) 0) is
+          → goal is ≡ none
       appending_over o is c =
           ap goal (chain_one cells w (get_or cells (w.links_at + l * 8) 0) is v.all c v.from)
           ∙ turn
           ∙ ap (λ (a : Option (List EstJoinPath)). and_then a (appended_all list₀ l later)) o
 
-      pub appending_on : (list' : List EstJoinPath) → put ≡ some list' → (next : ℕ) → next ≡ get_or cells (w.nodes_at + i * 8) 0 → Appending cells w l list₀ list' next
+      pub appending_on : (list' : List EstJoinPath) → put ≡ some list' → (next : ℕ)
+          → next ≡ get_or cells (w.nodes_at + i * 8) 0 → Appending cells w l list₀ list' next
       appending_on list' o next e = record {
         all = v.all;
         rest = later;

@@ -14,11 +14,13 @@ ended_on (suc j) i f h = refl
 module _ (k : ℕ) (node : ℕ → EstTime) (i : ℕ) (x : EstTime) (l : x ≡ node i) where
   chain_last_lem : x.idx_prev_alt ≡ 0 → chain_end (suc k) node i ≡ i
   unfolding chain_end
-  chain_last_lem h = ap (λ (j : ℕ). chain_end_as j i (chain_end k node)) (ap (λ (y : EstTime). y.idx_prev_alt) (sym l) ∙ h)
+  chain_last_lem h =
+      ap (λ (j : ℕ). chain_end_as j i (chain_end k node)) (ap (λ (y : EstTime). y.idx_prev_alt) (sym l) ∙ h)
 
   chain_on : (x.idx_prev_alt ≡ 0 → ⊥) → chain_end (suc k) node i ≡ chain_end k node x.idx_prev_alt
   unfolding chain_end
-  chain_on h = ap (λ (y : EstTime). chain_end_as y.idx_prev_alt i (chain_end k node)) (sym l) ∙ ended_on x.idx_prev_alt i (chain_end k node) h
+  chain_on h = ap (λ (y : EstTime). chain_end_as y.idx_prev_alt i (chain_end k node)) (sym l)
+      ∙ ended_on x.idx_prev_alt i (chain_end k node) h
 
 -- At node i there are turns left for every later node, and they give the end.
 pub record Following (node : ℕ → EstTime) (n start i : ℕ) : Type 0 where
@@ -32,7 +34,8 @@ following_start node n start h =
     let s : suc (n - 1) ≡ n = omega arith in
     record { left = n - 1; within = h; enough = omega arith; answer = ap (λ (k : ℕ). chain_end k node start) s }
 
-module _ {node : ℕ → EstTime} {n start i : ℕ} (w : Indexed node n) (v : Following node n start i) (x : EstTime) (l : x ≡ node i) where
+module _ {node : ℕ → EstTime} {n start i : ℕ} (w : Indexed node n) (v : Following node n start i) (x : EstTime)
+    (l : x ≡ node i) where
   pub following_last : x.idx_prev_alt ≡ 0 → i ≡ chain_end n node start
   following_last h = sym (chain_last_lem v.left node i x l h) ∙ v.answer
 
@@ -61,16 +64,19 @@ pub record Last (node : ℕ → EstTime) (n i : ℕ) : Type 0 where
   pub within : i < n
   pub no_alt : (node i).idx_prev_alt ≡ 0
 
-chain_from : {node : ℕ → EstTime} {n : ℕ} → Indexed node n → (k i : ℕ) → i < n → n ≤ k + i → Last node n (chain_end k node i)
+chain_from : {node : ℕ → EstTime} {n : ℕ} → Indexed node n → (k i : ℕ) → i < n → n ≤ k + i
+    → Last node n (chain_end k node i)
 unfolding chain_end
 chain_from w zero i h g = absurd (omega arith)
 chain_from {node} {n} w (suc k) i h g = go (node i).idx_prev_alt refl (chain_from w k)
   where
-    go : (j : ℕ) → (node i).idx_prev_alt ≡ j → ((i : ℕ) → i < n → n ≤ k + i → Last node n (chain_end k node i)) → Last node n (chain_end_as j i (chain_end k node))
+    go : (j : ℕ) → (node i).idx_prev_alt ≡ j → ((i : ℕ) → i < n → n ≤ k + i → Last node n (chain_end k node i))
+        → Last node n (chain_end_as j i (chain_end k node))
     go zero e ih = record { within = h; no_alt = e }
     go (suc j) e ih =
         let p : 0 < (node i).idx_prev_alt = omega arith in
         ih (suc j) (subst (λ (m : ℕ). m < n) e (w.prev_alt i h)) (omega (arith, e, w.prev_alt_rises i h p))
 
-pub chain_ends : {node : ℕ → EstTime} {n : ℕ} → Indexed node n → (target : ℕ) → target < n → Last node n (chain_end n node target)
+pub chain_ends : {node : ℕ → EstTime} {n : ℕ} → Indexed node n → (target : ℕ) → target < n
+    → Last node n (chain_end n node target)
 chain_ends {node} {n} w target h = chain_from w n target h (omega arith)

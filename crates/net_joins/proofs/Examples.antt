@@ -11,13 +11,15 @@ use Rattle.net_node.specs.declared.EstType.{EstType}
 use Rattle.net_node.specs.declared.EstType.TheVariants.{Arrive, Clear, Fake}
 use Rattle.net_node.specs.declared.EstTime.{EstTime}
 use Rattle.net_node.specs.declared.TimedEvent.{TimedEvent}
-use Rattle.net_node.specs.Table.{same_event, node_at, put_floats, put_numbers, no_link_event, blank, Table, table_of, at, with_arc, with_speed, with_next, with_prev, with_prev_alt, with_event}
+use Rattle.net_node.specs.Table.{same_event, node_at, put_floats, put_numbers, no_link_event, blank, Table, table_of}
+use Rattle.net_node.specs.Table.{at, with_arc, with_speed, with_next, with_prev, with_prev_alt, with_event}
 use Rattle.net_insertion.specs.Insertion.{linked_to}
 use Rattle.net_event_map.specs.EventMap.{seen_in, event_nodes}
 use Rattle.net_join_paths.specs.declared.EstJoinPath.{EstJoinPath}
 use Rattle.net_join_paths.specs.Entries.{entry, push}
 use Rattle.net_strands.specs.Space.{alternatives, strand_from, strands, extended_all}
-use Rattle.net_joins.specs.Joins.{closest, join_fake, joined_table, appended, JoinsTo, GoesOn, Beyond, JoinStep, join_step}
+use Rattle.net_joins.specs.Joins.{closest, join_fake, joined_table, appended, JoinsTo, GoesOn, Beyond, JoinStep}
+use Rattle.net_joins.specs.Joins.{join_step}
 
 abbrev 0s : Float
 0s = of_bits binary64 0
@@ -39,7 +41,10 @@ abbrev 4s : Float
 -- a node with its speed, kind, link, next, previous and previous alternative; it holds a time and offset of 1
 abbrev node : Float → EstType → ℕ → ℕ → ℕ → ℕ → EstTime
 node speed kind link next prev alt =
-    with_prev_alt (with_prev (with_next (with_event (with_speed (with_arc blank 1s 1s) speed) (record { link_idx = link; est_type = kind })) next) prev) alt
+    with_prev_alt
+    (with_prev
+    (with_next (with_event (with_speed (with_arc blank 1s 1s) speed)
+    (record { link_idx = link; est_type = kind })) next) prev) alt
 
 abbrev free : EstTime
 free = node 0s Fake 0 0 0 0
@@ -47,15 +52,22 @@ free = node 0s Fake 0 0 0 0
 abbrev table : List EstTime → Table
 table = table_of
 
--- Three runs have the Arrive of link 1: node 1, with the Clear 2 behind it; node 3, which joined node 2 through the Fake 4; node 5, with the Clear 6 behind it. Node 7 is the last run's. One place is free.
+-- Three runs have the Arrive of link 1: node 1, with the Clear 2 behind it; node 3, which joined node 2 through the
+-- Fake 4; node 5, with the Clear 6 behind it. Node 7 is the last run's. One place is free.
 abbrev web : Table
 web =
     table
-    (free ∷ node 1s Arrive 1 2 0 0 ∷ node 2s Clear 1 0 1 4 ∷ node 3s Arrive 1 4 0 0 ∷ node 0s Fake 0 2 3 0 ∷ node 4s Arrive 1 6 0 0 ∷ node 4s Clear 1 0 5 0 ∷ node 1s Arrive 1 0 0 0 ∷ free ∷ [])
+    (free ∷ node 1s Arrive 1 2 0 0 ∷ node 2s Clear 1 0 1 4 ∷ node 3s Arrive 1 4 0 0 ∷ node 0s Fake 0 2 3 0
+    ∷ node 4s Arrive 1 6 0 0 ∷ node 4s Clear 1 0 5 0 ∷ node 1s Arrive 1 0 0 0 ∷ free ∷ [])
 
 -- a run's event, at the time and offset of 4
 abbrev event : Float → EstType → ℕ → TimedEvent
-event speed kind link = record { time = 4s; offset = 4s; speed = speed; link_event = record { link_idx = link; est_type = kind } }
+event speed kind link = record {
+  time = 4s;
+  offset = 4s;
+  speed = speed;
+  link_event = record { link_idx = link; est_type = kind };
+}
 
 -- a step of the run that added node 7, with its J
 abbrev step : Float → TimedEvent → List EstJoinPath → JoinStep

@@ -1,4 +1,5 @@
--- What a caller may know of a step: what it joins or goes on with, which nodes a join writes and which it leaves alone, that the network stays indexed, and that the cells still say what it has.
+-- What a caller may know of a step: what it joins or goes on with, which nodes a join writes and which it leaves alone,
+-- that the network stays indexed, and that the cells still say what it has.
 use mathlib.Core.Path.{◌≡◌, refl, sym, ap, ◌∙◌, subst}
 use mathlib.Core.Logic.{◌⊎◌, inl, inr, ◌≢◌}
 use mathlib.Core.Bool.{Bool, true, false, cond}
@@ -29,7 +30,9 @@ use Rattle.net_stack.specs.Stack.{is_arrive}
 use Rattle.net_strands.proofs.Kept.{space_kept}
 use Rattle.std.specs.Prelude.{Ok}
 use Rattle.net_joins.specs.declared.Step.TheVariants.{Joined, Waits}
-use Rattle.net_joins.specs.Joins.{closest, chain_end, join_fake, join_at, joined_table, names, appended_if, appended_all, appended, rebuilt, JoinStep, JoinsTo, GoesOn, Beyond, step_with, joins_if, chosen_as, chosen, join_step, StepAs, SteppedInto}
+use Rattle.net_joins.specs.Joins.{closest, chain_end, join_fake, join_at, joined_table, names, appended_if}
+use Rattle.net_joins.specs.Joins.{appended_all, appended, rebuilt, JoinStep, JoinsTo, GoesOn, Beyond, step_with}
+use Rattle.net_joins.specs.Joins.{joins_if, chosen_as, chosen, join_step, StepAs, SteppedInto}
 use Rattle.net_joins.proofs.Choosing.{closest_within}
 use Rattle.net_joins.proofs.Chains.{Last, chain_ends}
 
@@ -41,14 +44,17 @@ module _ (n : ℕ) (old : List EstJoinPath) (m : ℕ) where
   kept_if true i es h v = v
   kept_if false i es h v = kept_push n es (entry m i) v h
 
-  kept_appended_all : (is : List ℕ) (es : List EstJoinPath) → ((k : ℕ) → k < length is → get_or is k 0 < n) → Sound n es → Kept n (appended_all old m is es)
+  kept_appended_all : (is : List ℕ) (es : List EstJoinPath) → ((k : ℕ) → k < length is → get_or is k 0 < n) → Sound n es
+      → Kept n (appended_all old m is es)
   unfolding appended_all
   kept_appended_all [] es h v = v
   kept_appended_all (i ∷ is) es h v =
-      kept_then n (appended_if (names old i) m i es) (appended_all old m is) (kept_if (names old i) i es (h 0 (omega arith)) v)
+      kept_then n (appended_if (names old i) m i es) (appended_all old m is)
+      (kept_if (names old i) i es (h 0 (omega arith)) v)
       (λ es v. kept_appended_all is es (λ k l. h (suc k) (omega arith)) v)
 
-pub kept_appended : (node : ℕ → EstTime) (n : ℕ) (e : LinkEvent) (es : List EstJoinPath) → Sound n es → Kept n (appended node n e es)
+pub kept_appended : (node : ℕ → EstTime) (n : ℕ) (e : LinkEvent) (es : List EstJoinPath) → Sound n es
+    → Kept n (appended node n e es)
 unfolding appended
 kept_appended node n e es v = go (is_arrive e.est_type)
   where
@@ -79,14 +85,19 @@ module _ {node : ℕ → EstTime} {n : ℕ} (w : Indexed node n) (places : ℕ) 
   kept_chosen none v = tt
   kept_chosen (some es) v = go (lt (closest node join e.speed es).speed_diff_join join) refl
     where
-      go : (b : Bool) → lt (closest node join e.speed es).speed_diff_join join ≡ b → KeptStep n places (chosen_as b (ltb n places) (closest node join e.speed es).est_idx_join (appended node n e.link_event es))
-      go true h = kept_joins (closest node join e.speed es).est_idx_join (closest_within node join e.speed n es v.valid h) (ltb n places) refl
+      go : (b : Bool) → lt (closest node join e.speed es).speed_diff_join join ≡ b
+          → KeptStep n places (chosen_as b (ltb n places) (closest node join e.speed es).est_idx_join
+          (appended node n e.link_event es))
+      go true h =
+          kept_joins (closest node join e.speed es).est_idx_join (closest_within node join e.speed n es v.valid h)
+          (ltb n places) refl
       go false h = kept_goes (appended node n e.link_event es) (kept_appended node n e.link_event es v)
 
   module _ (old : List EstJoinPath) (l : Valid old n) where
     pub step_kept : KeptStep n places (join_step node n places join e old)
     unfolding join_step rebuilt
-    step_kept = kept_chosen (rebuilt node n e.link_event old) (space_kept w e.link_event (seen_in node n e.link_event) old l)
+    step_kept =
+        kept_chosen (rebuilt node n e.link_event old) (space_kept w e.link_event (seen_in node n e.link_event) old l)
 
     -- by the step's equation
     pub goes_sound : (es : List EstJoinPath) → join_step node n places join e old ≡ GoesOn es → Sound n es
@@ -96,16 +107,20 @@ module _ {node : ℕ → EstTime} {n : ℕ} (w : Indexed node n) (places : ℕ) 
     joins_target target h = subst (KeptStep n places) h step_kept
 
     -- by the contract of `join_step`
-    pub waits_sound : (list : List EstJoinPath) → StepAs (join_step node n places join e old) list (Ok Waits) → Sound n list
+    pub waits_sound : (list : List EstJoinPath) → StepAs (join_step node n places join e old) list (Ok Waits)
+        → Sound n list
     waits_sound list h = goes_sound list h
 
-    pub joined_target : (list : List EstJoinPath) (target : ℕ) → StepAs (join_step node n places join e old) list (Ok (Joined target)) → Target n places target
+    pub joined_target : (list : List EstJoinPath) (target : ℕ)
+        → StepAs (join_step node n places join e old) list (Ok (Joined target)) → Target n places target
     joined_target list target h = joins_target target h
 
 -- ---- the table after a join
 
 -- the table that the lists hold then
-pub stepped_table : (t : Table) (n target : ℕ) (e : TimedEvent) (fs : List Float) (us : List ℕ) → SteppedInto t n e fs us (Ok (Joined target)) → ◌≡◌ {A = Table} (record { floats = fs; numbers = us }) (joined_table t n target e)
+pub stepped_table : (t : Table) (n target : ℕ) (e : TimedEvent) (fs : List Float) (us : List ℕ)
+    → SteppedInto t n e fs us (Ok (Joined target))
+    → ◌≡◌ {A = Table} (record { floats = fs; numbers = us }) (joined_table t n target e)
 stepped_table t n target e fs us h = λ k. record { floats = h.0 k; numbers = h.1 k }
 
 module _ (t : Table) (n end : ℕ) (e : TimedEvent) where
@@ -123,22 +138,28 @@ module _ (t : Table) (n end : ℕ) (e : TimedEvent) where
   third_is = refl
 
 -- a node written that fits leaves all fitting
-fits_put : (t : Table) (i : ℕ) (x : EstTime) (places m j : ℕ) → RoomIn t places → i < places → Fits x i m → (j ≢ i → Fits (at t j) j m) → Fits (at (put t i x) j) j m
+fits_put : (t : Table) (i : ℕ) (x : EstTime) (places m j : ℕ) → RoomIn t places → i < places → Fits x i m
+    → (j ≢ i → Fits (at t j) j m) → Fits (at (put t i x) j) j m
 fits_put t i x places m j r h f g = go (equal_or_not j i)
   where
     go : (j ≡ i) ⊎ (j ≡ i → ⊥) → Fits (at (put t i x) j) j m
-    go (inl d) = subst (λ (k : ℕ). Fits (at (put t i x) k) k m) (sym d) (subst (λ (z : EstTime). Fits z i m) (sym (put_same t i x places r h)) f)
+    go (inl d) =
+        subst (λ (k : ℕ). Fits (at (put t i x) k) k m) (sym d)
+        (subst (λ (z : EstTime). Fits z i m) (sym (put_same t i x places r h)) f)
     go (inr d) = subst (λ (z : EstTime). Fits z j m) (sym (put_other t i x j d)) (g d)
 
 -- a number that a node has is kept by a write that keeps it
-kept_put : {A : Type 0} (f : EstTime → A) (t : Table) (i : ℕ) (x : EstTime) (places j : ℕ) → RoomIn t places → i < places → f x ≡ f (at t i) → f (at (put t i x) j) ≡ f (at t j)
+kept_put : {A : Type 0} (f : EstTime → A) (t : Table) (i : ℕ) (x : EstTime) (places j : ℕ) → RoomIn t places
+    → i < places → f x ≡ f (at t i) → f (at (put t i x) j) ≡ f (at t j)
 kept_put f t i x places j r h e = go (equal_or_not j i)
   where
     go : (j ≡ i) ⊎ (j ≡ i → ⊥) → f (at (put t i x) j) ≡ f (at t j)
-    go (inl d) = ap (λ (k : ℕ). f (at (put t i x) k)) d ∙ ap f (put_same t i x places r h) ∙ e ∙ ap (λ (k : ℕ). f (at t k)) (sym d)
+    go (inl d) = ap (λ (k : ℕ). f (at (put t i x) k)) d ∙ ap f (put_same t i x places r h) ∙ e
+        ∙ ap (λ (k : ℕ). f (at t k)) (sym d)
     go (inr d) = ap f (put_other t i x j d)
 
-module _ (t : Table) (n target places : ℕ) (e : TimedEvent) (r : RoomIn t places) (w : Indexed (at t) n) (b : target < n) (g : n < places) where
+module _ (t : Table) (n target places : ℕ) (e : TimedEvent) (r : RoomIn t places) (w : Indexed (at t) n)
+    (b : target < n) (g : n < places) where
   -- the end of the target's chain
   abbrev pub chain_last : ℕ
   chain_last = chain_end n (at t) target
@@ -163,7 +184,9 @@ module _ (t : Table) (n target places : ℕ) (e : TimedEvent) (r : RoomIn t plac
   two_room = put_room one n (join_fake chain_last (n - 1)) places one_room
 
   pub joined_room : RoomIn (joined_table t n target e) places
-  joined_room = subst (λ (s : Table). RoomIn s places) (sym table_is) (put_room two (n - 1) (linked_to (at two (n - 1)) n e) places two_room)
+  joined_room =
+      subst (λ (s : Table). RoomIn s places) (sym table_is)
+      (put_room two (n - 1) (linked_to (at two (n - 1)) n e) places two_room)
 
   -- ---- its nodes
 
@@ -177,7 +200,8 @@ module _ (t : Table) (n target places : ℕ) (e : TimedEvent) (r : RoomIn t plac
   unfolding join_fake
   joined_fake_event = ap (λ (x : EstTime). x.link_event.est_type) joined_fake
 
-  pub joined_other : (j : ℕ) → j ≢ chain_end n (at t) target → j ≢ n - 1 → j ≢ n → at (joined_table t n target e) j ≡ at t j
+  pub joined_other : (j : ℕ) → j ≢ chain_end n (at t) target → j ≢ n - 1 → j ≢ n
+      → at (joined_table t n target e) j ≡ at t j
   joined_other j h l f =
       ap (λ (s : Table). at s j) table_is
       ∙ put_other two (n - 1) (linked_to (at two (n - 1)) n e) j l
@@ -185,35 +209,47 @@ module _ (t : Table) (n target places : ℕ) (e : TimedEvent) (r : RoomIn t plac
       ∙ put_other t chain_last (with_prev_alt (at t chain_last) n) j h
 
   -- the end of the chain, where it isn't the last node
-  pub joined_end : chain_end n (at t) target ≢ n - 1 → at (joined_table t n target e) (chain_end n (at t) target) ≡ with_prev_alt (at t (chain_end n (at t) target)) n
+  pub joined_end : chain_end n (at t) target ≢ n - 1
+      → at (joined_table t n target e) (chain_end n (at t) target) ≡ with_prev_alt (at t (chain_end n (at t) target)) n
   joined_end h =
       ap (λ (s : Table). at s chain_last) table_is
       ∙ put_other two (n - 1) (linked_to (at two (n - 1)) n e) chain_last h
-      ∙ put_other one n (join_fake chain_last (n - 1)) chain_last (λ (o : chain_last ≡ n). omega (arith, last_is.within))
+      ∙ put_other one n (join_fake chain_last (n - 1)) chain_last
+      (λ (o : chain_last ≡ n). omega (arith, last_is.within))
       ∙ put_same t chain_last (with_prev_alt (at t chain_last) n) places r (omega (arith, last_is.within))
 
   last_from : at (joined_table t n target e) (n - 1) ≡ linked_to (at one (n - 1)) n e
   last_from =
       ap (λ (s : Table). at s (n - 1)) table_is
       ∙ put_same two (n - 1) (linked_to (at two (n - 1)) n e) places two_room (omega arith)
-      ∙ ap (λ (x : EstTime). linked_to x n e) (put_other one n (join_fake chain_last (n - 1)) (n - 1) (λ (o : n - 1 ≡ n). omega arith))
+      ∙ ap (λ (x : EstTime). linked_to x n e) (put_other one n (join_fake chain_last (n - 1)) (n - 1)
+      (λ (o : n - 1 ≡ n). omega arith))
 
   -- the last node: where it is the end of the chain it has the Fake as its previous alternative too
-  pub joined_last : chain_end n (at t) target ≢ n - 1 → at (joined_table t n target e) (n - 1) ≡ linked_to (at t (n - 1)) n e
-  joined_last h = last_from ∙ ap (λ (x : EstTime). linked_to x n e) (put_other t chain_last (with_prev_alt (at t chain_last) n) (n - 1) (λ (o : n - 1 ≡ chain_last). h (sym o)))
+  pub joined_last : chain_end n (at t) target ≢ n - 1
+      → at (joined_table t n target e) (n - 1) ≡ linked_to (at t (n - 1)) n e
+  joined_last h =
+      last_from ∙ ap (λ (x : EstTime). linked_to x n e)
+      (put_other t chain_last (with_prev_alt (at t chain_last) n) (n - 1) (λ (o : n - 1 ≡ chain_last). h (sym o)))
 
-  pub joined_both : chain_end n (at t) target ≡ n - 1 → at (joined_table t n target e) (n - 1) ≡ linked_to (with_prev_alt (at t (n - 1)) n) n e
+  pub joined_both : chain_end n (at t) target ≡ n - 1
+      → at (joined_table t n target e) (n - 1) ≡ linked_to (with_prev_alt (at t (n - 1)) n) n e
   joined_both h =
       last_from
-      ∙ ap (λ (x : EstTime). linked_to x n e) (ap (at one) (sym h) ∙ put_same t chain_last (with_prev_alt (at t chain_last) n) places r (omega (arith, last_is.within)) ∙ ap (λ (i : ℕ). with_prev_alt (at t i) n) h)
+      ∙ ap (λ (x : EstTime). linked_to x n e) (ap (at one) (sym h)
+      ∙ put_same t chain_last (with_prev_alt (at t chain_last) n) places r (omega (arith, last_is.within))
+      ∙ ap (λ (i : ℕ). with_prev_alt (at t i) n) h)
 
   -- what a join leaves to each of the n nodes
-  below : {A : Type 0} (f : EstTime → A) → ((x : EstTime) (k : ℕ) → f (with_prev_alt x k) ≡ f x) → ((x : EstTime) (k : ℕ) → f (linked_to x k e) ≡ f x) → (j : ℕ) → j < n → f (at (joined_table t n target e) j) ≡ f (at t j)
+  below : {A : Type 0} (f : EstTime → A) → ((x : EstTime) (k : ℕ) → f (with_prev_alt x k) ≡ f x)
+      → ((x : EstTime) (k : ℕ) → f (linked_to x k e) ≡ f x) → (j : ℕ) → j < n
+      → f (at (joined_table t n target e) j) ≡ f (at t j)
   below f p q j h =
       ap (λ (s : Table). f (at s j)) table_is
       ∙ kept_put f two (n - 1) (linked_to (at two (n - 1)) n e) places j two_room (omega arith) (q (at two (n - 1)) n)
       ∙ ap f (put_other one n (join_fake chain_last (n - 1)) j (λ (o : j ≡ n). omega arith))
-      ∙ kept_put f t chain_last (with_prev_alt (at t chain_last) n) places j r (omega (arith, last_is.within)) (p (at t chain_last) n)
+      ∙ kept_put f t chain_last (with_prev_alt (at t chain_last) n) places j r (omega (arith, last_is.within))
+      (p (at t chain_last) n)
 
   pub joined_events : (j : ℕ) → j < n → (at (joined_table t n target e) j).link_event ≡ (at t j).link_event
   unfolding linked_to
@@ -229,14 +265,28 @@ module _ (t : Table) (n target places : ℕ) (e : TimedEvent) (r : RoomIn t plac
   one_fits j h =
       let f = fits_at w chain_last (n + 1) last_is.within (omega arith) in
       fits_put t chain_last (with_prev_alt (at t chain_last) n) places (n + 1) j r (omega (arith, last_is.within))
-      (record { next = f.next; next_alt = f.next_alt; prev = f.prev; prev_alt = omega arith; next_alt_rises = f.next_alt_rises; prev_alt_rises = λ o. last_is.within })
+      (record {
+        next = f.next;
+        next_alt = f.next_alt;
+        prev = f.prev;
+        prev_alt = omega arith;
+        next_alt_rises = f.next_alt_rises;
+        prev_alt_rises = λ o. last_is.within;
+      })
       (λ d. fits_at w j (n + 1) h (omega arith))
 
   two_fits : (j : ℕ) → j < n + 1 → Fits (at two j) j (n + 1)
   unfolding join_fake
   two_fits j h =
       fits_put one n (join_fake chain_last (n - 1)) places (n + 1) j one_room g
-      (record { next = omega (arith, last_is.within); next_alt = omega arith; prev = omega arith; prev_alt = omega arith; next_alt_rises = λ o. omega arith; prev_alt_rises = λ o. omega arith })
+      (record {
+        next = omega (arith, last_is.within);
+        next_alt = omega arith;
+        prev = omega arith;
+        prev_alt = omega arith;
+        next_alt_rises = λ o. omega arith;
+        prev_alt_rises = λ o. omega arith;
+      })
       (λ (d : j ≢ n). one_fits j (less d))
     where
       less : (j ≡ n → ⊥) → j < n
@@ -248,9 +298,19 @@ module _ (t : Table) (n target places : ℕ) (e : TimedEvent) (r : RoomIn t plac
       let f = two_fits (n - 1) (omega arith) in
       subst (λ (s : Table). Indexed (at s) (n + 1)) (sym table_is) (fits_indexed (λ j h.
       fits_put two (n - 1) (linked_to (at two (n - 1)) n e) places (n + 1) j two_room (omega arith)
-      (record { next = omega arith; next_alt = f.next_alt; prev = f.prev; prev_alt = f.prev_alt; next_alt_rises = f.next_alt_rises; prev_alt_rises = f.prev_alt_rises })
+      (record {
+        next = omega arith;
+        next_alt = f.next_alt;
+        prev = f.prev;
+        prev_alt = f.prev_alt;
+        next_alt_rises = f.next_alt_rises;
+        prev_alt_rises = f.prev_alt_rises;
+      })
       (λ d. two_fits j h)))
 
   -- the cells say what the table has then
-  pub joined_mapped : (c : List ℕ) (l : Layout) → n < l.places → Mapped c l (at t) n → Mapped c l (at (joined_table t n target e)) (n + 1)
-  joined_mapped c l h v = mapped_fake (mapped_same (at t) (at (joined_table t n target e)) c l n (omega arith) joined_events v) h joined_fake_event
+  pub joined_mapped : (c : List ℕ) (l : Layout) → n < l.places → Mapped c l (at t) n
+      → Mapped c l (at (joined_table t n target e)) (n + 1)
+  joined_mapped c l h v =
+      mapped_fake (mapped_same (at t) (at (joined_table t n target e)) c l n (omega arith) joined_events v) h
+      joined_fake_event

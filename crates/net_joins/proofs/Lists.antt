@@ -21,13 +21,16 @@ longer : (es fs : List EstJoinPath) → take (length es) fs ≡ es → length es
 longer es fs h = omega (arith, sym (ap length h) ∙ length-take (length es) fs)
 
 -- the entries that were there stay
-pub appended_stays : (b : Bool) (m i : ℕ) (es fs gs : List EstJoinPath) → take (length es) fs ≡ es → appended_if b m i fs ≡ some gs → take (length es) gs ≡ es
+pub appended_stays : (b : Bool) (m i : ℕ) (es fs gs : List EstJoinPath) → take (length es) fs ≡ es
+    → appended_if b m i fs ≡ some gs → take (length es) gs ≡ es
 unfolding push
-appended_stays true m i es fs gs h o = let e : fs ≡ gs = cc in subst (λ (z : List EstJoinPath). take (length es) z ≡ es) e h
+appended_stays true m i es fs gs h o = let e : fs ≡ gs = cc in
+    subst (λ (z : List EstJoinPath). take (length es) z ≡ es) e h
 appended_stays false m i es fs gs h o = go (ltb (length fs) 1024) o
   where
     go : (b : Bool) → pushed_as b fs (entry m i) ≡ some gs → take (length es) gs ≡ es
     go true o =
         let e : fs ++ (entry m i ∷ []) ≡ gs = cc in
-        subst (λ (z : List EstJoinPath). take (length es) z ≡ es) e (take-append-le (length es) fs (entry m i ∷ []) (longer es fs h) ∙ h)
+        subst (λ (z : List EstJoinPath). take (length es) z ≡ es) e
+        (take-append-le (length es) fs (entry m i ∷ []) (longer es fs h) ∙ h)
     go false o = cc

@@ -9,12 +9,14 @@ use Rattle.net_node.specs.Table.{node_at, put_floats, put_numbers, Table, put, a
 use Rattle.net_insertion.specs.Insertion.{linked_to, table_of}
 use Rattle.net_joins.specs.Joins.{chain_end, join_fake, join_at, joined_table}
 
-stored : (s : Table) (i : ℕ) (x : EstTime) (fs : List Float) (us : List ℕ) → fs ≡ put_floats s.floats i x → us ≡ put_numbers s.numbers i x → table_of fs us ≡ put s i x
+stored : (s : Table) (i : ℕ) (x : EstTime) (fs : List Float) (us : List ℕ) → fs ≡ put_floats s.floats i x
+    → us ≡ put_numbers s.numbers i x → table_of fs us ≡ put s i x
 unfolding put
 stored s i x fs us a b = λ t. record { floats = a t; numbers = b t }
 
 -- node x was loaded, u stored, v stored, y loaded, z stored
-pub record Stored (t : Table) (n end : ℕ) (e : TimedEvent) (fs gs hs : List Float) (us vs ws : List ℕ) (x u v y z : EstTime) : Type 0 where
+pub record Stored (t : Table) (n end : ℕ) (e : TimedEvent) (fs gs hs : List Float) (us vs ws : List ℕ)
+    (x u v y z : EstTime) : Type 0 where
   pub load : x ≡ node_at t.floats t.numbers end
   pub joined : u ≡ with_prev_alt x n
   pub floats : fs ≡ put_floats t.floats end u
@@ -27,7 +29,8 @@ pub record Stored (t : Table) (n end : ℕ) (e : TimedEvent) (fs gs hs : List Fl
   pub floats_last : hs ≡ put_floats gs (n - 1) z
   pub numbers_last : ws ≡ put_numbers vs (n - 1) z
 
-module _ {t : Table} {n end : ℕ} {e : TimedEvent} {fs gs hs : List Float} {us vs ws : List ℕ} {x u v y z : EstTime} (s : Stored t n end e fs gs hs us vs ws x u v y z) where
+module _ {t : Table} {n end : ℕ} {e : TimedEvent} {fs gs hs : List Float} {us vs ws : List ℕ} {x u v y z : EstTime}
+    (s : Stored t n end e fs gs hs us vs ws x u v y z) where
   abbrev first : Table
   first = put t end (with_prev_alt (at t end) n)
 
@@ -36,7 +39,8 @@ module _ {t : Table} {n end : ℕ} {e : TimedEvent} {fs gs hs : List Float} {us 
 
   stored_first : table_of fs us ≡ first
   unfolding at
-  stored_first = stored t end u fs us s.floats s.numbers ∙ ap (put t end) (s.joined ∙ ap (λ (m : EstTime). with_prev_alt m n) s.load)
+  stored_first = stored t end u fs us s.floats s.numbers
+      ∙ ap (put t end) (s.joined ∙ ap (λ (m : EstTime). with_prev_alt m n) s.load)
 
   stored_second : table_of gs vs ≡ second
   stored_second =
@@ -55,7 +59,10 @@ module _ {t : Table} {n end : ℕ} {e : TimedEvent} {fs gs hs : List Float} {us 
   join_stored = (ap (λ (r : Table). r.floats) stored_third, ap (λ (r : Table). r.numbers) stored_third)
 
 -- at the end of a target's chain
-pub joined_stored : (t : Table) (n target end : ℕ) (e : TimedEvent) (fs : List Float) (us : List ℕ) → end ≡ chain_end n (node_at t.floats t.numbers) target
-    → (fs ≡ (join_at t n end e).floats) × (us ≡ (join_at t n end e).numbers) → (fs ≡ (joined_table t n target e).floats) × (us ≡ (joined_table t n target e).numbers)
+pub joined_stored : (t : Table) (n target end : ℕ) (e : TimedEvent) (fs : List Float) (us : List ℕ)
+    → end ≡ chain_end n (node_at t.floats t.numbers) target
+    → (fs ≡ (join_at t n end e).floats) × (us ≡ (join_at t n end e).numbers)
+    → (fs ≡ (joined_table t n target e).floats) × (us ≡ (joined_table t n target e).numbers)
 unfolding joined_table at
-joined_stored t n target end e fs us h l = (l.0 ∙ ap (λ (i : ℕ). (join_at t n i e).floats) h, l.1 ∙ ap (λ (i : ℕ). (join_at t n i e).numbers) h)
+joined_stored t n target end e fs us h l =
+    (l.0 ∙ ap (λ (i : ℕ). (join_at t n i e).floats) h, l.1 ∙ ap (λ (i : ℕ). (join_at t n i e).numbers) h)

@@ -52,6 +52,7 @@ pub fn closer_of(best: SpeedJoin, x: EstJoinPath, node: EstTime, speed: f64) -> 
 // "Of entries with m = 0 the first with the smallest gap, strictly below J": its gap and its node, or J and 0 if there
 // is none. An inner function, no entry for users: its caller must have seen to it that both slices have room for
 // `nodes` nodes, at most 65,535, and that each entry names one of these.
+#[tactic(auto, using(crate::proofs::Choosing::choosing_laws))]
 pub fn closest_of(
     floats: &[f64],
     numbers: &[u32],
@@ -76,6 +77,7 @@ pub fn closest_of(
 }
 
 // From a node along the previous alternatives to the last of them.
+#[tactic(auto, using(crate::proofs::Chains::following_start, crate::proofs::Chains::following_on))]
 fn chain_end(nodes: &Nodes, start: u32) -> u32
     requires { start < nodes.now.count }
     ensures { result ≡ chain_end nodes.now.count (nodes_held nodes.now) start }
@@ -125,6 +127,7 @@ fn join_at(floats: &mut [f64], numbers: &mut [u32], n: u32, end: u32, e: TimedEv
 }
 
 // The last of n nodes is linked to a target through a new Fake.
+#[tactic(auto, using(crate::proofs::Stores::joined_stored, crate::proofs::Chains::chain_ends))]
 fn perform_speed_join(
     floats: &mut [f64],
     numbers: &mut [u32],
@@ -152,6 +155,7 @@ fn perform_speed_join(
 }
 
 // Sets the mark of each node that a list names. The mark is a number, as the cells hold it and `marks` says it.
+#[tactic(auto, using(crate::proofs::Marking::marking_laws))]
 fn set_marks(cells: &mut [u32], w: Layout, list: &[EstJoinPath], mark: u32)
     requires cells_apart { CellsApart cells.old w }
     requires valid { Valid list.now w.places }
@@ -163,6 +167,7 @@ fn set_marks(cells: &mut [u32], w: Layout, list: &[EstJoinPath], mark: u32)
 }
 
 // Appends the nodes of a link's Arrive that are not marked. The entries that were there stay.
+#[tactic(auto, using(crate::proofs::Appending::appending_start))]
 fn append_unmarked(
     cells: &[u32],
     w: Layout,
@@ -192,6 +197,7 @@ fn append_unmarked(
 }
 
 // Appends to a list all nodes of the event that it doesn't name, if the event is an Arrive.
+#[tactic(auto, using(crate::proofs::Answers::append_none, net_stack::proofs::Arrives::arrive_eq))]
 fn add_new_join_paths(
     cells: &mut [u32],
     w: Layout,
@@ -261,8 +267,8 @@ fn go_on(
     Ok(Step::Waits)
 }
 
-// One event of a run that has added since its pop: its list is rebuilt, the run joins, or goes on with what is appended.
-// The list is left in `joins`.
+// One event of a run that has added since its pop: its list is rebuilt, and the run joins, or goes on with what is
+// appended. The list is left in `joins`.
 pub fn join_step(
     floats: &mut [f64],
     numbers: &mut [u32],

@@ -26,9 +26,12 @@ of [] i = blank
 of (x ∷ xs) zero = x
 of (x ∷ xs) (suc i) = of xs i
 
--- From node 1 one strand goes over the Clear of link 7 to an Arrive of link 2, another by the Fake 4 to an Arrive of link 2; the Clear of link 1 follows on both, and ends them.
+-- From node 1 one strand goes over the Clear of link 7 to an Arrive of link 2, another by the Fake 4 to an Arrive of
+-- link 2; the Clear of link 1 follows on both, and ends them.
 abbrev fork : ℕ → EstTime
-fork = of (node Fake 0 0 0 ∷ node Arrive 1 2 4 ∷ node Clear 7 3 0 ∷ node Arrive 2 6 0 ∷ node Fake 0 5 0 ∷ node Arrive 2 6 0 ∷ node Clear 1 0 0 ∷ [])
+fork =
+    of (node Fake 0 0 0 ∷ node Arrive 1 2 4 ∷ node Clear 7 3 0 ∷ node Arrive 2 6 0 ∷ node Fake 0 5 0 ∷ node Arrive 2 6 0
+    ∷ node Clear 1 0 0 ∷ [])
 
 -- the new list for an event that some node has
 abbrev after : EstType → ℕ → List EstJoinPath → Option (List EstJoinPath)

@@ -6,6 +6,5 @@ mod Given
 mod Opened
 mod Walking
 mod Extending
-mod Rooms
 mod Examples
 mod Limits

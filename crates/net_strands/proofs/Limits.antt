@@ -1,5 +1,5 @@
--- Row 12's limits of join entries, from both sides, computed: "join entry beyond 1,024 in a list .. or strand walk of one
--- entry reading over 4,096 nexts".
+-- Row 12's limits of join entries, from both sides, computed: "join entry beyond 1,024 in a list .. or strand walk of
+-- one entry reading over 4,096 nexts".
 use mathlib.Core.Path.{◌≡◌, refl}
 use mathlib.Core.Bool.{true, cond}
 use mathlib.Core.List.{List, [], ◌∷◌}

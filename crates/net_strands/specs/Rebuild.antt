@@ -11,8 +11,8 @@ use Rattle.net_strands.specs.declared.Rebuild.{Rebuild}
 use Rattle.net_strands.specs.Given.{Given, Extends}
 
 -- What the cells say of a list.
--- Stands in contracts of the methods that follow an entry: each writes cells and list, so `Rebuild`, which is only read,
--- can't keep it.
+-- Stands in contracts of the methods that follow an entry: each writes cells and list, so `Rebuild`, which is only
+-- read, can't keep it.
 abbrev pub GivenFor : Rebuild → List ℕ → List EstJoinPath → Type 0
 GivenFor r cells list = Given cells r.layout (nodes_held r.nodes) r.nodes.count r.event list
 

@@ -49,6 +49,7 @@ impl<'a> Rebuild<'a> {
     }
 
     // An entry that matches already: node `start` and each of its alternatives gives its next if that has the event.
+    #[tactic(auto, using(crate::proofs::Alternatives::following_start))]
     fn follow_alternatives(
         &self,
         link_idx_match: u32,
@@ -80,6 +81,7 @@ impl<'a> Rebuild<'a> {
 
     // What an entry gives that matches already: worked out and, with several entries in the list, noted, or copied
     // where it is noted.
+    #[tactic(auto, using(crate::proofs::Given::matched_laws))]
     fn follow_matched(
         &self,
         link_idx_match: u32,
@@ -116,6 +118,7 @@ impl<'a> Rebuild<'a> {
     // An entry that does not match yet: strands along nexts, with alternatives stacked, each up to the event, an
     // Arrive, an end, or a node of which it is noted what strands from it give. With several entries in the list that
     // is noted of the start, and of nodes where strands can meet: those with a previous alternative.
+    #[tactic(auto, using(crate::proofs::Walking::beginning_laws))]
     fn follow_strands(
         &self,
         link_idx_match: u32,
@@ -205,6 +208,7 @@ impl<'a> Rebuild<'a> {
     }
 
     // What one entry of the old list gives, behind the entries so far.
+    #[tactic(auto, using(crate::proofs::Extending::entry_laws, crate::proofs::Given::extends_laws))]
     fn extend(
         &self,
         seen: bool,
@@ -237,6 +241,7 @@ impl<'a> Rebuild<'a> {
     }
 
     // The new list, out of the old one's entries, each dropped, copied or followed; what was noted stays in the cells.
+    #[tactic(auto, using(crate::proofs::Extending::gathering_laws))]
     fn extend_all(
         &self,
         seen: bool,

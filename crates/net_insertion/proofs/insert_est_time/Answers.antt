@@ -2,27 +2,20 @@
 use mathlib.Core.Path.{sym, ◌∙◌}
 use native.Mathlib.Omega.{arith}
 use Rattle.net_insertion.proofs.Seeking.{sought_found}
-use Rattle.net_insertion.proofs.Answers.{flagged_set, flagged_clear, move_answer, open_full, open_ended, open_added, split_full, split_added}
+use Rattle.net_insertion.proofs.Answers.{flagged_clear, move_answer, open_added}
+use Rattle.net_insertion.proofs.Answers.{split_added}
 use Rattle.net_insertion.proofs.insert_est_time.Goals as goal
-
-pub returns-then-places-n-clause-answer : goal.returns-then-places-n-clause-answer
-returns-then-places-n-clause-answer c = open_full _ _ (record { is = sym c.in-Open.is ∙ c.seek_place.ensures }) c.if-places-n.true
 
 pub bounds-cells-ends_at : goal.bounds-cells-ends_at
 bounds-cells-ends_at c =
-    let f = sought_found _ _ _ _ _ _ (sym c.in-Open.is ∙ c.seek_place.ensures) c.requires.indexed c.requires.stands_inside in
+    let f =
+    sought_found _ _ _ _ _ _ (sym c.in-Open.is ∙ c.seek_place.ensures) c.requires.indexed
+    c.requires.stands_inside in
     omega (arith, f.0, c.requires.ends_inside)
-
-pub returns-then-cells-ends_at-gt0-clause-answer : goal.returns-then-cells-ends_at-gt0-clause-answer
-returns-then-cells-ends_at-gt0-clause-answer c =
-    open_ended _ _ (record { is = sym c.in-Open.is ∙ c.seek_place.ensures }) (omega arith) (flagged_set _ _ _ c.if-cells-ends_at-gt0.true)
 
 pub add_behind-requires-clause-i_lt_k : goal.add_behind-requires-clause-i_lt_k
 add_behind-requires-clause-i_lt_k c =
     (sought_found _ _ _ _ _ _ (sym c.in-Open.is ∙ c.seek_place.ensures) c.requires.indexed c.requires.stands_inside).0
-
-pub returns-then-places-n-2-clause-answer : goal.returns-then-places-n-2-clause-answer
-returns-then-places-n-2-clause-answer c = split_full _ _ (record { is = sym c.in-Split.is ∙ c.seek_place.ensures }) c.if-places-n-2.true
 
 pub split_at-requires-clause-i_lt_k : goal.split_at-requires-clause-i_lt_k
 split_at-requires-clause-i_lt_k c =
@@ -35,11 +28,17 @@ returns-in-Match c =
 
 pub returns-else-cells-ends_at-gt0 : goal.returns-else-cells-ends_at-gt0
 returns-else-cells-ends_at-gt0 c =
-    let all = open_added _ _ _ _ _ (record { is = sym c.in-Open.is ∙ c.seek_place.ensures }) (omega (arith, c.if-places-n.false)) (flagged_clear _ _ _ (omega (arith, c.if-cells-ends_at-gt0.false)))
+    let all =
+    open_added _ _ _ _ _ (record { is = sym c.in-Open.is ∙ c.seek_place.ensures })
+    (omega (arith, c.if-places-n.false)) (flagged_clear _ _ _ (omega (arith, c.if-cells-ends_at-gt0.false)))
     c.place_at-in-Open.ensures (c.add_behind.ensures.floats, c.add_behind.ensures.numbers) in
     record { answer = all.0; table = all.1 }
 
 pub returns-else-places-n-2 : goal.returns-else-places-n-2
 returns-else-places-n-2 c =
-    let all = split_added _ _ _ _ _ _ _ (record { is = sym c.in-Split.is ∙ c.seek_place.ensures }) (omega (arith, c.if-places-n-2.false)) c.place_at-in-Split.ensures (c.split_at.ensures.floats, c.split_at.ensures.numbers) (c.add_behind-in-Split.ensures.floats, c.add_behind-in-Split.ensures.numbers) in
+    let all =
+    split_added _ _ _ _ _ _ _ (record { is = sym c.in-Split.is ∙ c.seek_place.ensures })
+    (omega (arith, c.if-places-n-2.false)) c.place_at-in-Split.ensures
+    (c.split_at.ensures.floats, c.split_at.ensures.numbers)
+    (c.add_behind-in-Split.ensures.floats, c.add_behind-in-Split.ensures.numbers) in
     record { answer = all.0; table = all.1 }
