@@ -48,6 +48,8 @@ length_bits b = u64_at b 16
 
 -- ---- "five sections, each after its count": the counts, and where the first row of each section stands
 
+-- Stands in contracts as `i < links b`, and so do the other counts: an index is the caller's own, and a slice asks the
+-- same of it. As `links b ≤ length marks` it stands where marks are lent: there is no heap, and the lender says how many.
 unfoldable pub links : List ℕ → ℕ
 links b = u32_at b 24
 
@@ -101,8 +103,6 @@ sections_of b = record {
   end = end_of b;
 }
 
--- Stands in contracts of the methods that read a row, as `i < links b` and the like: an index is the caller's own, and
--- what an index of a slice asks too.
 -- ---- the fields of a row: links, origins, destinations and samples are counted from 0; a leg's number is one more
 -- than its row's
 

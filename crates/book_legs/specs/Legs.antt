@@ -35,6 +35,8 @@ taken_leg b parent link = taken_by b (leg_search b parent link)
 
 -- The starting legs by their links: behind the links' own marks each link has one, the number of the leg that starts
 -- over it, or 0.
+-- Stands in contracts of the search for a starting leg and of growth, and in no struct of a book and its marks: growth
+-- reads the same marks for the options, and the one function that takes a start would make the struct for that call.
 pub record Started (b marks : List ℕ) : Type 0 where
   pub starts : (l : ℕ) → l < links b → get_or marks (links b + l) 0 ≡ leg_below b (legs b) 0 l
 

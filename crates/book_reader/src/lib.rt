@@ -107,11 +107,7 @@ fn read_rest<'a>(
 fn lent_bytes(units: usize) -> usize
     ensures { result ≡ min (64 * units) 64000000 }
 {
-    if units < 1000000 {
-        64 * units
-    } else {
-        64000000
-    }
+    64 * units.min(1000000)
 }
 
 // Reads a book into work space that is zero, for a table of so many places. What the marks hold behind the options

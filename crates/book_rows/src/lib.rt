@@ -75,7 +75,7 @@ pub fn counts_refused(book: &Book, places: usize, bytes: usize) -> bool
 
 // ---- rows 4 to 7
 
-// The one of two answers with the lower number, a refusal before none.
+// The one of two answers with the lower number, a refusal before none: the order of `Result` has none first.
 #[tactic(auto, using(crate::proofs::Lowest::lower_none, crate::proofs::Lowest::lower_min), unfolding(crate::specs::Elements::lower),)]
 fn lower_of(a: Result<(), Refusal>, b: Result<(), Refusal>) -> Result<(), Refusal>
     ensures { number_of (told result) ≡ lower (number_of (told a)) (number_of (told b)) }

@@ -2,7 +2,6 @@
 #![tactic(auto)]
 
 ghost use Rattle.std.specs.Prelude.{◌≡◌};
-ghost use Rattle.std.specs.Float.Ieee.Scale.{finite};
 ghost use Rattle.event_formula.specs.Event.{event_offset, clears, time_at, passing_at, bad_passing};
 
 use book_format::Sample;
@@ -64,18 +63,10 @@ pub fn pass_at(s: Sample, before: Sample, offset: f64) -> Passing
     Passing { time, speed }
 }
 
-// Whether a float is a number and no infinity: only then is it no distance from itself.
-#[tactic(auto, using(crate::proofs::Laws::finite_is))]
-fn is_finite(x: f64) -> bool
-    ensures { result ≡ finite x }
-{
-    x - x == 0.0
-}
-
 // Row 11: whether an event's speed or time is no number, or its time too large.
-#[tactic(auto, unfolding(crate::specs::Event::bad_passing))]
+#[tactic(auto, using(crate::proofs::Laws::finite_is), unfolding(crate::specs::Event::bad_passing))]
 pub fn is_bad(p: Passing) -> bool
     ensures { result ≡ bad_passing p }
 {
-    !is_finite(p.speed) | !floats::is_table_float(p.time)
+    !p.speed.is_finite() | !floats::is_table_float(p.time)
 }

@@ -1,21 +1,19 @@
 -- Laws of the definitions of specs/Floats.antt, one for each way through the code. A function's proof hands them what its branches told.
 -- Assumes nothing.
 use mathlib.Core.Path.{◌≡◌, refl, sym, ap, ◌∙◌, subst}
-use mathlib.Core.Bool.{Bool, true, false, not, ◌&&◌, cond}
-use Prim.Native.Nat.{ℕ, zero, suc, ◌+◌, ◌*◌, ◌^◌, ◌≤◌, ◌<◌}
-use native.Mathlib.Nat.{mod-eq_of_lt, pow-succ'}
+use mathlib.Core.Bool.{Bool, true, false, not, ◌&&◌}
+use Prim.Native.Nat.{ℕ, ◌*◌, ◌≤◌, ◌<◌}
+use native.Mathlib.Nat.{mod-eq_of_lt}
 use native.Mathlib.Omega.{arith}
-use borrow.Author.Tests.{ltb-true, ltb-false, eqb-true, eqb-false, lt-ltb, le-ltb, eq-eqb, ne_eqb}
-use lib.Dec.{T, ltb, eqb, eqb→eq}
-use lib.IntN.{ℤ, pos, negsuc}
-use lib.Ieee.{Float, nan, inf, fin, binary64, up, down, top, ones, hid, neg, sub, lt, le, eq, ne, is_nan, fits, of_bits, to_bits, nan_bits}
+use borrow.Author.Tests.{ltb-true, eqb-true, eqb-false, lt-ltb, le-ltb, eq-eqb, ne_eqb}
+use lib.Dec.{T, ltb, eqb}
+use lib.Ieee.{Float, nan, inf, fin, binary64, top, ones, hid, le, ne, is_nan, of_bits, to_bits, nan_bits}
 use lib.Ieee.Scale.{finite}
 use lib.Ieee.Bits.{nan_bits_is, nan_bits_above}
-use lib.Ieee.Fits.{down_pos, sub-fits}
 use lib.Ieee.Compare.{differs_from_itself}
+use Rattle.std.specs.Float.{float_with_sign}
 use Rattle.laws.proofs.Truth.{never}
-use Rattle.floats.specs.Floats.{billion, table_float, book_float, book_value, abs, gap, smaller}
-use Rattle.floats.proofs.Zeros.{no_digits}
+use Rattle.floats.specs.Floats.{billion, table_float, book_float, book_value, abs}
 
 -- ---- the code's literals
 
@@ -56,22 +54,13 @@ table_finite nan e = e
 table_finite (inf s) e = e
 table_finite (fin s m k) e = refl
 
--- ---- a table's float: the test from above, then the one from below
+-- ---- a table's float, by its size
 
-pub table_low : (x : Float) → le x limit ≡ true → le (neg limit) x ≡ table_float x
-unfolding le neg of_bits table_float
-table_low nan h = refl
-table_low (inf true) h = refl
-table_low (inf false) h = sym h
-table_low (fin true m e) h = rw (eqb_swap (1000000000 * down e) (m * up e * 1))
-table_low (fin false m e) h = rw (lt-ltb 0 (1000000000 * down e + m * up e * 1) (omega (arith, down_pos e))) (sym h)
-
-pub table_high : (x : Float) → le x limit ≡ false → false ≡ table_float x
-unfolding le of_bits table_float
-table_high nan h = refl
-table_high (inf s) h = refl
-table_high (fin true m e) h = never (rw (lt-ltb 0 (m * up e * 1 + 1000000000 * down e) (omega (arith, down_pos e))) at h)
-table_high (fin false m e) h = sym h
+pub table_size : (x : Float) → le (float_with_sign false x) limit ≡ table_float x
+unfolding float_with_sign le table_float of_bits
+table_size nan = refl
+table_size (inf s) = refl
+table_size (fin s m e) = ap (le (fin false m e)) limit_is
 
 -- ---- a book's float
 
@@ -108,59 +97,15 @@ book_high n l = go (ltb n (top binary64)) refl
         ∙ lt-ltb infinity n l))
     go false e = refl
 
--- ---- the gap: a difference below zero, a zero of either sign, any other
+-- ---- the size of a value, as std takes it
 
-size_below : (d : Float) → lt d origin ≡ true → neg d ≡ abs d
-unfolding lt neg of_bits abs
-size_below nan h = refl
-size_below (inf true) h = refl
-size_below (inf false) h = never (sym h)
-size_below (fin true m e) h = refl
-size_below (fin false m e) h = let l : m * up e * 1 < 0 * down e = ltb-true (m * up e * 1) (0 * down e) h in absurd (omega arith)
+pub size_is : (d : Float) → float_with_sign false d ≡ abs d
+unfolding float_with_sign abs
+size_is nan = refl
+size_is (inf s) = refl
+size_is (fin s m e) = refl
 
-twice_one : (k : ℕ) → 2 ^ suc k ≡ 1 → ⊥
-twice_one k h = omega (arith, pow-succ' 2 k)
-
--- a format writes a zero in one way
-zero_place : (e : ℤ) → up e * down e ≡ 1 → e ≡ pos 0
-zero_place (pos zero) h = refl
-zero_place (pos (suc k)) h = absurd (twice_one k (omega arith))
-zero_place (negsuc k) h = absurd (twice_one k (omega arith))
-
-size_zero : (d : Float) → T (fits binary64 d) → eq d origin ≡ true → origin ≡ abs d
-unfolding fits eq of_bits abs
-size_zero nan f h = never (sym h)
-size_zero (inf s) f h = never (sym h)
-size_zero (fin s zero e) f h = ap (fin false 0) (sym (zero_place e (eqb→eq (up e * down e) 1 f)))
-size_zero (fin s (suc m) e) f h = let z : suc m ≡ 0 = no_digits s (suc m) e h in absurd (omega arith)
-
-size_above : (d : Float) → lt d origin ≡ false → eq d origin ≡ false → d ≡ abs d
-unfolding lt eq of_bits abs
-size_above nan h g = refl
-size_above (inf true) h g = never h
-size_above (inf false) h g = refl
-size_above (fin true m e) h g =
-    let l : m * up e * 1 + 0 * down e ≤ 0 = ltb-false 0 (m * up e * 1 + 0 * down e) h in
-    never (rw (eq-eqb (m * up e * 1) (0 * down e) (omega arith), eq-eqb (m * up e * 1) 0 (omega arith)) at g)
-size_above (fin false m e) h g = refl
-
-pub gap_below : (a b : Float) → lt (sub binary64 a b) origin ≡ true → neg (sub binary64 a b) ≡ gap a b
-unfolding gap
-gap_below a b h = size_below (sub binary64 a b) h
-
-pub gap_zero : (a b : Float) → eq (sub binary64 a b) origin ≡ true → origin ≡ gap a b
-unfolding gap
-gap_zero a b h = size_zero (sub binary64 a b) (sub-fits binary64 a b) h
-
-pub gap_above : (a b : Float) → lt (sub binary64 a b) origin ≡ false → eq (sub binary64 a b) origin ≡ false → sub binary64 a b ≡ gap a b
-unfolding gap
-gap_above a b h g = size_above (sub binary64 a b) h g
-
--- ---- the smaller of two
-
-pub smaller_nan : (a b : Float) → ne a a ≡ true → b ≡ smaller a b
-unfolding smaller is_nan
-smaller_nan a b h = ap (λ (x : Float). smaller x b) (sym (differs_from_itself a (subst T (sym h) tt)))
+-- ---- what equals itself is a number
 
 pub no_nan : (a : Float) → ne a a ≡ false → is_nan a ≡ false
 unfolding is_nan ne
@@ -168,28 +113,21 @@ no_nan nan h = h
 no_nan (inf s) h = refl
 no_nan (fin s m e) h = refl
 
-smaller_number : (a b : Float) → ne a a ≡ false → cond (lt b a) b a ≡ smaller a b
-unfolding smaller
-smaller_number a b h = rw (no_nan a h)
-
-pub smaller_second : (a b : Float) → ne a a ≡ false → lt b a ≡ true → b ≡ smaller a b
-smaller_second a b h l = rw l at (smaller_number a b h)
-
-pub smaller_first : (a b : Float) → ne a a ≡ false → lt b a ≡ false → a ≡ smaller a b
-smaller_first a b h l = rw l at (smaller_number a b h)
-
 -- ---- a lent value
 
 nan_value : false ≡ book_value nan
 unfolding book_value book_float to_bits table_float of_bits
 nan_value = refl
 
-pub value_nan : (x : Float) → ne x x ≡ true → false ≡ book_value x
-value_nan x h = nan_value ∙ ap book_value (sym (differs_from_itself x (subst T (sym h) tt)))
+-- of the values only this one is no number
+only_nan : (x : Float) → is_nan x ≡ true → x ≡ nan
+unfolding is_nan
+only_nan nan h = refl
+only_nan (inf s) h = never (sym h)
+only_nan (fin s m e) h = never (sym h)
 
-pub value_number : (x : Float) → ne x x ≡ false → T (not (is_nan x))
-value_number x h = subst (λ (t : Bool). T (not t)) (sym (no_nan x h)) tt
+pub value_nan : (x : Float) → is_nan x ≡ true → false ≡ book_value x
+value_nan x h = nan_value ∙ ap book_value (sym (only_nan x h))
 
-pub value_bits : (x : Float) {r : Bool} → r ≡ book_float (to_bits binary64 x) → r ≡ book_value x
-unfolding book_value
-value_bits x e = e
+pub nan_bits_only : (x : Float) → is_nan x ≡ true → 0x7ff8_0000_0000_0000 ≡ to_bits binary64 x
+nan_bits_only x h = nan_pattern ∙ ap (to_bits binary64) (sym (only_nan x h))

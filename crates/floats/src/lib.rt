@@ -10,14 +10,11 @@ ghost use Rattle.floats.specs.Floats.{table_float, book_float, book_value, gap, 
 const BILLION: u64 = 0x41cd_cd65_0000_0000;
 
 // Whether a lent table may hold x (row 4).
+#[tactic(auto, using(crate::proofs::Laws::table_size))]
 pub fn is_table_float(x: f64) -> bool
     ensures { result ≡ table_float x }
 {
-    if x <= 1000000000.0 {
-        -1000000000.0 <= x
-    } else {
-        false
-    }
+    x.abs() <= 1000000000.0
 }
 
 // Whether a book may hold this bit pattern (row 4). Where the sign bit is clear the larger pattern has the larger
@@ -29,47 +26,41 @@ pub fn is_book_float(bits: u64) -> bool
 }
 
 // The gap of two speeds: the size of their difference.
+#[tactic(auto, using(crate::proofs::Laws::size_is), unfolding(crate::specs::Floats::gap))]
 pub fn speed_gap(a: f64, b: f64) -> f64
     ensures { result ≡ gap a b }
 {
-    let d = a - b;
-    if d < 0.0 {
-        return -d;
-    }
-    if d == 0.0 {
-        return 0.0;
-    }
-    d
+    (a - b).abs()
 }
 
-// The smaller of two offsets.
+// The smaller of two offsets, and the first of two equal ones: std's `min` promises either of these.
+#[tactic(auto, unfolding(crate::specs::Floats::smaller))]
 pub fn smaller_offset(a: f64, b: f64) -> f64
     ensures { result ≡ smaller a b }
 {
-    if a != a {
+    if a.is_nan() {
         return b;
     }
     if b < a { b } else { a }
 }
 
 // Whether a value that is lent as an f64 is one that a book may hold, by its sign too.
+#[tactic(auto, using(crate::proofs::Laws::value_nan), unfolding(crate::specs::Floats::book_value))]
 pub fn is_book_value(x: f64) -> bool
     ensures { result ≡ book_value x }
 {
-    if x != x {
-        return false;
-    }
-    is_book_float(f64::to_bits(x))
+    !x.is_nan() && is_book_float(f64::to_bits(x))
 }
 
 // The pattern of NaN: the logic has one.
 const NAN: u64 = 0x7ff8_0000_0000_0000;
 
 // The bit pattern of a float.
+#[tactic(auto, using(crate::proofs::Laws::nan_bits_only))]
 pub fn bits_of(x: f64) -> u64
     ensures { result ≡ to_bits binary64 x }
 {
-    if x != x {
+    if x.is_nan() {
         return NAN;
     }
     f64::to_bits(x)

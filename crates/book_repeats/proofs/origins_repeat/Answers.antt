@@ -27,6 +27,3 @@ loop-i-preserved c =
     let h : c.loop-i.i < origins c.args.book.now = omega (arith, ap origins r.is) in
     swept_on c.loop-i.invariant h _ c.origin_at-link.ensures
     (swept_link c.loop-i.invariant h _ c.origin_at-link.ensures r.valid.indices c.requires.marks_room) c.if-marks-link-eq1.false
-
-pub returns : goal.returns
-returns c = swept_all_lem c.loop-i.invariant (omega (arith, ap origins c.book-rows.ensures.is))
