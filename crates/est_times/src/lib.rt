@@ -83,8 +83,8 @@ fn build(
     Ok(report)
 }
 
-// Makes the sheet of a book in a lent table: every route with its splits and joins, timed. Its report. Whatever table and work
-// space held, the table has the sheet then, or is zero, and the work space is zero.
+// Makes the sheet of a book in a lent table: every route with its splits and joins, timed. Its report. Whatever table
+// and work space held, the table has the sheet then, or is zero, and the work space is zero.
 pub fn make_est_times(
     book: &[u8],
     floats: &mut [f64],

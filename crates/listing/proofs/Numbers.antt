@@ -1,14 +1,16 @@
 -- Numbers as digits: one digit more, and closing zeros.
 use mathlib.Core.Path.{◌≡◌, refl, sym, ap, subst, ◌∙◌}
-use mathlib.Core.Bool.{Bool, true, false, cond, ◌&&◌}
+use mathlib.Core.Bool.{Bool, true, false, cond}
 use mathlib.Core.List.{List, [], ◌∷◌, ◌++◌}
-use mathlib.Core.Logic.{◌≢◌}
-use Prim.Native.Nat.{ℕ, zero, suc, ◌+◌, ◌-◌, ◌*◌, ◌/◌, ◌%◌, ◌^◌, ◌≤◌, ◌<◌}
+use mathlib.Core.Logic.{◌⊎◌, inl, inr, ◌≢◌}
+use Prim.Native.Nat.{ℕ, zero, suc, ◌+◌, ◌-◌, ◌*◌, ◌/◌, ◌%◌, ◌^◌, ◌≤◌, ◌<◌, min}
 use native.Mathlib.Nat.{mod-eq_of_lt, div-lt_iff_lt-mul, mul_comm, pow-succ', pos_of_ne-zero}
 use native.Mathlib.Numerals.{sub-one}
 use native.Mathlib.Omega.{arith}
-use borrow.Author.Tests.{lt-ltb, le-ltb, ltb-true, ltb-false, eqb-true, eqb-false, ne_eqb}
-use lib.Dec.{T, ltb, eqb, lit<}
+use borrow.Author.Tests.{lt-ltb, le-ltb, ltb-true, ltb-false, ne_eqb}
+use lib.Count.{count_trailing_zeros, under}
+use lib.Pow.{shr-shr}
+use lib.Dec.{ltb, eqb, lit<}
 use lib.Ieee.{Float, binary64, to_bits}
 use Rattle.listing.specs.Listing.{glyph, digits, places, decimal, unless_zero, trimmed, one_kept, float}
 
@@ -132,17 +134,96 @@ kept_rest {x} {bits} {count} k n =
     let last : xs ++ (y ∷ []) ≡ digits 16 count bits = digits_more 16 count bits k.some in
     sym last ∙ sym (kept_digit xs y (not_zero_lem (bits % 16) n)) ∙ ap one_kept last ∙ k.same
 
--- the loop's test
-pub kept_again : {x : Float} {bits count : ℕ} → Kept x bits count → ltb 1 count && eqb (bits % 16) 0 ≡ true → Kept x (bits / 16) (count - 1)
-kept_again {x} {bits} {count} k = go (ltb 1 count) refl
-  where
-    go : (t : Bool) → ltb 1 count ≡ t → t && eqb (bits % 16) 0 ≡ true → Kept x (bits / 16) (count - 1)
-    go true e q = kept_drop k (ltb-true 1 count e) (eqb-true (bits % 16) 0 q)
-    go false e q = absurd (subst T (sym q) tt)
+-- ---- closing zeros, by the zeros that the bits end with
 
-pub kept_end : {x : Float} {bits count : ℕ} → Kept x bits count → ltb 1 count && eqb (bits % 16) 0 ≡ false → digits 16 count bits ≡ float x
-kept_end {x} {bits} {count} k = go (ltb 1 count) refl
+-- so many digits' bits
+quads : ℕ → ℕ
+quads zero = zero
+quads (suc k) = suc (suc (suc (suc (quads k))))
+
+-- four bits, and how many zeros the digits behind them begin with: all are 0 and count, or some bit is not
+abbrev FourCases : ℕ → ℕ → ℕ → ℕ → ℕ → Type 0
+FourCases a b c d t =
+    (((a ≡ 0) × ((b ≡ 0) × ((c ≡ 0) × (d ≡ 0)))) × (under a (under b (under c (under d t))) ≡ 4 + t))
+    ⊎ ((0 < a + (b + (c + d))) × (under a (under b (under c (under d t))) < 4))
+
+four_cases : (a b c d t : ℕ) → FourCases a b c d t
+four_cases zero zero zero zero t = inl ((refl, (refl, (refl, refl))), omega arith)
+four_cases zero zero zero (suc d) t = inr (omega arith, omega arith)
+four_cases zero zero (suc c) d t = inr (omega arith, omega arith)
+four_cases zero (suc b) c d t = inr (omega arith, omega arith)
+four_cases (suc a) b c d t = inr (omega arith, omega arith)
+
+-- the last digit is 0 and four of the zeros are its, or it isn't and they are fewer
+abbrev FourBits : ℕ → ℕ → Type 0
+FourBits k n =
+    ((n % 16 ≡ 0) × (count_trailing_zeros (suc (suc (suc (suc k)))) n ≡ 4 + count_trailing_zeros k (n / 16)))
+    ⊎ ((n % 16 ≢ 0) × (count_trailing_zeros (suc (suc (suc (suc k)))) n < 4))
+
+four_bits : (k n : ℕ) → FourBits k n
+unfolding count_trailing_zeros
+four_bits k n = go (four_cases (n % 2) (n / 2 % 2) (n / 2 / 2 % 2) (n / 2 / 2 / 2 % 2) (count_trailing_zeros k rest))
   where
-    go : (t : Bool) → ltb 1 count ≡ t → t && eqb (bits % 16) 0 ≡ false → digits 16 count bits ≡ float x
-    go true e q = kept_rest k (eqb-false (bits % 16) 0 q)
-    go false e q = kept_one k (ltb-false 1 count e)
+    rest : ℕ
+    rest = n / 2 / 2 / 2 / 2
+
+    halved : n / 2 / 2 / 2 / 2 ≡ n / 16
+    halved = omega arith
+
+    go : FourCases (n % 2) (n / 2 % 2) (n / 2 / 2 % 2) (n / 2 / 2 / 2 % 2) (count_trailing_zeros k rest) → FourBits k n
+    go (inl h) =
+        let a : n % 2 ≡ 0 = h.0.0 in
+        let b : n / 2 % 2 ≡ 0 = h.0.1.0 in
+        let c : n / 2 / 2 % 2 ≡ 0 = h.0.1.1.0 in
+        let d : n / 2 / 2 / 2 % 2 ≡ 0 = h.0.1.1.1 in
+        inl (omega arith, h.1 ∙ ap (λ (m : ℕ). 4 + count_trailing_zeros k m) halved)
+    go (inr h) =
+        let s : 0 < n % 2 + (n / 2 % 2 + (n / 2 / 2 % 2 + n / 2 / 2 / 2 % 2)) = h.0 in
+        inr (λ (z : n % 16 ≡ 0). omega arith, h.1)
+
+-- nothing is dropped
+none_dropped : (x : Float) (m bits : ℕ) → digits 16 (suc m) bits ≡ float x → (z : ℕ) → z ≡ 0
+    → digits 16 (suc m - z) (bits / 2 ^ (4 * z)) ≡ float x
+none_dropped x m bits e z q =
+    let all : suc m - z ≡ suc m = omega (arith, q) in
+    let none : 4 * z ≡ 0 = omega (arith, q) in
+    let one : bits / 1 ≡ bits = omega arith in
+    ap (λ (k : ℕ). digits 16 k (bits / 2 ^ (4 * z))) all
+    ∙ ap (λ (k : ℕ). digits 16 (suc m) (bits / 2 ^ k)) none
+    ∙ ap (digits 16 (suc m)) one
+    ∙ e
+
+-- as many of the last digits as there are whole fours of zeros, but for the first digit
+abbrev DroppedAll : Float → ℕ → ℕ → Type 0
+DroppedAll x m bits =
+    Kept x bits (suc m) → (z : ℕ) → z ≡ min (count_trailing_zeros (quads (suc m)) bits / 4) m
+    → digits 16 (suc m - z) (bits / 2 ^ (4 * z)) ≡ float x
+
+one_dropped : (x : Float) (m bits : ℕ) → DroppedAll x m (bits / 16) → FourBits (quads (suc m)) bits
+    → DroppedAll x (suc m) bits
+unfolding quads
+one_dropped x m bits rest (inl h) k z e =
+    let more : count_trailing_zeros (quads (suc (suc m))) bits ≡ 4 + count_trailing_zeros (quads (suc m)) (bits / 16) = h.1 in
+    let y = min (count_trailing_zeros (quads (suc m)) (bits / 16) / 4) m in
+    let s : z ≡ suc y = omega (arith, e, more) in
+    let less : suc (suc m) - 1 ≡ suc m = omega arith in
+    let fewer : suc (suc m) - z ≡ suc m - y = omega (arith, s) in
+    let four : 4 * z ≡ 4 + 4 * y = omega (arith, s) in
+    let divided : bits / 2 ^ (4 * z) ≡ bits / 16 / 2 ^ (4 * y) =
+    ap (λ (p : ℕ). bits / 2 ^ p) four ∙ sym (shr-shr bits 4 (4 * y)) in
+    ap (λ (c : ℕ). digits 16 c (bits / 2 ^ (4 * z))) fewer
+    ∙ ap (digits 16 (suc m - y)) divided
+    ∙ rest (subst (Kept x (bits / 16)) less (kept_drop k (omega arith) h.0)) y refl
+one_dropped x m bits rest (inr h) k z e =
+    let few : count_trailing_zeros (quads (suc (suc m))) bits < 4 = h.1 in
+    none_dropped x (suc m) bits (kept_rest k h.0) z (omega (arith, e, few))
+
+zeros_dropped : (x : Float) (m bits : ℕ) → DroppedAll x m bits
+zeros_dropped x zero bits = λ k z e. none_dropped x zero bits (kept_one k (omega arith)) z (omega (arith, e))
+zeros_dropped x (suc m) bits = one_dropped x m bits (zeros_dropped x m (bits / 16)) (four_bits (quads (suc m)) bits)
+
+-- the digits of a float's bits: 64 of them, four to a digit
+pub float_digits : (x : Float) {bits z : ℕ} → bits ≡ to_bits binary64 x → z ≡ min (count_trailing_zeros 64 bits / 4) 15
+    → digits 16 (16 - z) (bits / 2 ^ (4 * z)) ≡ float x
+unfolding quads
+float_digits x {bits} {z} e q = zeros_dropped x 15 bits (kept_all x e) z q

@@ -1,7 +1,8 @@
 -- The listing, document 01 under "A book and its listing": "Fields: node, kind (A, C, F), link, next, its alternative,
 -- previous, its alternative, in decimal; time, time to next, distance to next, speed, each the 16 hexadecimal digits of
 -- its bits, closing zeros dropped, one digit kept. Refused: `refused N`." Text is a list of bytes (ASCII).
-use Rattle.std.specs.Prelude.{◌≡◌, Bool, true, false, cond, List, [], ◌∷◌, ◌++◌, ℕ, zero, suc, ◌+◌, ◌-◌, ◌/◌, ◌%◌, ltb, leb, eqb, length, Float, Result, Ok, Err}
+use Rattle.std.specs.Prelude.{◌≡◌, Bool, true, false, cond, List, [], ◌∷◌, ◌++◌, ℕ, zero, suc, ◌+◌, ◌-◌, ◌/◌, ◌%◌}
+use Rattle.std.specs.Prelude.{ltb, leb, eqb, length, Float, Result, Ok, Err}
 use Rattle.std.proofs.Math.Option.{Option, none, some}
 use Rattle.std.specs.Float.{binary64}
 use Rattle.std.specs.Float.Ieee.{to_bits}

@@ -125,19 +125,14 @@ impl Text<'_> {
         self.put_byte(glyph(n % 16));
     }
 
-    // Puts a blank and the hexadecimal digits of a float's bits behind the text, without closing zeros. The loop is no
-    // `for` over an index: it ends at the first digit from behind that is not 0.
+    // Puts a blank and the hexadecimal digits of a float's bits behind the text, without closing zeros.
     fn put_float(&mut self, x: f64)
         ensures { Puts self.old (32 ∷ float x) self.new }
     {
-        let mut bits = floats::bits_of(x);
-        let mut count = 16;
-        while (1 < count) & (bits % 16 == 0) {
-            bits /= 16;
-            count -= 1;
-        }
+        let bits = floats::bits_of(x);
+        let zeros = (bits.trailing_zeros() / 4).min(15);
         self.put_byte(b' ');
-        self.put_hex(bits, count);
+        self.put_hex(bits >> (4 * zeros), 16 - zeros as usize);
     }
 
     // Puts a node's line behind the text.

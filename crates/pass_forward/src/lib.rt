@@ -8,8 +8,8 @@ ghost use Rattle.pass_state.specs.Promises.{PassEnds};
 
 use pass_queue::{Entry, Forward};
 
-// Times the nodes of a network of n, if no assertion fails. Nodes that are timed are flagged in `flags`, where no flag
-// is set before; the queue lies in `times` and `nodes`.
+// Times the nodes of a network of n, the first that the slices hold, if no assertion fails. Nodes that are timed are
+// flagged in `flags`, where no flag is set before; the queue lies in `times` and `nodes`.
 pub fn update_times_forward(
     floats: &mut [f64],
     numbers: &mut [u32],

@@ -1,5 +1,7 @@
 // A time pass at work: which nodes are done, its queue, and the turn of an entry. Both passes are one code, over a
-// trait with what differs. Contracts: specs/Held.antt, specs/Strands.antt, specs/Promises.antt.
+// trait with what differs. The first n nodes of the table are the network's, the first `count` slots the queue's: what
+// stands behind both is lent, and there is no heap memory for a Vec. Contracts: specs/Held.antt, specs/Strands.antt,
+// specs/Promises.antt.
 #![tactic(auto)]
 
 ghost use Rattle.std.specs.Prelude.{◌≡◌, ℕ, ◌+◌, ◌-◌, ◌*◌, ◌≤◌, ◌<◌, length, set};

@@ -9,4 +9,6 @@ number_text n = if nat_eq n 0 then codes "readable" ++ 10 ∷ [] else (codes "re
 
 -- the line of an input: a book of up to 65,536 bytes, read for a table of 192 nodes and 65,536 bytes of work space
 abbrev pub input_text : List ℕ → List ℕ
-input_text input = if nat_lt 65536 (length input) then codes "too long" ++ 10 ∷ [] else number_text (read_number input 192 65536)
+input_text input =
+    if nat_lt 65536 (length input) then codes "too long" ++ 10 ∷ []
+    else number_text (read_number input 192 65536)

@@ -47,6 +47,7 @@ fn answer<R: Read, W: Write>(rt: &impl Eprint, from: &mut R, to: &mut W) -> io::
     streams::say_unless(rt, "readable", written)
 }
 
+// The program `sheet` begins alike, with an `answer` of its own.
 fn main(rt: HostRuntime) -> io::Result<()> {
     answer(&rt, &mut rt.stdin(), &mut rt.stdout())
 }

@@ -1,5 +1,6 @@
 -- What the program prints.
-use Rattle.std.specs.Prelude.{ℕ, zero, suc, ◌+◌, ◌*◌, ◌/◌, ◌%◌, cond, nat_lt, List, [], ◌∷◌, ◌++◌, codes, length, take, drop, if◌then◌else◌}
+use Rattle.std.specs.Prelude.{ℕ, zero, suc, ◌+◌, ◌*◌, ◌/◌, ◌%◌, cond, nat_lt, List, [], ◌∷◌, ◌++◌, codes, length}
+use Rattle.std.specs.Prelude.{take, drop, if◌then◌else◌}
 use Rattle.std.specs.Float.{binary64}
 use Rattle.std.specs.Float.Ieee.{of_bits, to_bits}
 use Rattle.root.specs.Root.{sqrt}
@@ -31,7 +32,9 @@ answer bytes = last_digits 16 16 (root_bits (little_endian bytes))
 
 -- The line that is printed for what is left of the input: none at its end.
 abbrev pub line : List ℕ → List ℕ
-line input = if nat_lt (length input) 1 then [] else (if nat_lt (length input) 8 then codes "cut off" else answer (take 8 input)) ++ 10 ∷ []
+line input =
+    if nat_lt (length input) 1 then []
+    else (if nat_lt (length input) 8 then codes "cut off" else answer (take 8 input)) ++ 10 ∷ []
 
 -- The first k lines: that at i is of the bytes from 8 i on.
 unfoldable pub lines : ℕ → List ℕ → List ℕ

@@ -38,7 +38,8 @@ fn root_bits(bits: u64) -> u64
     f64::to_bits(x)
 }
 
-// A hexadecimal digit in ASCII.
+// A hexadecimal digit in ASCII. `listing` has the same one: this program tests `root` alone, and takes nothing else of
+// the library's crates.
 fn digit(d: u64) -> u8
     requires { d < 16 }
     ensures { result ≡ digit d }

@@ -25,6 +25,7 @@ fn answer<R: Read, W: Write>(rt: &impl Eprint, from: &mut R, to: &mut W) -> Resu
     streams::say_unless(rt, "sheet", written)
 }
 
+// The program `readable` begins alike, with an `answer` of its own.
 fn main(rt: HostRuntime) -> Result<()> {
     answer(&rt, &mut rt.stdin(), &mut rt.stdout())
 }

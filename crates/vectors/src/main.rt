@@ -2,8 +2,9 @@
 // program `sheet` does, each behind a line `== K`, K from 0.
 #![tactic(auto)]
 
-ghost use Rattle.std.specs.Prelude.{◌≤◌, ◌↔◌, IfOk, IsTrue, length};
-ghost use Rattle.vectors.specs.Vectors.{BookAnswered, NextAnswered};
+ghost use Rattle.std.specs.Prelude.{◌≤◌, ◌↔◌, IfOk, IsTrue, OnOk, length};
+ghost use Rattle.std.specs.Bool.{OnFalse};
+ghost use Rattle.vectors.specs.Vectors.{BookAnswered, NextAnswered, NoneAnswered, StreamAnswered, Untouched};
 
 use std::io::{Read, Result, Write};
 
@@ -17,6 +18,8 @@ fn answer_book<R: Read, W: Write>(
     ensures room { IfOk result (λ r. IsTrue r ↔ (size ≤ length space.old)) }
     ensures answered { IfOk result (λ r. IsTrue r → BookAnswered size
         (R.remaining from.old) (R.remaining from.new) (W.contents to.old) (W.contents to.new)) }
+    ensures longer { IfOk result (λ r. OnFalse r (Untouched
+        (R.remaining from.old) (R.remaining from.new) (W.contents to.old) (W.contents to.new))) }
 {
     if space.len() < size {
         return Ok(false);
@@ -28,8 +31,10 @@ fn answer_book<R: Read, W: Write>(
 
 // Whether a book was there and was answered.
 fn answer_next<R: Read, W: Write>(k: u64, from: &mut R, to: &mut W) -> Result<bool>
-    ensures { IfOk result (λ r. IsTrue r → NextAnswered k
+    ensures answered { IfOk result (λ r. IsTrue r → NextAnswered k
         (R.remaining from.old) (R.remaining from.new) (W.contents to.old) (W.contents to.new)) }
+    ensures none { IfOk result (λ r. OnFalse r (NoneAnswered k
+        (R.remaining from.old) (R.remaining from.new) (W.contents to.old) (W.contents to.new))) }
 {
     let mut head = [0u8; 4];
     if streams::read_full(from, &mut head)? != 4 {
@@ -41,13 +46,19 @@ fn answer_next<R: Read, W: Write>(k: u64, from: &mut R, to: &mut W) -> Result<bo
     answer_book(&mut space, size, from, to)
 }
 
-fn main(rt: HostRuntime) -> Result<()> {
-    let mut from = rt.stdin();
-    let mut to = rt.stdout();
+// Answers all books of a stream, up to a million.
+fn answer_all<R: Read, W: Write>(from: &mut R, to: &mut W) -> Result<()>
+    ensures { OnOk result (StreamAnswered
+        (R.remaining from.old) (R.remaining from.new) (W.contents to.old) (W.contents to.new)) }
+{
     for k in 0..1000000 {
-        if !answer_next(k, &mut from, &mut to)? {
+        if !answer_next(k, from, to)? {
             break;
         }
     }
     Ok(())
+}
+
+fn main(rt: HostRuntime) -> Result<()> {
+    answer_all(&mut rt.stdin(), &mut rt.stdout())
 }

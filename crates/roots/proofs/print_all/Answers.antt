@@ -10,6 +10,3 @@ loop-turn-preserved g c = let one = c.in_ok-more.ensures in turned_on _ c.loop-t
 
 pub returns-then-not-more : goal.returns-then-not-more
 returns-then-not-more g c = let one = c.in_ok-more.ensures in all_printed _ c.loop-turn.invariant one.line c.if-not-more.true one.more
-
-pub returns-after-loop-turn : goal.returns-after-loop-turn
-returns-after-loop-turn g c = never_used_up c.loop-turn.invariant c.loop-turn-test.false
