@@ -19,6 +19,7 @@ pub struct Layout {
 }
 
 // Whether some node has the event.
+#[tactic(auto, using(crate::proofs::Chains::arrive_seen, crate::proofs::Chains::clear_seen))]
 pub fn contains(cells: &[u32], w: Layout, event: LinkEvent) -> bool
     requires cells_apart { CellsApart cells.now w }
     requires real { Real event w.links }
@@ -68,6 +69,7 @@ fn open_cell(cells: &[u32], w: Layout, link_idx: u32) -> usize
 }
 
 // Node i has the Arrive of a link: it is named behind the link's last node, and is the last.
+#[tactic(auto, using(crate::proofs::Chains::arrived_open))]
 fn append_arrive(cells: &mut [u32], w: Layout, i: u32, link_idx: u32)
     requires cells_apart { CellsApart cells.old w }
     requires link_idx_lt_links { link_idx < w.links }
@@ -83,6 +85,7 @@ fn append_arrive(cells: &mut [u32], w: Layout, i: u32, link_idx: u32)
 }
 
 // The new node has the Clear of a link.
+#[tactic(auto, using(crate::proofs::Chains::cleared_one, crate::proofs::Chains::cleared_only))]
 fn mark_clear(cells: &mut [u32], w: Layout, link_idx: u32)
     requires cells_apart { CellsApart cells.old w }
     requires link_idx_lt_links { link_idx < w.links }
@@ -94,6 +97,7 @@ fn mark_clear(cells: &mut [u32], w: Layout, link_idx: u32)
 }
 
 // Node i, which is new and the last, has the event.
+#[tactic(auto, using(crate::proofs::Chains::arrive_is, crate::proofs::Chains::clear_is))]
 pub fn insert(cells: &mut [u32], w: Layout, i: u32, event: LinkEvent)
     requires cells_apart { CellsApart cells.old w }
     requires real { Real event w.links }

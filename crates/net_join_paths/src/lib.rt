@@ -35,6 +35,7 @@ pub fn push_entry(list: &mut JoinPaths, x: EstJoinPath) -> Result<(), Refusal>
 }
 
 // An entry for each node of a span of a list, put behind it.
+#[tactic(auto, using(crate::proofs::Spans::copying_start, crate::proofs::Spans::copying_whole))]
 pub fn push_span(list: &mut JoinPaths, link_idx_match: u32, span: Span) -> Result<(), Refusal>
     requires rises { span.begin ≤ span.end }
     requires inside { span.end ≤ array_vec_len list.old }

