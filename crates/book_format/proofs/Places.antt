@@ -6,8 +6,7 @@ use Prim.Native.Nat.{ℕ, ◌+◌, ◌*◌, ◌≤◌, ◌<◌}
 use native.Mathlib.Omega.{arith}
 use lib.ListN.{length}
 use Rattle.book_format.specs.declared.Sections.{Sections}
-use Rattle.book_format.specs.declared.Sample.{Sample}
-use Rattle.book_format.specs.Format.{Sized, sections_of, link_width, origin_width, destination_width, leg_width, sample_width, links, origins, destinations, legs, samples, rows, links_at_of, origins_at_of, destinations_at_of, legs_at_of, samples_at_of, end_of, sample_from, sample_at}
+use Rattle.book_format.specs.Format.{Sized, sections_of, link_width, origin_width, destination_width, leg_width, sample_width, links, origins, destinations, legs, samples, rows, links_at_of, origins_at_of, destinations_at_of, legs_at_of, samples_at_of, end_of}
 
 -- ---- the fields of s
 
@@ -106,12 +105,3 @@ module _ {b : List ℕ} {s : Sections} (z : Sized b s) where
 
   pub rows_fit : s.legs + s.destinations + s.origins + s.links + s.samples ≤ length b
   rows_fit = omega (arith, z.whole, follow b, sized_rows)
-
--- a row's place, by where the definition has its section
-pub from_section : {at start defined : ℕ} (rows : ℕ) → at ≡ start + rows → start ≡ defined → at ≡ defined + rows
-from_section rows e d = omega arith
-
--- a sample that is read at its row's place
-pub sample_in_row : (b : List ℕ) (i : ℕ) {at : ℕ} {s : Sample} → at ≡ samples_at_of b + i * sample_width → s ≡ sample_from b at → s ≡ sample_at b i
-unfolding sample_at
-sample_in_row b i place s = rw (s, place)

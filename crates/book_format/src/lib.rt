@@ -6,7 +6,9 @@ ghost use Rattle.std.specs.Prelude.{◌≡◌, true, false, ◌+◌, ◌*◌, �
 ghost use Rattle.fields.specs.Fields.{u32_at};
 ghost use Rattle.floats.specs.Floats.{book_float};
 ghost use Rattle.refusals.specs.Refusals.{told};
-ghost use Rattle.book_format.specs.Format.{links, origins, destinations, legs, samples, rows, samples_at_of, end_of};
+ghost use Rattle.book_format.specs.Format.{links, origins, destinations, legs, samples, rows, end_of};
+ghost use Rattle.book_format.specs.Format.{links_at_of, origins_at_of, samples_at_of};
+ghost use Rattle.book_format.specs.Format.{link_width, origin_width, sample_width};
 ghost use Rattle.book_format.specs.Format.{link_length, origin_offset, destination_link, link_at, origin_at, leg_at};
 ghost use Rattle.book_format.specs.Format.{sample_from, sample_at, patterns_from, sample_patterns};
 ghost use Rattle.book_format.specs.Format.{head_patterns, float_of};
@@ -301,15 +303,42 @@ impl<'a> Book<'a> {
         self.sections.samples_at
     }
 
+    // Where the row of a link stands.
+    fn link_place(&self, i: usize) -> usize
+        requires i_lt_links { i < links self.now }
+        ensures is { result ≡ links_at_of + i * link_width }
+        ensures inside { result + link_width ≤ length self.now }
+    {
+        row_place(self.bytes, LINKS_AT, LINK_WIDTH, i)
+    }
+
+    // Where the row of an origin stands.
+    #[tactic(auto, using(crate::proofs::Places::sized_origins_at))]
+    fn origin_place(&self, i: usize) -> usize
+        requires i_lt_origins { i < origins self.now }
+        ensures is { result ≡ origins_at_of self.now + i * origin_width }
+        ensures inside { result + origin_width ≤ length self.now }
+    {
+        row_place(self.bytes, self.sections.origins_at, ORIGIN_WIDTH, i)
+    }
+
+    // Where the row of a sample stands.
+    #[tactic(auto, using(crate::proofs::Places::sized_samples_at))]
+    fn sample_place(&self, i: usize) -> usize
+        requires i_lt_samples { i < samples self.now }
+        ensures is { result ≡ samples_at_of self.now + i * sample_width }
+        ensures inside { result + sample_width ≤ length self.now }
+    {
+        row_place(self.bytes, self.sections.samples_at, SAMPLE_WIDTH, i)
+    }
+
     // The pattern of a link's length: a field that is read, and no conversion.
     #[tactic(auto, unfolding(crate::specs::Format::link_length))]
     pub fn link_length(&self, i: usize) -> u64
         requires i_lt_links { i < links self.now }
         ensures { result ≡ link_length self.now i }
     {
-        let bytes = self.bytes;
-        let at = row_place(bytes, LINKS_AT, LINK_WIDTH, i);
-        fields::u64_at(bytes, at)
+        fields::u64_at(self.bytes, self.link_place(i))
     }
 
     // A link whose length is a book's float.
@@ -320,7 +349,7 @@ impl<'a> Book<'a> {
         ensures { result ≡ link_at self.now i }
     {
         let bytes = self.bytes;
-        let at = row_place(bytes, LINKS_AT, LINK_WIDTH, i);
+        let at = self.link_place(i);
         let length = float_of(fields::u64_at(bytes, at));
         let idx_next = fields::u32_at(bytes, at + 8);
         let idx_next_alt = fields::u32_at(bytes, at + 12);
@@ -336,25 +365,23 @@ impl<'a> Book<'a> {
     }
 
     // The pattern of an origin's offset.
-    #[tactic(auto, using(crate::proofs::Places::sized_origins_at), unfolding(crate::specs::Format::origin_offset))]
+    #[tactic(auto, unfolding(crate::specs::Format::origin_offset))]
     pub fn origin_offset(&self, i: usize) -> u64
         requires i_lt_origins { i < origins self.now }
         ensures { result ≡ origin_offset self.now i }
     {
-        let bytes = self.bytes;
-        let at = row_place(bytes, self.sections.origins_at, ORIGIN_WIDTH, i);
-        fields::u64_at(bytes, at + 4)
+        fields::u64_at(self.bytes, self.origin_place(i) + 4)
     }
 
     // An origin whose offset is a book's float.
-    #[tactic(auto, using(crate::proofs::Places::sized_origins_at), unfolding(crate::specs::Format::origin_at, crate::specs::Format::origin_link, crate::specs::Format::origin_offset, crate::specs::Format::origin_front,),)]
+    #[tactic(auto, unfolding(crate::specs::Format::origin_at, crate::specs::Format::origin_link, crate::specs::Format::origin_offset, crate::specs::Format::origin_front,),)]
     pub fn origin_at(&self, i: usize) -> Origin
         requires i_lt_origins { i < origins self.now }
         requires offset_passed { book_float (origin_offset self.now i) ≡ true }
         ensures { result ≡ origin_at self.now i }
     {
         let bytes = self.bytes;
-        let at = row_place(bytes, self.sections.origins_at, ORIGIN_WIDTH, i);
+        let at = self.origin_place(i);
         let link_idx = fields::u32_at(bytes, at);
         let offset = float_of(fields::u64_at(bytes, at + 4));
         let is_front_end = fields::u32_at(bytes, at + 12);
@@ -395,26 +422,22 @@ impl<'a> Book<'a> {
     }
 
     // The patterns of a sample.
-    #[tactic(auto, using(crate::proofs::Places::sized_samples_at), unfolding(crate::specs::Format::patterns_from, crate::specs::Format::sample_patterns, crate::specs::Format::sample_time, crate::specs::Format::sample_offset, crate::specs::Format::sample_speed,),)]
+    #[tactic(auto, unfolding(crate::specs::Format::patterns_from, crate::specs::Format::sample_patterns, crate::specs::Format::sample_time, crate::specs::Format::sample_offset, crate::specs::Format::sample_speed,),)]
     pub fn sample_patterns(&self, i: usize) -> SamplePatterns
         requires i_lt_samples { i < samples self.now }
         ensures { result ≡ sample_patterns self.now i }
     {
-        let bytes = self.bytes;
-        let at = row_place(bytes, self.sections.samples_at, SAMPLE_WIDTH, i);
-        patterns_from(bytes, at)
+        patterns_from(self.bytes, self.sample_place(i))
     }
 
     // A sample of a book whose three floats are a book's.
-    #[tactic(auto, using(crate::proofs::Places::sized_samples_at), unfolding(crate::specs::Format::sample_at, crate::specs::Rows::bad_sample),)]
+    #[tactic(auto, unfolding(crate::specs::Format::sample_at, crate::specs::Rows::bad_sample),)]
     pub fn sample_at(&self, i: usize) -> Sample
         requires i_lt_samples { i < samples self.now }
         requires floats_passed { bad_sample self.now i ≡ false }
         ensures { result ≡ sample_at self.now i }
     {
-        let bytes = self.bytes;
-        let at = row_place(bytes, self.sections.samples_at, SAMPLE_WIDTH, i);
-        sample_from(bytes, at)
+        sample_from(self.bytes, self.sample_place(i))
     }
 
     // The patterns of the three floats at the head: J, the departure and the train's length.

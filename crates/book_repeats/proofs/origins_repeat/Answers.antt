@@ -1,7 +1,7 @@
 -- `book_repeats::origins_repeat` meets its contract: `Swept` is the loop's invariant.
 use Rattle.std.proofs.Common.{ap, ◌<◌, arith}
 use Rattle.book_format.specs.Format.{origins}
-use Rattle.book_repeats.proofs.Origins.{swept_start, swept_link, swept_found, swept_on, swept_all_lem}
+use Rattle.book_repeats.proofs.Origins.{swept_start, swept_link, swept_found, swept_on}
 use Rattle.book_repeats.proofs.origins_repeat.Goals as goal
 
 pub loop-i-init : goal.loop-i-init

@@ -1,0 +1,6 @@
+-- `Book::origin_place` meets its contract: the row lies inside the bytes.
+use Rattle.book_format.proofs.Places.{origin_stands}
+use Rattle.book_format.proofs.Book.origin_place.Goals as goal
+
+pub row_place-requires : goal.row_place-requires
+row_place-requires c = origin_stands c.self.invariant c.self.view_is _ c.requires.i_lt_origins
