@@ -1,6 +1,5 @@
 -- `grow_waiting::copy_entries` meets its contract: `Copied` is the loop's invariant.
-use native.Mathlib.Omega.{arith}
-use Rattle.grow_waiting.proofs.Runs.{copied_none, copied_on, copied_whole}
+use Rattle.grow_waiting.proofs.Runs.{copied_on}
 use Rattle.grow_waiting.proofs.copy_entries.Goals as goal
 
 pub loop-k-preserved : goal.loop-k-preserved

@@ -2,7 +2,7 @@
 use mathlib.Core.Path.{ap}
 use native.Mathlib.Omega.{arith}
 use lib.ListN.{length}
-use Rattle.grow_waiting.proofs.Runs.{pushed_none, pushed_on, pushed_whole}
+use Rattle.grow_waiting.proofs.Runs.{pushed_on}
 use Rattle.grow_waiting.proofs.push_entries.Goals as goal
 
 pub loop-k-preserved : goal.loop-k-preserved
