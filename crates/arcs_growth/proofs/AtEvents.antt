@@ -74,8 +74,8 @@ notes_more b {n} {m} node after some h f runs ended =
     all_so (Notes b node n runs ended) (Notes b after m runs ended)
     (λ arc d. (ends_more b node after h f arc d.0, still arc d.0 d.1))
   where
-    still : (arc : Arc) → ArcEnds node n arc → LeadsOut b ended arc ⊎
-        (Starts b node (all_runs runs ended) arc ⊎ Follows b (all_runs runs ended) arc)
+    still : (arc : Arc) → ArcEnds node n arc → LeadsOut b ended arc
+        ⊎ (Starts b node (all_runs runs ended) arc ⊎ Follows b (all_runs runs ended) arc)
         → LeadsOut b ended arc ⊎ (Starts b after (all_runs runs ended) arc ⊎ Follows b (all_runs runs ended) arc)
     still arc e (inl o) = inl o
     still arc e (inr (inl o)) = inr (inl (starts_more b node after h f some (all_runs runs ended) arc e o))

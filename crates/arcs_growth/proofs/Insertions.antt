@@ -81,8 +81,8 @@ pub record Inserts (L : Labels) (places : ℕ) (net : Net) (run : Run) (saved : 
   pub closes : 0 < (at a.net.table run.place.idx_prev).idx_next
   pub kept : EventsKept net.nodes (at net.table) (at a.net.table)
   pub here : (at a.net.table a.run.place.idx_prev).link_event ≡ e.link_event
-  pub near : ((at a.net.table a.run.place.idx_prev).speed ≡ e.speed) ⊎
-      (lt (gap e.speed (at a.net.table a.run.place.idx_prev).speed) limit ≡ true)
+  pub near : ((at a.net.table a.run.place.idx_prev).speed ≡ e.speed)
+      ⊎ (lt (gap e.speed (at a.net.table a.run.place.idx_prev).speed) limit ≡ true)
   pub nodes : a.run.nodes ≡ nodes_to run a.run.place.idx_prev
   pub runs : a.net.runs ≡ net.runs
   pub time : a.run.place.time_to_next ≡ e.time

@@ -108,8 +108,8 @@ pub record Step (L M : Labels) (node after : ℕ → EstTime) (n : ℕ) : Type 0
       → ((after i).idx_next_alt ≡ (node i).idx_next_alt)
       ⊎ (((node i).idx_next_alt ≡ 0) × (((after i).idx_next_alt ≡ n)
       × (((after n).idx_prev ≡ i) × ((M.role n ≡ split) × (base_role (L.role i) ≡ true)))))
-  pub prev_alt : (i : ℕ) → i < n → ((after i).idx_prev_alt ≡ (node i).idx_prev_alt) ⊎
-      (((after i).idx_prev_alt ≡ n) × (receives (M.role n) ≡ true))
+  pub prev_alt : (i : ℕ) → i < n → ((after i).idx_prev_alt ≡ (node i).idx_prev_alt)
+      ⊎ (((after i).idx_prev_alt ≡ n) × (receives (M.role n) ≡ true))
   pub joins : (i : ℕ) → i < n → L.role i ≡ join → (after i).idx_next ≡ (node i).idx_next
   pub stops : (i : ℕ) → i < n → L.role i ≡ stop → ((after i).idx_next ≡ (node i).idx_next) × (M.role n ≡ stop)
 
@@ -118,8 +118,8 @@ module _ {L M : Labels} {node after : ℕ → EstTime} {n : ℕ} (v : Laid L nod
   next_stays : (i r : ℕ) → i < n → 0 < r → (node i).idx_next ≡ r → (after i).idx_next ≡ r
   next_stays i r h p e = go (s.next i h)
     where
-      go : ((after i).idx_next ≡ (node i).idx_next) ⊎
-          (((node i).idx_next ≡ 0) × (((after i).idx_next ≡ n)
+      go : ((after i).idx_next ≡ (node i).idx_next)
+          ⊎ (((node i).idx_next ≡ 0) × (((after i).idx_next ≡ n)
           × (((after n).idx_prev ≡ i) × (receives (M.role n) ≡ true)))) → (after i).idx_next ≡ r
       go (inl q) = q ∙ e
       go (inr q) = let z = q.0 in absurd (omega arith)
@@ -170,8 +170,8 @@ module _ {L M : Labels} {node after : ℕ → EstTime} {n : ℕ} (v : Laid L nod
     step_next : (r : ℕ) → (after i).idx_next ≡ r → 0 < r → base_role (M.role i) ≡ true → NextOf M after (suc n) i r
     step_next r e p b = go (s.next i h)
       where
-        go : ((after i).idx_next ≡ (node i).idx_next) ⊎
-            (((node i).idx_next ≡ 0) × (((after i).idx_next ≡ n)
+        go : ((after i).idx_next ≡ (node i).idx_next)
+            ⊎ (((node i).idx_next ≡ 0) × (((after i).idx_next ≡ n)
             × (((after n).idx_prev ≡ i) × (receives (M.role n) ≡ true)))) → NextOf M after (suc n) i r
         go (inl q) =
             let o = old.next r (sym q ∙ e) p (ap base_role (sym role_is) ∙ b) in
@@ -250,8 +250,8 @@ module _ {L M : Labels} {node after : ℕ → EstTime} {n : ℕ} (v : Laid L nod
     step_prev_alt : (a : ℕ) → (after i).idx_prev_alt ≡ a → 0 < a → (a < suc n) × (receives (M.role a) ≡ true)
     step_prev_alt a e p = go (s.prev_alt i h)
       where
-        go : ((after i).idx_prev_alt ≡ (node i).idx_prev_alt) ⊎
-            (((after i).idx_prev_alt ≡ n) × (receives (M.role n) ≡ true)) → (a < suc n) × (receives (M.role a) ≡ true)
+        go : ((after i).idx_prev_alt ≡ (node i).idx_prev_alt)
+            ⊎ (((after i).idx_prev_alt ≡ n) × (receives (M.role n) ≡ true)) → (a < suc n) × (receives (M.role a) ≡ true)
         go (inl q) = let o = old.prev_alt a (sym q ∙ e) p in
             (omega (arith, o.0), ap receives (s.labels.role a o.0) ∙ o.1)
         go (inr q) = let d : a ≡ n = sym e ∙ q.0 in (omega arith, ap (λ (k : ℕ). receives (M.role k)) d ∙ q.1)

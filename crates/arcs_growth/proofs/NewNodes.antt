@@ -102,8 +102,8 @@ module _ {L : Labels} {node after : ℕ → EstTime} {n b : ℕ} (v : Laid L nod
       next i h (inr d) = inl (a.other i h d)
 
       prev_alt : (i : ℕ) → i < n → ((after i).idx_prev_alt ≡ (node i).idx_prev_alt) ⊎ ((after i).idx_prev_alt ≡ n)
-          → ((after i).idx_prev_alt ≡ (node i).idx_prev_alt) ⊎
-          (((after i).idx_prev_alt ≡ n) × (receives (M.role n) ≡ true))
+          → ((after i).idx_prev_alt ≡ (node i).idx_prev_alt)
+          ⊎ (((after i).idx_prev_alt ≡ n) × (receives (M.role n) ≡ true))
       prev_alt i h (inl q) = inl q
       prev_alt i h (inr q) = inr (q, r)
 

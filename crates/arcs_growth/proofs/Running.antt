@@ -39,8 +39,8 @@ pub next_deeper : {L : Labels} {places : ℕ} {net : Net} → Grows L places net
     → itself (L.role p) ≡ true → (limit : Float) (e : TimedEvent) → Real e
     → (from : ℕ) → Reached L (at net.table) net.nodes p from → 0 < (at net.table from).idx_next
     → matches limit e (at net.table (at net.table from).idx_next) ≡ true
-    → ((at net.table from).idx_next < net.nodes) ×
-    ((L.role (at net.table from).idx_next ≡ event) × (L.depth (at net.table from).idx_next ≡ suc (L.depth p)))
+    → ((at net.table from).idx_next < net.nodes)
+    × ((L.role (at net.table from).idx_next ≡ event) × (L.depth (at net.table from).idx_next ≡ suc (L.depth p)))
 next_deeper {L} {places} {net} g p h self limit e real from r some same =
     let y : ℕ = (at net.table from).idx_next in
     let v = g.body.graph.laid in

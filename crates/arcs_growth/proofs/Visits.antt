@@ -32,10 +32,10 @@ module _ (b : List ℕ) {n m : ℕ} (node after : ℕ → EstTime) (h : n ≤ m)
       same : (after i).speed ≡ (node i).speed
       same = k.speed i d.inside
 
-      near : ((node i).speed ≡ e.speed) ⊎ ((lt (gap e.speed (node i).speed) (join_gap b) ≡ true) ⊎
-          (lt (gap (node i).speed e.speed) (join_gap b) ≡ true))
-          → ((after i).speed ≡ e.speed) ⊎ ((lt (gap e.speed (after i).speed) (join_gap b) ≡ true) ⊎
-          (lt (gap (after i).speed e.speed) (join_gap b) ≡ true))
+      near : ((node i).speed ≡ e.speed) ⊎ ((lt (gap e.speed (node i).speed) (join_gap b) ≡ true)
+          ⊎ (lt (gap (node i).speed e.speed) (join_gap b) ≡ true))
+          → ((after i).speed ≡ e.speed) ⊎ ((lt (gap e.speed (after i).speed) (join_gap b) ≡ true)
+          ⊎ (lt (gap (after i).speed e.speed) (join_gap b) ≡ true))
       near (inl q) = inl (same ∙ q)
       near (inr (inl q)) = inr (inl (ap (λ (v : Float). lt (gap e.speed v) (join_gap b)) same ∙ q))
       near (inr (inr q)) = inr (inr (ap (λ (v : Float). lt (gap v e.speed) (join_gap b)) same ∙ q))
@@ -91,8 +91,8 @@ module _ (b : List ℕ) {n m : ℕ} (node after : ℕ → EstTime) (h : n ≤ m)
 -- a speed near an event's, where the run moved or added
 pub near_move : (b : List ℕ) (e : TimedEvent) (x : EstTime)
     → (x.speed ≡ e.speed) ⊎ (lt (gap e.speed x.speed) (join_gap b) ≡ true)
-    → (x.speed ≡ e.speed) ⊎ ((lt (gap e.speed x.speed) (join_gap b) ≡ true) ⊎
-    (lt (gap x.speed e.speed) (join_gap b) ≡ true))
+    → (x.speed ≡ e.speed) ⊎ ((lt (gap e.speed x.speed) (join_gap b) ≡ true)
+    ⊎ (lt (gap x.speed e.speed) (join_gap b) ≡ true))
 near_move b e x (inl q) = inl q
 near_move b e x (inr q) = inr (inl q)
 

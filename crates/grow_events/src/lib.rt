@@ -30,7 +30,7 @@ pub struct Counts {
 }
 
 // The run that moves: its place, and whether it has added since its pop. The flag is no Option: the place stands
-// whether or not the run has added.
+// whether or not the run has added. Functions take it beside the counts, which are the network's and outlive it.
 #[derive(Clone, Copy)]
 pub struct Mover {
     pub place: Place,

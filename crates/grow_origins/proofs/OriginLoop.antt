@@ -11,8 +11,9 @@ use lib.Seq.{drop-cons, drop-length}
 use lib.Ieee.{Float}
 use Rattle.net_node.proofs.Tables.{RoomIn}
 use Rattle.laws.specs.Answer.{Answer, refused, given, and_then}
-use Rattle.book_format.specs.Format.{links, origins, destinations, leg_link, origin_link}
-use Rattle.book_format.proofs.Given.{limits}
+use Rattle.book_format.specs.declared.Origin.{Origin}
+use Rattle.book_format.specs.Format.{links, origins, destinations, leg_link, origin_at, origin_link}
+use Rattle.book_format.proofs.Given.{limits, origin_link_lem}
 use Rattle.book_format.specs.Chains.{Readable}
 use Rattle.net_join_paths.specs.declared.EstJoinPath.{EstJoinPath}
 use Rattle.book_options.specs.Options.{OptionsIn, kept_origins, search_room}
@@ -61,6 +62,11 @@ not_over b idx idxs link (r ∷ rs) e f = (
 )
 
 -- ---- an origin's events are inserted
+
+-- the link of an origin's row, as a reader of the book has it
+pub row_link : (b : List ℕ) {b' : List ℕ} (i : ℕ) {o : Origin} → o ≡ origin_at b' i → b' ≡ b
+    → o.link_idx ≡ origin_link b i
+row_link b i e same = origin_link_lem b i (e ∙ ap (λ (x : List ℕ). origin_at x i) same)
 
 pub leads_as : (t : Table) (n last link link' : ℕ) → link ≡ link' → LeadsFrom t n last link' → LeadsFrom t n last link
 leads_as t n last link link' e l = subst (LeadsFrom t n last) (sym e) l

@@ -1,5 +1,5 @@
 -- What growth goes by: a book that was read gives a plan.
-use mathlib.Core.Path.{◌≡◌, refl, sym, ap, subst}
+use mathlib.Core.Path.{◌≡◌, refl, sym, ap, ◌∙◌, subst}
 use mathlib.Core.Bool.{true, false, not, ◌||◌}
 use mathlib.Core.List.{List}
 use Prim.Native.Nat.{ℕ, ◌+◌, ◌*◌, ◌≤◌}
@@ -43,50 +43,61 @@ module _ (b : List ℕ) (h : row4 b ≡ false) where
   departure_float = not-false (book_float (departure_bits b))
       (none_right (not (book_float (join_bits b))) (not (book_float (departure_bits b))) both)
 
-module _ (b : List ℕ) (v : Readable b) (head : HeadPatterns) (e : head ≡ head_patterns b) where
-  pub join_number : T (not (nan_bits binary64 head.join))
-  unfolding head_patterns
-  join_number = subst (λ (x : HeadPatterns). T (not (nan_bits binary64 x.join))) (sym e)
-      (book_no_nan (join_bits b) (join_float b v.floats))
+-- what is read of the book that a reader holds
+module _ {b b' : List ℕ} (is : b' ≡ b) (v : Readable b') where
+  readable : Readable b
+  readable = subst Readable is v
 
-  pub departure_number : T (not (nan_bits binary64 head.departure))
-  unfolding head_patterns
-  departure_number = subst (λ (x : HeadPatterns). T (not (nan_bits binary64 x.departure))) (sym e)
-      (book_no_nan (departure_bits b) (departure_float b v.floats))
+  pub legs_small : (j : ℕ) → j ≡ legs b' → j ≤ 65535
+  legs_small j e = omega (arith, e, (limits b' v.counted.counts).legs_most)
 
-  pub length_number : T (not (nan_bits binary64 head.length))
-  unfolding head_patterns
-  length_number = subst (λ (x : HeadPatterns). T (not (nan_bits binary64 x.length))) (sym e)
-      (book_no_nan (length_bits b) (length_float b v.floats))
+  module _ (head : HeadPatterns) (read : head ≡ head_patterns b') where
+    e : head ≡ head_patterns b
+    e = read ∙ ap head_patterns is
 
-  -- the plan, as the code puts it together
-  abbrev plan_of : ℕ → ℕ → ℕ → Plan
-  plan_of j l places = record {
-    w = record { links_at = (j + 1) * 8 + places * 8; nodes_at = (j + 1) * 8; links = l; places = places };
-    r = record { nodes_at = (j + 1) * 8; pairs_at = j + 2; legs = j; places = places };
-    join = of_bits binary64 head.join;
-    departure = of_bits binary64 head.departure;
-    length = of_bits binary64 head.length;
-  }
+    pub join_number : T (not (nan_bits binary64 head.join))
+    unfolding head_patterns
+    join_number = subst (λ (x : HeadPatterns). T (not (nan_bits binary64 x.join))) (sym e)
+        (book_no_nan (join_bits b) (join_float b readable.floats))
 
-  pub plan_holds : length b ≡ end_of b → row7 b ≡ false → (j l places reals : ℕ) → j ≡ legs b → l ≡ links b
-      → legs b * 3 + 4 ≤ reals → PlanIn b (plan_of j l places) reals
-  unfolding head_patterns
-  plan_holds whole seven j l places reals many all h = record {
-    whole = whole;
-    readable = v;
-    row7 = seven;
-    join = ap (λ (x : HeadPatterns). of_bits binary64 x.join) e;
-    departs = ap (λ (x : HeadPatterns). of_bits binary64 x.departure) e;
-    train = ap (λ (x : HeadPatterns). of_bits binary64 x.length) e;
-    all_links = all;
-    all_legs = many;
-    nodes_at = omega (arith, many);
-    same_nodes = refl;
-    same_places = refl;
-    pairs_at = omega (arith, many);
-    pairs = omega (arith, many);
-  }
+    pub departure_number : T (not (nan_bits binary64 head.departure))
+    unfolding head_patterns
+    departure_number = subst (λ (x : HeadPatterns). T (not (nan_bits binary64 x.departure))) (sym e)
+        (book_no_nan (departure_bits b) (departure_float b readable.floats))
 
-  pub legs_small : legs b ≤ 65535
-  legs_small = (limits b v.counted.counts).legs_most
+    pub length_number : T (not (nan_bits binary64 head.length))
+    unfolding head_patterns
+    length_number = subst (λ (x : HeadPatterns). T (not (nan_bits binary64 x.length))) (sym e)
+        (book_no_nan (length_bits b) (length_float b readable.floats))
+
+    -- the plan, as the code puts it together
+    abbrev plan_of : ℕ → ℕ → ℕ → Plan
+    plan_of j l places = record {
+      w = record { links_at = (j + 1) * 8 + places * 8; nodes_at = (j + 1) * 8; links = l; places = places };
+      r = record { nodes_at = (j + 1) * 8; pairs_at = j + 2; legs = j; places = places };
+      join = of_bits binary64 head.join;
+      departure = of_bits binary64 head.departure;
+      length = of_bits binary64 head.length;
+    }
+
+    pub plan_holds : {bytes : List ℕ} → bytes ≡ b' → length bytes ≡ end_of bytes → row7 b ≡ false
+        → (j l places reals : ℕ) → j ≡ legs b' → l ≡ links b' → legs b * 3 + 4 ≤ reals
+        → PlanIn b (plan_of j l places) reals
+    unfolding head_patterns
+    plan_holds same whole seven j l places reals many all h =
+        let n : j ≡ legs b = many ∙ ap legs is in
+        record {
+          whole = subst (λ (x : List ℕ). length x ≡ end_of x) (same ∙ is) whole;
+          readable = readable;
+          row7 = seven;
+          join = ap (λ (x : HeadPatterns). of_bits binary64 x.join) e;
+          departs = ap (λ (x : HeadPatterns). of_bits binary64 x.departure) e;
+          train = ap (λ (x : HeadPatterns). of_bits binary64 x.length) e;
+          all_links = all ∙ ap links is;
+          all_legs = n;
+          nodes_at = omega (arith, n);
+          same_nodes = refl;
+          same_places = refl;
+          pairs_at = omega (arith, n);
+          pairs = omega (arith, n, h);
+        }

@@ -190,12 +190,22 @@ module _ {b : List ℕ} {p : Plan} {fs : List Float} {us : List ℕ} {reals : Li
 
 -- ---- the run is saved
 
+-- its leg is one of the plan's, and its entries have room behind those that wait
+pub record SaveAsked (p : Plan) (g : Rest) (leg : ℕ) (joins : List EstJoinPath) : Type 0 where
+  pub leg_le_legs : leg ≤ p.r.legs
+  pub leg_nonzero : 0 < leg
+  pub all_legs_bound : p.r.legs ≤ 65535
+  pub count_bound : g.used + length joins ≤ p.r.places
+
 module _ (b : List ℕ) (p : Plan) (fs : List Float) (us : List ℕ) (reals : List Float) (cells : List ℕ)
     (joins : List EstJoinPath) (idxs : List ℕ) (g : Rest) (place : Place) (link : ℕ) (net : Net) (run : Run)
     (runs : List Run)
     (plan : PlanIn b p (length reals)) (v : OriginInserted b p
     (lists fs us reals cells joins) idxs g place link net run runs) (t : Result TakenLeg Refusal)
-    (told : t ≡ taken_leg b 0 link) where
+    {b' : List ℕ} (same : b' ≡ b) (read : t ≡ taken_leg b' 0 link) where
+  told : t ≡ taken_leg b 0 link
+  told = read ∙ ap (λ (x : List ℕ). taken_leg x 0 link) same
+
   -- row 10
   pub origin_no_leg : (k : Refusal) → t ≡ Err k → saved_origin b link net run runs ≡ refused (refusal_number k)
   unfolding saved_origin seek_leg taken_leg leg_search
@@ -217,41 +227,14 @@ module _ (b : List ℕ) (p : Plan) (fs : List Float) (us : List ℕ) (reals : Li
     wait : WaitIn b p.r reals cells g.top g.used runs
     wait = held.waiting
 
-    -- what saving asks
-    pub save_asks : (p.r.nodes_at + p.r.places * 8 ≤ length cells)
-        × (((p.r.legs + 1) * 8 ≤ p.r.nodes_at) × ((p.r.pairs_at + p.r.legs * 2 + 2 ≤ length reals)
-        × ((leg.number ≤ p.r.legs) × ((0 < leg.number)
-        × ((p.r.legs ≤ 65535) × ((0 ≤ 65535) × ((g.used + length joins ≤ p.r.places) × (p.r.places ≤ 65535))))))))
-    save_asks = (
-      omega (arith, held.grown.apart.nodes_inside, plan.same_nodes, plan.same_places),
-      (
-        plan_room plan,
-        (
-          plan.pairs,
-          (
-            omega (arith, plan.all_legs, leg_is.number, of.within),
-            (
-              omega (arith, leg_is.number),
-              (
-                omega (arith, plan.all_legs, plan_legs plan),
-                (
-                  omega arith,
-                  (
-                    omega (
-                      arith,
-                      ap length none,
-                      saved_room cells reals p.r g.top g.used wait.runs
-                          wait.kept,
-                    ),
-                    omega (arith, plan.same_places, held.grown.room.most),
-                  ),
-                ),
-              ),
-            ),
-          ),
-        ),
-      ),
-    )
+    -- what saving asks of the run
+    pub save_asks : SaveAsked p g leg.number joins
+    save_asks = record {
+      leg_le_legs = omega (arith, plan.all_legs, leg_is.number, of.within);
+      leg_nonzero = omega (arith, leg_is.number);
+      all_legs_bound = omega (arith, plan.all_legs, plan_legs plan);
+      count_bound = omega (arith, ap length none, saved_room cells reals p.r g.top g.used wait.runs wait.kept);
+    }
 
     then : Run
     then = on_leg run (suc leg_is.idx) false

@@ -1,5 +1,5 @@
--- Laws of the runs that wait: their entries on the stack, what a change elsewhere leaves of them, and what saving and
--- popping give.
+-- Laws of the runs that wait: their entries on the stack, what a change elsewhere leaves of them, and what saving one
+-- gives.
 use mathlib.Core.Path.{◌≡◌, refl, sym, ap, ◌∙◌, subst}
 use mathlib.Core.Logic.{◌≢◌}
 use mathlib.Core.List.{List, [], ◌∷◌, ◌++◌}
@@ -43,9 +43,6 @@ entries_snoc c w k [] x n e h a b =
       (ap (λ (i : ℕ). get_or c (w.nodes_at + i * 8 + 4) 0) d ∙ b, tt),
     )
 entries_snoc c w k (y ∷ xs) x n e h a b = (h.0, (h.1.0, entries_snoc c w (suc k) xs x n (omega arith) h.1.1 a b))
-
-pub pushed_none : (c : List ℕ) (w : Rooms) (used : ℕ) → EntriesPushed c c w used []
-pushed_none c w used = record { there = tt; elsewhere = λ q h. refl }
 
 module _ (c : List ℕ) (w : Rooms) (i : ℕ) (x : EstJoinPath) where
   abbrev half : List ℕ
@@ -96,9 +93,6 @@ module _ {c c' : List ℕ} {w : Rooms} {used : ℕ} (xs : List EstJoinPath) (k :
             ∙ v.elsewhere q (λ i t a b p r. h i t a (omega arith) p r);
       }
 
-  pub pushed_whole : EntriesPushed c c' w used (take k xs) → length xs ≤ k → EntriesPushed c c' w used xs
-  pushed_whole v h = subst (EntriesPushed c c' w used) (take_all k xs h) v
-
 -- ---- entries as they are read
 
 -- the entry at i of the stack
@@ -125,11 +119,6 @@ pub record Copied (c : List ℕ) (w : Rooms) (from count k : ℕ) (list : List E
   pub many : from + length list ≡ k
   pub entries : (xs : List EstJoinPath) → EntriesFrom c w from xs → length xs ≡ count → list ≡ take (length list) xs
 
-pub copied_none : (c : List ℕ) (w : Rooms) (from count : ℕ) (list : List EstJoinPath) → list ≡ []
-    → Copied c w from count from list
-copied_none c w from count list z = subst (Copied c w from count from) (sym z)
-    (record { many = omega arith; entries = λ xs e l. refl })
-
 module _ {c : List ℕ} {w : Rooms} {from count k : ℕ} {list : List EstJoinPath} (v : Copied c w from count k list) where
   pub copied_on : k < from + count → (list' : List EstJoinPath) → list' ≡ list ++ (read_at c w k ∷ [])
       → Copied c w from count (k + 1) list'
@@ -148,10 +137,6 @@ module _ {c : List ℕ} {w : Rooms} {from count k : ℕ} {list : List EstJoinPat
           ∙ ap (λ (x : EstJoinPath). take (length list) xs ++ (x ∷ [])) (ap (read_at c w) (sym v.many) ∙ r)
           ∙ sym (take_more xs (length list) (read_at c w k) (omega (arith, v.many)))
           ∙ ap (λ (i : ℕ). take i xs) (sym n)
-
-  pub copied_whole : k ≡ from + count → (xs : List EstJoinPath) → EntriesFrom c w from xs → length xs ≡ count
-      → list ≡ xs
-  copied_whole h xs e l = v.entries xs e l ∙ take_all (length list) xs (omega (arith, v.many))
 
 -- ---- a change that leaves runs as they are
 
@@ -358,55 +343,3 @@ module _ {c : List ℕ} {r : List Float} {w : Rooms} {top used : ℕ} {place : P
             ),
           ),
         )
-
--- ---- the run on top is taken up again
-
--- what reading it asks for
-pub record Readily (c : List ℕ) (w : Rooms) (top used : ℕ) : Type 0 where
-  pub inside : top ≤ w.legs
-  pub there : get_or c (top * 8 + 6) 0 ≤ used
-  pub room : used ≤ w.places
-  pub few : get_or c (top * 8 + 6) 0 ≤ 1024
-
-pub some_readily : {c : List ℕ} {r : List Float} {w : Rooms} {top used : ℕ} → SomeWaits c r w top used
-    → Readily c w top used
-some_readily {c} {r} {w} {top} {used} s =
-    let h = s.saved in
-    let v = h.1.1.1.0 in
-    let e : get_or c (top * 8 + 6) 0 ≡ length s.run.joins = ap (λ (j : ℕ). get_or c (j * 8 + 6) 0) h.0 ∙ v.count in
-    record {
-      inside = omega (arith, h.0, v.inside);
-      there = omega (arith, h.1.0);
-      room = omega (arith, v.fits, h.1.0);
-      few = omega (arith, s.few);
-    }
-
-module _ (c : List ℕ) (r : List Float) (w : Rooms) (top used : ℕ) (joins : List EstJoinPath) where
-  pub pop_gives : EntriesCopied c w (used - get_or c (top * 8 + 6) 0) (get_or c (top * 8 + 6) 0) joins
-      → (run : Waiting) (runs : List Waiting) → SavedIn c r w top used (run ∷ runs)
-      → PoppedAs run runs joins (record {
-        place = record {
-          time_to_next = get_or r (w.pairs_at + top * 2) nan;
-          dist_to_next = get_or r (w.pairs_at + top * 2 + 1) nan;
-          idx_prev = get_or c (top * 8 + 4) 0;
-        };
-        leg = top;
-        depth = get_or c (top * 8 + 5) 0;
-        below = get_or c (top * 8 + 7) 0;
-      })
-  pop_gives copied run runs h =
-      let e : top ≡ run.leg = h.0 in
-      let v = h.1.1.1.0 in
-      let n : get_or c (top * 8 + 6) 0 ≡ length run.joins = ap (λ (j : ℕ). get_or c (j * 8 + 6) 0) e ∙ v.count in
-      let a : get_or r (w.pairs_at + top * 2) nan ≡ run.place.time_to_next =
-      ap (λ (j : ℕ). get_or r (w.pairs_at + j * 2) nan) e ∙ v.time in
-      let b : get_or r (w.pairs_at + top * 2 + 1) nan ≡ run.place.dist_to_next =
-      ap (λ (j : ℕ). get_or r (w.pairs_at + j * 2 + 1) nan) e ∙ v.offset in
-      let p : get_or c (top * 8 + 4) 0 ≡ run.place.idx_prev = ap (λ (j : ℕ). get_or c (j * 8 + 4) 0) e ∙ v.place in
-      record {
-        place = λ t. record { time_to_next = a t; dist_to_next = b t; idx_prev = p t };
-        leg = e;
-        depth = ap (λ (j : ℕ). get_or c (j * 8 + 5) 0) e ∙ v.depth;
-        entries = copied run.joins (subst (λ (i : ℕ). EntriesFrom c w (used - i) run.joins) (sym n) v.entries) (sym n);
-        below = ap (λ (j : ℕ). get_or c (j * 8 + 7) 0) e ∙ v.next;
-      }

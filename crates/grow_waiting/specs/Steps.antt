@@ -9,8 +9,8 @@ use Rattle.grow_waiting.specs.Held.{EntriesFrom, Waiting, Untaken, SavedIn, Popp
 -- entries put on the stack from `used` on; every other cell is as it was
 pub record EntriesPushed (c c' : List ℕ) (w : Rooms) (used : ℕ) (xs : List EstJoinPath) : Type 0 where
   pub there : EntriesFrom c' w used xs
-  pub elsewhere : (q : ℕ) → ((i k : ℕ) → used ≤ i → i < used + length xs → 3 ≤ k → k < 5 → q ≢ w.nodes_at + i * 8 +
-      k) → get_or c' q 0 ≡ get_or c q 0
+  pub elsewhere : (q : ℕ) → ((i k : ℕ) → used ≤ i → i < used + length xs → 3 ≤ k → k < 5 → q ≢ w.nodes_at + i * 8
+      + k) → get_or c' q 0 ≡ get_or c q 0
 
 -- the `count` entries from k on of that stack, copied into a list
 abbrev pub EntriesCopied : List ℕ → Rooms → ℕ → ℕ → List EstJoinPath → Type 0

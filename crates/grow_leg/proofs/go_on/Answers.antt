@@ -13,28 +13,6 @@ ways_behind-requires c =
     let s = c.requires in
     front_link plan s.some_going.way.ends _ s.leg_link
 
-pub on_over-requires : goal.on_over-requires
-on_over-requires c =
-    let plan = planned_in _ c.args.p.now.planned c.requires.reals_room in
-    let s = c.requires in let y = s.some_going in
-    record {
-      reals = _;
-      joins = _;
-      plan = plan;
-      ends = record {
-        fs = y.fs;
-        us = y.us;
-        ends = record { net = _; run = _; rest = _; ends = y.way.ends };
-      };
-    }
-
-pub save_over-requires : goal.save_over-requires
-save_over-requires c = let s = c.requires in let y = s.some_going in
-    record {
-      reals_room = c.requires.reals_room;
-      some_ending = record { fs = y.fs; us = y.us; ends = record { net = _; run = _; rest = _; ends = y.way.ends } };
-    }
-
 pub on_over-requires-in-Both : goal.on_over-requires-in-Both
 on_over-requires-in-Both c =
     let s = c.requires in

@@ -9,15 +9,6 @@ use Rattle.grow_state.proofs.Keeping.{turned_refused}
 use Rattle.grow_leg.proofs.GoingOn.{front_leg, front_depth, on_refused, on_gives}
 use Rattle.grow_leg.proofs.on_over.Goals as goal
 
-pub take_leg-requires : goal.take_leg-requires
-take_leg-requires c =
-    let s = c.requires in
-    let e = c.book.ensures.is in
-    record {
-      chained = subst (λ (b : List ℕ). Chained b c.args.cells.now) (sym e) s.ends.ends.ends.chained;
-      parent_bound = omega (arith, ap legs e, front_leg s.plan s.ends.ends.ends);
-    }
-
 pub overflow_add-on : goal.overflow_add-on
 overflow_add-on c = let s = c.requires in omega (arith, front_depth s.plan s.ends.ends.ends)
 

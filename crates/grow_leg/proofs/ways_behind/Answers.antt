@@ -8,12 +8,6 @@ use Rattle.book_format.specs.Format.{links}
 use Rattle.grow_leg.proofs.Choosing.{next_within, alt_within, next_in, alt_in, ways_are}
 use Rattle.grow_leg.proofs.ways_behind.Goals as goal
 
-pub link_at-link-requires : goal.link_at-link-requires
-link_at-link-requires c = record {
-  i_lt_links = subst (λ (b : List ℕ). c.args.link_idx < links b)
-      (sym c.valid.ensures.is) c.requires;
-}
-
 pub returns-then-link-eq0 : goal.returns-then-link-eq0
 returns-then-link-eq0 c = let v = c.valid.ensures in
     ways_are v.is v.readable _ c.requires c.link_at-link.ensures true _ _ (eq-eqb _ 0 c.if-link-eq0.true) refl refl

