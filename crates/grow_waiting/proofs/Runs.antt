@@ -7,14 +7,13 @@ use Prim.Native.Nat.{ℕ, zero, suc, ◌+◌, ◌-◌, ◌*◌, ◌≤◌, ◌<�
 use native.Mathlib.Omega.{arith}
 use lib.ListN.{length, get_or, set, take, length-set, length-append}
 use lib.Seq.{get_or-set_same, get_or-set_other}
-use Rattle.std.proofs.lemmas.List.{take_more, length-take-le, take_all}
+use Rattle.std.proofs.lemmas.List.{take_more, length-take-le}
 use lib.Ieee.{Float, nan}
 use Rattle.net_insertion.specs.declared.Place.{Place}
 use Rattle.net_join_paths.specs.declared.EstJoinPath.{EstJoinPath}
 use Rattle.grow_waiting.specs.declared.Rooms.{Rooms}
 use Rattle.grow_waiting.specs.Held.{Waiting, EntriesFrom, RunKept, Untaken, top_of, SavedIn, waiting_of, SavedElsewhere}
-use Rattle.grow_waiting.specs.Held.{SomeWaits, PoppedAs}
-use Rattle.grow_waiting.specs.Steps.{EntriesPushed, EntriesCopied}
+use Rattle.grow_waiting.specs.Steps.{EntriesPushed}
 
 -- ---- entries on the stack
 

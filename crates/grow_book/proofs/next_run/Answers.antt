@@ -1,6 +1,5 @@
 -- `grow_book::next_run` meets its contract.
-use native.Mathlib.Omega.{arith}
-use Rattle.grow_book.proofs.Driving.{front_next, none_next, idle_same, up_next}
+use Rattle.grow_book.proofs.Driving.{none_next, up_next}
 use Rattle.grow_book.proofs.next_run.Goals as goal
 
 pub returns-then-g-eq0 : goal.returns-then-g-eq0

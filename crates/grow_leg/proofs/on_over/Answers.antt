@@ -1,12 +1,7 @@
 -- `grow_leg::on_over` meets its contract.
-use mathlib.Core.Path.{sym, ap, subst}
-use mathlib.Core.List.{List}
-use Prim.Native.Nat.{ℕ}
 use native.Mathlib.Omega.{arith}
-use Rattle.book_format.specs.Format.{legs}
-use Rattle.book_format.specs.Chains.{Chained}
 use Rattle.grow_state.proofs.Keeping.{turned_refused}
-use Rattle.grow_leg.proofs.GoingOn.{front_leg, front_depth, on_refused, on_gives}
+use Rattle.grow_leg.proofs.GoingOn.{front_depth, on_refused, on_gives}
 use Rattle.grow_leg.proofs.on_over.Goals as goal
 
 pub overflow_add-on : goal.overflow_add-on

@@ -1,10 +1,7 @@
 -- `grow_leg::ways_behind` meets its contract: each way to end is `ways_are` of proofs/Choosing.antt.
-use mathlib.Core.Path.{refl, sym, ◌∙◌, subst}
+use mathlib.Core.Path.{refl, sym, ◌∙◌}
 use mathlib.Core.Bool.{true, false}
-use mathlib.Core.List.{List}
-use Prim.Native.Nat.{ℕ, ◌<◌}
 use borrow.Author.Tests.{eq-eqb, ne_eqb}
-use Rattle.book_format.specs.Format.{links}
 use Rattle.grow_leg.proofs.Choosing.{next_within, alt_within, next_in, alt_in, ways_are}
 use Rattle.grow_leg.proofs.ways_behind.Goals as goal
 
