@@ -1,4 +1,5 @@
-// Estimated times: a book to its sheet. Contracts: specs/Sheet.antt, specs/Network.antt; of the inner functions
+// Estimated times: a book to its sheet. The table's two slices and the work space's three are parameters each, and no
+// struct: C and Rust lend them one by one. Contracts: specs/Sheet.antt, specs/Network.antt; of the inner functions
 // specs/Stages.antt.
 #![tactic(auto)]
 

@@ -1,4 +1,5 @@
-// The table entry: times a lent node table. Contracts: specs/TableEntry.antt, those of its parts specs/Parts.antt.
+// The table entry: times a lent node table. The table's two slices and the work space's three are parameters each, and
+// no struct: C and Rust lend them one by one. Contracts: specs/TableEntry.antt, those of its parts specs/Parts.antt.
 #![tactic(auto)]
 
 ghost use Rattle.std.specs.Prelude.{◌≡◌, ◌||◌, ◌*◌, ◌≤◌, leb, ltb, length, IfOk};
