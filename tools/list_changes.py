@@ -1,11 +1,12 @@
 #!/usr/bin/env python3
 """Lists what changed in the contracts, type invariants, definitions and laws since a commit, old above new, by crate.
 
-usage: tools/list_changes.py COMMIT [--gone]
+usage: tools/list_changes.py COMMIT [--laws | --gone]
 
-Public functions with their signatures and clauses, ghost members, constants and definitions of specs/, and the public
-statements of proofs/ but for answers and invariants of single functions. --gone lists instead, by crate, the statements
-of proofs/ that are gone. By text alone, with the reader of the kit's list of contracts: a reader judges.
+Public functions with their signatures and clauses, ghost members, constants and definitions of specs/; with --laws the
+public statements of proofs/ instead, but for answers and invariants of single functions. --gone lists by crate what
+functions, definitions and public statements are gone. By text alone, with the reader of the kit's list of contracts: a
+reader judges.
 """
 import collections
 import os
@@ -115,26 +116,35 @@ def of_texts(crate, old, new, name_of):
     return lines
 
 
+def gone(what, old, new):
+    by_crate = collections.defaultdict(list)
+    for key in sorted(set(old) - set(new)):
+        by_crate[key[0]].append(' '.join(key[1:]))
+    print(f'{what}: {sum(map(len, by_crate.values()))}')
+    for crate, names in by_crate.items():
+        print(f'    {crate}: {", ".join(names)}')
+
+
 def main():
     commit = sys.argv[1]
     with tempfile.TemporaryDirectory() as into:
         before = old_tree(commit, into)
         old_laws, new_laws = laws(before), laws(ROOT)
-        if '--gone' in sys.argv:
-            by_crate = collections.defaultdict(list)
-            for crate, law in sorted(set(old_laws) - set(new_laws)):
-                by_crate[crate].append(law)
-            for crate, names in by_crate.items():
-                print(f'{crate}: {", ".join(names)}')
-            return
         _, old_out, old_ghosts, old_specs, _, _ = contracts.read(before)
         crates, new_out, new_ghosts, new_specs, _, _ = contracts.read(ROOT)
         old_functions, new_functions = functions(old_out), functions(new_out)
+        if '--gone' in sys.argv:
+            for what, was, now in (('functions', old_functions, new_functions), ('definitions', old_specs, new_specs),
+                                   ('ghost members and constants', old_ghosts, new_ghosts), ('laws', old_laws, new_laws)):
+                gone(what, was, now)
+            return
         for crate in crates:
-            own = of_functions(crate, old_functions, new_functions)
-            own += of_texts(crate, old_ghosts, new_ghosts, lambda key: ' '.join(key))
-            own += of_texts(crate, old_specs, new_specs, lambda key: f'definition {key[0]} {key[1]}')
-            own += of_texts(crate, old_laws, new_laws, lambda key: f'law {key[0]} {key[1]}')
+            if '--laws' in sys.argv:
+                own = of_texts(crate, old_laws, new_laws, lambda key: f'law {key[0]} {key[1]}')
+            else:
+                own = of_functions(crate, old_functions, new_functions)
+                own += of_texts(crate, old_ghosts, new_ghosts, lambda key: ' '.join(key))
+                own += of_texts(crate, old_specs, new_specs, lambda key: f'definition {key[0]} {key[1]}')
             if own:
                 print(f'### {crate}\n')
                 print('\n'.join(block(own)))
