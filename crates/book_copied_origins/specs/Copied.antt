@@ -2,7 +2,8 @@
 -- keeps to the end of the copy's kept part by swapping. "our smallest host has no room for a copy of them such as the
 -- source's options search makes" (document 02, Ask 2). No code goes by these definitions: proofs/Theorem.antt says that
 -- the search without a copy finds the same.
-use Rattle.std.specs.Prelude.{Bool, true, false, ◌||◌, cond, List, [], ◌∷◌, ◌++◌, ℕ, zero, suc, ◌+◌, ◌-◌, ◌*◌, eqb, get_or, set, take}
+use Rattle.std.specs.Prelude.{Bool, true, false, ◌||◌, cond, List, [], ◌∷◌, ◌++◌, ℕ, zero, suc, ◌+◌, ◌-◌, ◌*◌, eqb}
+use Rattle.std.specs.Prelude.{get_or, set, take}
 use Rattle.book_format.specs.Format.{links, origins, destinations, origin_link}
 use Rattle.book_options.specs.Options.{member, stacked, pushed}
 

@@ -34,8 +34,8 @@ abbrev pub all_linked : List ℕ → List ℕ → List ℕ
 all_linked b w = linked b (legs b) w
 
 -- what the cells then say of each leg
--- Stands in contracts of the searches for a leg and of growth, and in no struct of a book and its cells: growth writes in
--- the lent cells behind the legs' between two searches, and would make the struct anew each time.
+-- Stands in contracts of the searches for a leg and of growth, and in no struct of a book and its cells: growth writes
+-- in the lent cells behind the legs' between two searches, and would make the struct anew each time.
 pub record Chained (b cells : List ℕ) : Type 0 where
   pub room : (legs b + 1) * 8 ≤ length cells
   pub first : (p : ℕ) → p ≤ legs b → get_or cells (p * 8) 0 ≡ last_child b (legs b) p

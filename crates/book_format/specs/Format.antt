@@ -49,7 +49,8 @@ length_bits b = u64_at b 16
 -- ---- "five sections, each after its count": the counts, and where the first row of each section stands
 
 -- Stands in contracts as `i < links b`, and so do the other counts: an index is the caller's own, and a slice asks the
--- same of it. As `links b ≤ length marks` it stands where marks are lent: there is no heap, and the lender says how many.
+-- same of it. As `links b ≤ length marks` it stands where marks are lent: there is no heap, and the lender says how
+-- many.
 unfoldable pub links : List ℕ → ℕ
 links b = u32_at b 24
 

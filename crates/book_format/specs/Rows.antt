@@ -1,7 +1,8 @@
 -- Rows 1 to 7 of document 01's table of refusals: for each, when it holds of the whole bytes.
 -- Which of those that hold is told first, and where row 8 comes, stands in book_reader's specs/Reader.antt.
 -- Each definition looks at every row of a section by its index; none says how a program scans.
-use Rattle.std.specs.Prelude.{Bool, not, ◌&&◌, ◌||◌, cond, List, ℕ, zero, suc, ◌+◌, ◌-◌, ◌*◌, min, leb, ltb, eqb, length}
+use Rattle.std.specs.Prelude.{Bool, not, ◌&&◌, ◌||◌, cond, List, ℕ, zero, suc, ◌+◌, ◌-◌, ◌*◌, min, leb, ltb, eqb}
+use Rattle.std.specs.Prelude.{length}
 use Rattle.std.specs.Float.Ieee.{lt}
 use Rattle.fields.specs.Fields.{u64_at}
 use Rattle.laws.specs.Answer.{Answer, refused, given}

@@ -5,11 +5,13 @@
 -- after a real previous." So not every link from which a destination can be reached is in the set: nothing is pushed
 -- behind an origin (links 1 to 2 to 3, origins 1 and 2, destination 3: origin 1 is dropped), nor an alternative alone.
 -- Only the kept part's order is ever read, so the definition appends to it and swaps nothing.
-use Rattle.std.specs.Prelude.{◌≡◌, Bool, true, false, ◌||◌, cond, List, [], ◌∷◌, ◌++◌, ℕ, zero, suc, ◌+◌, ◌*◌, ◌%◌, ◌<◌, eqb, length, get_or, Result, Ok, Err}
+use Rattle.std.specs.Prelude.{◌≡◌, Bool, true, false, ◌||◌, cond, List, [], ◌∷◌, ◌++◌, ℕ, zero, suc, ◌+◌, ◌*◌, ◌%◌, ◌<◌}
+use Rattle.std.specs.Prelude.{eqb, length, get_or, Result, Ok, Err}
 use Rattle.laws.specs.Below.{some_below}
 use Rattle.refusals.specs.declared.Refusal.{Refusal}
 use Rattle.refusals.specs.declared.Refusal.TheVariants.{NoPath}
-use Rattle.book_format.specs.Format.{links, origins, destinations, link_prev, link_prev_alt, origin_link, destination_link}
+use Rattle.book_format.specs.Format.{links, origins, destinations, link_prev, link_prev_alt, origin_link}
+use Rattle.book_format.specs.Format.{destination_link}
 
 -- whether a link is in a list of links
 unfoldable pub member : ℕ → List ℕ → Bool

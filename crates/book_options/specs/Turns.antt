@@ -1,5 +1,6 @@
 -- How the marks hold a state of the search: what its parts promise each other.
-use Rattle.std.specs.Prelude.{◌≡◌, false, cond, List, [], ◌∷◌, ℕ, zero, suc, ◌+◌, ◌-◌, ◌*◌, ◌%◌, ◌≤◌, ◌<◌, eqb, length, get_or}
+use Rattle.std.specs.Prelude.{◌≡◌, false, cond, List, [], ◌∷◌, ℕ, zero, suc, ◌+◌, ◌-◌, ◌*◌, ◌%◌, ◌≤◌, ◌<◌, eqb, length}
+use Rattle.std.specs.Prelude.{get_or}
 use Rattle.laws.specs.Below.{some_below, sum_below}
 use Rattle.book_format.specs.Format.{links, origins, destinations, origin_link, destination_link}
 use Rattle.book_options.specs.Options.{member, origin_below, search, options_of}

@@ -13,7 +13,8 @@ ghost use Rattle.book_options.specs.Turns.{AllStacked, AllNumbered, Walking, Sea
 use book_format::{Book, ValidBook};
 use refusals::Refusal;
 
-// How many links stand on the stack, and how many origins are kept. Both stand in the lent marks, since there is no heap.
+// How many links stand on the stack, and how many origins are kept. Both stand in the lent marks, since there is no
+// heap.
 #[derive(Clone, Copy)]
 struct Walk {
     top: usize,

@@ -62,7 +62,8 @@ ReadInto b cells marks (Err r) = Unit
 
 -- A book read into cells and marks, for a table of so many places and so many bytes of work space. Of the marks the
 -- reader uses the part that the options search asks for, and no more: behind it they are as they were lent.
-pub record BookRead (b : List ℕ) (places bytes : ℕ) (cells lent marks : List ℕ) (r : Result Accepted Refusal) : Type 0 where
+pub record BookRead (b : List ℕ) (places bytes : ℕ) (cells lent marks : List ℕ)
+    (r : Result Accepted Refusal) : Type 0 where
   pub number : number_of (told r) ≡ read_number b places bytes
   pub into : ReadInto b cells marks r
   pub rest : drop (search_room b) marks ≡ drop (search_room b) lent

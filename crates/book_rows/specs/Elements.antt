@@ -3,8 +3,10 @@
 use Rattle.std.specs.Prelude.{Bool, false, not, ◌||◌, cond, List, [], ◌∷◌, ℕ, zero, suc, ◌-◌, min, ltb}
 use Rattle.laws.specs.Refusals.{Row, row, first_of}
 use Rattle.floats.specs.Floats.{book_float}
-use Rattle.book_format.specs.Format.{links, origins, destinations, samples, join_bits, departure_bits, length_bits, link_length, origin_link, destination_link}
-use Rattle.book_format.specs.Rows.{no_such_link, link_zero, bad_link, bad_origin_value, bad_origin_place, bad_leg_index, bad_leg, bad_sample}
+use Rattle.book_format.specs.Format.{links, origins, destinations, samples, join_bits, departure_bits, length_bits}
+use Rattle.book_format.specs.Format.{link_length, origin_link, destination_link}
+use Rattle.book_format.specs.Rows.{no_such_link, link_zero, bad_link, bad_origin_value, bad_origin_place, bad_leg_index}
+use Rattle.book_format.specs.Rows.{bad_leg, bad_sample}
 use Rattle.book_format.specs.Rows.{row4, row5, some_bad_place, some_bad_leg}
 
 -- the lower of two numbers
@@ -31,7 +33,8 @@ first_number four five six seven = first_of (rows4to7 four five six seven)
 -- the floats at the head, and link 0
 unfoldable pub head_number : List ℕ → ℕ
 head_number b =
-    first_number (not (book_float (join_bits b)) || not (book_float (departure_bits b)) || not (book_float (length_bits b)))
+    first_number
+    (not (book_float (join_bits b)) || not (book_float (departure_bits b)) || not (book_float (length_bits b)))
     (not (link_zero b)) false false
 
 unfoldable pub link_number : List ℕ → ℕ → ℕ

@@ -4,7 +4,8 @@
 -- Samples are lent as bytes, 24 to a sample as in a book; points in two slices, offsets and links, as many as both
 -- have. The list is lent in two slices, 3 floats and 2 numbers to an event. What bytes and slices have past the last
 -- whole sample, point or place is not looked at, and in the list it is zero afterwards.
-use Rattle.std.specs.Prelude.{◌≡◌, Bool, not, ◌||◌, List, [], ◌∷◌, ◌++◌, ℕ, zero, suc, ◌-◌, ◌*◌, ◌/◌, min, ltb, length, get_or, Float}
+use Rattle.std.specs.Prelude.{◌≡◌, Bool, not, ◌||◌, List, [], ◌∷◌, ◌++◌, ℕ, zero, suc, ◌-◌, ◌*◌, ◌/◌, min, ltb, length}
+use Rattle.std.specs.Prelude.{get_or, Float}
 use Rattle.std.specs.Float.Ieee.{lt}
 use Rattle.laws.specs.Answer.{Answer, refused, given}
 use Rattle.laws.specs.Below.{some_below}

@@ -8,7 +8,8 @@ ghost use Rattle.book_format.specs.Format.{sample_from, sample_width};
 ghost use Rattle.book_format.specs.Rows.{bad_sample_from};
 ghost use Rattle.event_walk.specs.Course.{course_of, Held, Rises, Walkable};
 ghost use Rattle.event_walk.specs.Search.{NoneBeyond, FirstReaching, unseen, point_with};
-ghost use Rattle.event_walk.specs.Walk.{first_beyond, start, reaches_last, points_passed, bad_point, Within, WithinHeld};
+ghost use Rattle.event_walk.specs.Walk.{first_beyond, start, reaches_last, points_passed, bad_point, Within};
+ghost use Rattle.event_walk.specs.Walk.{WithinHeld};
 ghost use Rattle.event_walk.specs.Walk.{NextOf, offset_next, clears_next};
 
 use book_format::Sample;

@@ -8,8 +8,9 @@ ghost use Rattle.refusals.specs.Refusals.{refusal_number, refusal_text, told};
 
 use std::fmt;
 
-// A row of the table of refusals, in the order of their numbers. docs/REFUSALS.md says of each what it means to a book's
-// writer and how to mend it. It is the error of each `Result`: `NoPath` and `NoPlace` are refusals, and no variant is none.
+// A row of the table of refusals, in the order of their numbers. docs/REFUSALS.md says of each what it means to a
+// book's writer and how to mend it. It is the error of each `Result`: `NoPath` and `NoPlace` are refusals, and no
+// variant is none.
 #[derive(Clone, Copy, Debug, PartialEq, Eq)]
 pub enum Refusal {
     // 1: the bytes end before the last field does

@@ -14,8 +14,8 @@ unfolding units_of
 bytes_of reals cells marks = 64 * units_of reals cells marks
 
 -- a slice that is zero: every number 0, every float +0
--- Stands in contracts of what first writes in a lent slice, as `s.old ≡ zeros (length s.old)`: a struct of the slice and
--- this fact would hold until the first write alone.
+-- Stands in contracts of what first writes in a lent slice, as `s.old ≡ zeros (length s.old)`: a struct of the slice
+-- and this fact would hold until the first write alone.
 unfoldable pub zeros : ℕ → List ℕ
 zeros n = replicate n 0
 

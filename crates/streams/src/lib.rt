@@ -1,5 +1,5 @@
-// Reading a stream into a lent slice, until the slice is full, or whole; and what a program says where its output is not
-// taken.
+// Reading a stream into a lent slice, until the slice is full, or whole; and what a program says where its output is
+// not taken.
 #![tactic(auto)]
 
 ghost use Rattle.std.specs.Prelude.{◌≡◌, ℕ, ◌<◌, ◌≤◌, IfOk, IfSome, IfNone, OnErr, length, take};
@@ -29,8 +29,8 @@ pub fn read_full<R: Read>(from: &mut R, buf: &mut [u8]) -> Result<usize>
     Ok(done)
 }
 
-// Reads the whole input and answers how many bytes it has, which stand at the slice's start, or `None` where the slice is
-// too short for it. One byte behind those that fill the slice is read and lost.
+// Reads the whole input and answers how many bytes it has, which stand at the slice's start, or `None` where the slice
+// is too short for it. One byte behind those that fill the slice is read and lost.
 pub fn read_whole<R: Read>(from: &mut R, buf: &mut [u8]) -> Result<Option<usize>>
     ensures bound { IfOk result (λ r. IfSome r (λ n. n ≤ length buf.new)) }
     ensures whole { IfOk result (λ r. IfSome r (λ n. IsInput (R.remaining from.old) (take n buf.new))) }
