@@ -13,7 +13,7 @@ pub fn u32_at(s: &[u8], at: usize) -> u32
     u32::from_le_bytes([s[at], s[at + 1], s[at + 2], s[at + 3]])
 }
 
-// The bit pattern of the float at an offset.
+// The bit pattern of the float at an offset: two words. `u64::from_le_bytes` over eight indices is no plainer.
 #[tactic(auto, unfolding(crate::specs::Fields::u64_at))]
 pub fn u64_at(s: &[u8], at: usize) -> u64
     requires { at + 8 ≤ length s.now }
