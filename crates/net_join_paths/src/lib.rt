@@ -27,11 +27,7 @@ pub fn push_entry(list: &mut JoinPaths, x: EstJoinPath) -> Result<(), Refusal>
     ensures list { ListBecomes (λ es. push es x) list result }
     ensures kept { OnErr result (list.new ≡ list.old) }
 {
-    if list.is_full() {
-        return Err(Refusal::NoPlace);
-    }
-    list.push(x);
-    Ok(())
+    list.try_push(x).map_err(|_| Refusal::NoPlace)
 }
 
 // An entry for each node of a span of a list, put behind it.

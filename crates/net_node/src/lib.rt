@@ -29,15 +29,12 @@ impl From<EstType> for u32 {
     ghost from_gives = { λ k n. n ≡ kind_number k };
 
     fn from(k: EstType) -> u32 {
-        match k {
-            EstType::Arrive => 0,
-            EstType::Clear => 1,
-            EstType::Fake => 2,
-        }
+        k as u32
     }
 }
 
-// The kind of a number; a table with another number than 0, 1 and 2 is refused before its kinds are read.
+// The kind of a number. No `TryFrom`: each load of a node would be a `Result`, and the test of a table reads the number
+// itself (`kind_at`). Another number than 0, 1 and 2 reads as a Fake.
 impl From<u32> for EstType {
     ghost from_gives = { λ n k. k ≡ kind_of n };
 

@@ -14,14 +14,11 @@ const INFINITY: u64 = 0x7ff0_0000_0000_0000;
 const NAN: u64 = 0x7ff8_0000_0000_0000;
 
 // The pattern that eight bytes hold.
+#[tactic(auto, unfolding(crate::specs::Roots::little_endian))]
 fn pattern(bytes: [u8; 8]) -> u64
     ensures { result ≡ little_endian bytes }
 {
-    let mut n: u64 = 0;
-    for i in (0..8).rev() {
-        n = n * 256 + bytes[i] as u64;
-    }
-    n
+    u64::from_le_bytes(bytes)
 }
 
 // The pattern of the root. A NaN's bits never become an f64, and none are read from one.
