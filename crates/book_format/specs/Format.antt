@@ -2,7 +2,7 @@
 -- A book is a list of bytes. Three floats stand first: J in m/s, the departure in s, the train's length in m.
 -- Then come five sections, each after its count: links from 0, origins, destinations, legs from 1, samples in leg
 -- order.
--- A float is kept as its bit pattern where rows 4 to 7 look at it, and read by `lib.Ieee` in the records.
+-- A float is kept as its bit pattern where rows 4 to 7 look at it, and read by std's `Float.Ieee` in the records.
 -- Every definition is total: bytes past the end are read as 0, and counts are taken as they stand. It is no parser:
 -- nothing here says in which order bytes are looked at.
 use Rattle.std.specs.Prelude.{◌≡◌, List, ℕ, ◌+◌, ◌-◌, ◌*◌, length, Float}
@@ -49,8 +49,8 @@ length_bits b = u64_at b 16
 -- ---- "five sections, each after its count": the counts, and where the first row of each section stands
 
 -- Stands in contracts as `i < links b`, and so do the other counts: an index is the caller's own, and a slice asks the
--- same of it. As `links b ≤ length marks` it stands where marks are lent: there is no heap, and the lender says how
--- many.
+-- same of it. As `links b ≤ length marks` it stands where marks are lent: the same marks serve one search after the
+-- other, cut to another length each time. As `0 < links b` it stands between row 3, which tests it, and row 5.
 unfoldable pub links : List ℕ → ℕ
 links b = u32_at b 24
 

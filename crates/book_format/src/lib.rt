@@ -96,6 +96,8 @@ pub struct Link {
     pub idx_prev_alt: u32,
 }
 
+// The fields of an origin's and a leg's row are those of the bytes, before row 4 or 7 has looked at them: `is_front_end`
+// may be any number, and a parent 0 is none.
 #[derive(Clone, Copy)]
 pub struct Origin {
     pub link_idx: u32,
@@ -303,7 +305,8 @@ impl<'a> Book<'a> {
         self.sections.samples_at
     }
 
-    // Where the row of a link stands.
+    // Where the row of a link stands. One function for each section that is read twice: each has its own law of where
+    // the section begins.
     fn link_place(&self, i: usize) -> usize
         requires i_lt_links { i < links self.now }
         ensures is { result ≡ links_at_of + i * link_width }
@@ -332,7 +335,7 @@ impl<'a> Book<'a> {
         row_place(self.bytes, self.sections.samples_at, SAMPLE_WIDTH, i)
     }
 
-    // The pattern of a link's length: a field that is read, and no conversion.
+    // The pattern of a link's length.
     #[tactic(auto, unfolding(crate::specs::Format::link_length))]
     pub fn link_length(&self, i: usize) -> u64
         requires i_lt_links { i < links self.now }
@@ -510,6 +513,7 @@ impl<'a> ReadableBook<'a> {
         requires legs_passed { some_bad_leg book ≡ false }
         ensures { result ≡ book.entry }
     {
+        // The invariant of the book inside is used.
         let _ = &book.book;
         ReadableBook { book }
     }

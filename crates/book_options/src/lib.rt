@@ -39,7 +39,8 @@ fn push_destinations(book: &Book, marks: &mut [u32]) -> Result<(), Refusal>
     Ok(())
 }
 
-// Marks the origins' links: 2 * (row + 1).
+// Marks the origins' links: 2 * (row + 1). Row and set stand in one number, since document 02 gives the search two
+// numbers for each link.
 fn mark_origins(book: &ValidBook, marks: &mut [u32])
     requires counts_passed { bad_count book.now ≡ false }
     requires room { links book.now ≤ length marks.old }

@@ -49,7 +49,7 @@ fn test_whole<'a>(book: Book<'a>, places: usize, bytes: usize) -> Result<Tested<
     Ok(Tested { book, legs })
 }
 
-// Rows 1 and 2, then those.
+// Rows 1 and 2, then those that `test_whole` tests.
 fn test_rows<'a>(book: &'a [u8], places: usize, bytes: usize) -> Result<Tested<'a>, Refusal>
     ensures { TestedAs book.now places bytes result }
 {

@@ -87,14 +87,15 @@ fn lower_of(a: Result<(), Refusal>, b: Result<(), Refusal>) -> Result<(), Refusa
     }
 }
 
-// Whether no link has this number.
+// Whether no link has this number. `pass_table` asks the like of a node: one comparison, two rows' words.
 fn no_link(book: &Book, idx: u32) -> bool
     ensures { result ≡ no_such_link book.now idx }
 {
     book.links() <= idx as usize
 }
 
-// Whether a link whose length is a book's float has an index or a length that row 5 refuses.
+// Whether a link whose length is a book's float has an index or a length that row 5 refuses. The pattern of the length
+// is handed in, since row 4 has read it.
 #[tactic(auto, unfolding(book_format::specs::Rows::bad_link, book_format::specs::Format::link_at))]
 fn bad_link(book: &Book, i: usize, length: u64) -> bool
     requires i_lt_links { i < links book.now }

@@ -63,7 +63,7 @@ pub fn pass_at(s: Sample, before: Sample, offset: f64) -> Passing
     Passing { time, speed }
 }
 
-// Row 11: whether an event's speed or time is no number, or its time too large.
+// Row 11: whether an event's speed is not finite, or its time no number or too large.
 #[tactic(auto, using(crate::proofs::Laws::finite_is), unfolding(crate::specs::Event::bad_passing))]
 pub fn is_bad(p: Passing) -> bool
     ensures { result ≡ bad_passing p }

@@ -113,7 +113,8 @@ fn first_refusal(samples: &[u8], offsets: &[f64], m: Movement) -> Result<(), Ref
 
 // ---- the events
 
-// Writes an event at place k of the list, if it has that place.
+// Writes an event at place k of the list, if it has that place. The two slices may have different numbers of places:
+// the smaller one counts.
 #[tactic(auto, unfolding(crate::specs::Parts::put_event_floats, crate::specs::Parts::put_event_numbers))]
 fn list_event(
     floats: &mut [f64],

@@ -17,7 +17,8 @@ use event_formula::{NextPoints, Passing};
 use net_node::EstType;
 use std::marker::Model;
 
-// A train's samples, which stand in bytes from `at` on, its path's points, and its length.
+// A train's samples, which stand in bytes from `at` on, its path's points, and its length. The counts are no slices'
+// lengths: a book's samples and a path's points stand at the front of what is lent for the longest.
 #[derive(Clone, Copy)]
 pub struct Movement {
     pub at: usize,
@@ -56,7 +57,7 @@ pub struct PassedPoint {
 }
 
 impl PassedPoint {
-    // Row 11: whether an event's speed or time is no number, or its time too large.
+    // Row 11: whether an event's speed is not finite, or its time no number or too large.
     #[tactic(auto, unfolding(crate::specs::Walk::bad_point))]
     pub fn is_bad(self) -> bool
         ensures { result ≡ bad_point self }
@@ -111,7 +112,8 @@ impl<'a> Iterator for PassedPoints<'a> {
     }
 }
 
-// Whether a sample reaches the last point (row 11). Offsets never fall, so the last sample tells for all.
+// Whether a sample reaches the last point (row 11). Offsets never fall, so the last sample tells for all. It takes what
+// a `Course` is made of: a course asks that it says no.
 #[tactic(auto, using(crate::proofs::Steps::reaches_by, crate::proofs::Steps::sample_held))]
 pub fn reaches_last(book: &[u8], offsets: &[f64], m: Movement) -> bool
     requires held { Held book.now offsets.now m }
@@ -124,8 +126,8 @@ pub fn reaches_last(book: &[u8], offsets: &[f64], m: Movement) -> bool
     offsets[m.points - 1] <= farthest
 }
 
-// A point with none beyond x before it, sought from the last point back by steps that double: the cost doesn't grow
-// with the points behind it.
+// A point with none beyond x before it, sought from the last point back by steps that double. A leg's first point lies
+// near the end of its path, so this costs the same on a long path, where `partition_point` over all of it would not.
 fn gallop(offsets: &[f64], points: usize, x: f64) -> usize
     requires points_in_bounds { points ≤ length offsets.now }
     requires rises { Rises (λ k. get_or offsets.now k nan) points }

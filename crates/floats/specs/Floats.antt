@@ -1,4 +1,4 @@
--- The float tests and choices of document 01, in the terms of `lib.Ieee`, for every value: `nan`, both infinities and
+-- The float tests and choices of document 01, in the terms of std's `Float.Ieee`, for every value: `nan`, both infinities and
 -- both zeros too. A value that stands in a book is still a bit pattern there; one that stands in a lent table is an f64
 -- already.
 use Rattle.std.specs.Prelude.{◌≡◌, Bool, true, false, ◌&&◌, cond, ℕ, T, ltb, pos, Float}

@@ -52,7 +52,7 @@ pub fn is_book_value(x: f64) -> bool
     !x.is_nan() && is_book_float(f64::to_bits(x))
 }
 
-// The pattern of NaN: the logic has one.
+// The pattern of NaN: the logic has one NaN.
 const NAN: u64 = 0x7ff8_0000_0000_0000;
 
 // The bit pattern of a float.

@@ -137,6 +137,7 @@ fn origin_events(
     let (counts, mover) = grow_events::insert_event(
         floats, numbers, cells, w, p.join, c, run, arrive,
     )?;
+    // The end's point is the origin's offset and the length, as the source adds them.
     let clear = origin_event(p.departure, link_idx, EstType::Clear, 0.0 + p.length);
     grow_events::insert_event(floats, numbers, cells, w, p.join, counts, mover, clear)
 }

@@ -9,7 +9,8 @@ ghost use Rattle.net_event_map.specs.EventMap.{first_at, next_at, MapsNode, Maps
 use net_node::{EstType, LinkEvent};
 
 // Where the cells of links and of nodes stand, and how many links and places there are. It goes beside `cells`, and
-// not with them in one struct: a struct that holds a `&mut` owes each caller a clause on its ghost name, no plainer.
+// not with them in one struct: insertion, notes and growth write other columns of the same cells between two calls, and
+// would take the struct apart for it. A struct for reading alone would stand beside this one, for seven functions of 23.
 #[derive(Clone, Copy)]
 pub struct Layout {
     pub links_at: usize,
@@ -34,7 +35,8 @@ pub fn contains(cells: &[u32], w: Layout, event: LinkEvent) -> bool
     }
 }
 
-// The first node with the Arrive of a link, or 0: `Mapped`'s `first`.
+// The first node with the Arrive of a link, or 0: `Mapped`'s `first`. No Option, here and below: the loop along the
+// chain tests what the cell holds, and `open_cell` compares it.
 pub fn first_node(cells: &[u32], w: Layout, link_idx: u32) -> u32
     requires cells_apart { CellsApart cells.now w }
     requires link_idx_lt_links { link_idx < w.links }

@@ -127,7 +127,8 @@ InsertedInto t n join p e floats numbers (Err r) = (floats ≡ t.floats) × (num
 InsertedInto t n join p e floats numbers (Ok i) =
     (floats ≡ (inserted_table t n join p e).floats) × (numbers ≡ (inserted_table t n join p e).numbers)
 
--- Stands in contracts beside `ends_at + n * 8 ≤ length cells + 7`: n grows from call to call.
+-- Stands in contracts beside `ends_at + n * 8 ≤ length cells + 7`, as the lent form of document 01 has it: it knows
+-- neither a `Layout` nor how many places there are.
 -- Which nodes end a finished run, as the work space has it: a cell for each node, 8 apart
 unfoldable pub flagged : List ℕ → ℕ → ℕ → Bool
 flagged cells base i = ltb 0 (get_or cells (base + i * 8) 0)

@@ -29,7 +29,7 @@ enum Seek {
 }
 
 // What insertion does: an event is added, maybe by a split, or the run moves to a node; with the place that the run has
-// then.
+// then. `split` is no variant of its own: growth treats both kinds of adding alike but for a count.
 #[derive(Clone, Copy)]
 pub enum Insertion {
     Added { place: Place, split: bool },

@@ -11,7 +11,8 @@ use arrayvec::ArrayVec;
 use net_notes::Span;
 use refusals::Refusal;
 
-// A join entry: the link to be matched (0: matched already) and a node of the network.
+// A join entry: the link to be matched (0: matched already) and a node of the network. The 0 is the source's, and the
+// waiting runs' entries stand so in the cells: an Option would be made of it and back.
 #[derive(Clone, Copy, Debug, Default, PartialEq, Eq)]
 pub struct EstJoinPath {
     pub link_idx_match: u32,

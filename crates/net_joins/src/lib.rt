@@ -21,14 +21,16 @@ use net_node::{EstTime, EstType, LinkEvent, Nodes, TimedEvent};
 use net_stack::Stack;
 use refusals::Refusal;
 
-// The smallest gap of speeds so far, and its node.
+// The smallest gap of speeds so far, and its node. No Option of a node: the source begins with J and no node, and
+// document 01 says "strictly below J" of the gap.
 #[derive(Clone, Copy)]
 pub struct SpeedJoin {
     pub speed_diff_join: f64,
     pub est_idx_join: u32,
 }
 
-// What becomes of a run at an event: it has joined a node, or it waits for its next event with the list it has then.
+// What becomes of a run at an event: it has joined a node, or it waits for its next event with the list it has then. No
+// Option of the node: which of the two "none" would be, no caller could tell.
 #[derive(Clone, Copy)]
 pub enum Step {
     Joined(u32),
@@ -50,7 +52,7 @@ pub fn closer_of(best: SpeedJoin, x: EstJoinPath, node: EstTime, speed: f64) -> 
 }
 
 // "Of entries with m = 0 the first with the smallest gap, strictly below J": its gap and its node, or J and 0 if there
-// is none. An inner function, no entry for users: its caller must have seen to it that both slices have room for
+// is none. Document 01 names this form, with slices that are lent. An inner function, no entry for users: its caller must have seen to it that both slices have room for
 // `nodes` nodes, at most 65,535, and that each entry names one of these.
 #[tactic(auto, using(crate::proofs::Choosing::choosing_laws))]
 pub fn closest_of(

@@ -15,8 +15,8 @@ use Rattle.net_node.specs.declared.EstTime.{EstTime}
 -- ---- the widths of a node: "4 f64 and 6 u32 each"
 
 -- Stands in contracts as `i * float_width + float_width ≤ length floats`, and alike of numbers: one node of slices that
--- are lent for this call and longer than the network is written, so no value that outlives the call can keep it. What
--- is only read keeps it as `Nodes`.
+-- are lent for this call and longer than the network is written, so no value that outlives the call can keep it. Where
+-- only a network is read whose indices name nodes, `Nodes` keeps it; a lent table's indices may name anything.
 abbrev pub float_width : ℕ
 float_width = 4
 
@@ -186,7 +186,8 @@ set_prev t i prev = record { floats = t.floats; numbers = set t.numbers (i * num
 
 -- The slices have room for so many nodes.
 -- Stands in contracts, as `Indexed` does, of what writes a table: a struct with the two `&mut` slices would be taken
--- apart wherever the table is read as `Nodes` in between. Where it is only read, `Nodes` keeps both.
+-- apart wherever the table is read as `Nodes` in between. `Nodes` keeps both where a network is only read; alone it
+-- stands where a table is read whose indices may name anything, or where document 01 lends the slices (`closest_of`).
 pub record Room (fs : List Float) (us : List ℕ) (places : ℕ) : Type 0 where
   pub floats : places * float_width ≤ length fs
   pub numbers : places * number_width ≤ length us

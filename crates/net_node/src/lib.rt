@@ -54,7 +54,8 @@ pub struct LinkEvent {
     pub est_type: EstType,
 }
 
-// An estimated time node.
+// An estimated time node. An index 0 is none, in the source and in the tables that C and Rust lend: an Option would be
+// made of it at each load.
 #[derive(Clone, Copy, Debug)]
 pub struct EstTime {
     pub time_sched: f64,
@@ -176,7 +177,7 @@ pub fn store(floats: &mut [f64], numbers: &mut [u32], i: usize, node: EstTime)
     numbers[u + 5] = node.link_event.est_type.into();
 }
 
-// Sets a node's time.
+// Sets a node's time. Both slices are lent, here and below, though one is written: so a contract speaks of the table.
 #[tactic(auto, unfolding(crate::specs::Table::set_time))]
 pub fn set_time(floats: &mut [f64], numbers: &mut [u32], i: usize, time: f64)
     requires float_width_in_bounds { i * float_width + float_width ≤ length floats.old }

@@ -64,7 +64,8 @@ pub fn noted_span(cells: &[u32], w: Layout, i: u32, column: Column) -> Option<Sp
     })
 }
 
-// Notes three numbers of a node and logs it, unless the log is full. It has at most 65,535 names, since a name is
+// Notes three numbers of a node and logs it, unless the log is full. They are numbers, not spans: a caller that notes
+// one of the three hands the others on as it has read them. The log has at most 65,535 names, since a name is
 // counted in a u32.
 pub fn note(cells: &mut [u32], w: Layout, i: u32, matched: u32, strands: u32, nexts: u32)
     requires cells_apart { CellsApart cells.old w }

@@ -82,8 +82,8 @@ others backward e (x ∷ xs) = worse backward e x ∷ others backward (better ba
 unfoldable pub slot : List Float → List ℕ → ℕ → Entry
 slot ts ns i = record { time = get_or ts (i * 2) nan; sub = get_or ts (i * 2 + 1) nan; node = get_or ns i 0 }
 
--- Both slices have room for n entries. Stands in contracts of the heap's functions: the slices are lent, so no type
--- holds them.
+-- Both slices have room for n entries. Stands in contracts of the heap's functions: the head of src/lib.rt says why the
+-- slices stand in no struct.
 pub record HeapRoom (ts : List Float) (ns : List ℕ) (n : ℕ) : Type 0 where
   pub times : n * 2 ≤ length ts
   pub nodes : n ≤ length ns

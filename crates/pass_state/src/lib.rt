@@ -30,7 +30,7 @@ pub struct Stand {
 
 // ---- nodes that are done, and the queue
 
-// Whether a node is done.
+// Whether a node is done: its flag is a number of the work space, which is lent as u32.
 #[tactic(auto, unfolding(pass_rules::specs::Walks::done_in))]
 pub fn is_done(flags: &[u32], i: u32) -> bool
     requires { i < length flags.now }

@@ -59,7 +59,8 @@ fn is_stray_node(n: usize, node: EstTime) -> bool
         | names_nothing(n, node.idx_prev_alt)
 }
 
-// Rows 4 and 5, as far as the nodes tell: whether one is bad, then whether one is stray.
+// Rows 4 and 5, as far as the nodes tell: whether one is bad, then whether one is stray. `event_maker`'s sweep looks at
+// a row and the one before it, and answers the second test: no one code says both plainer.
 fn check_nodes(floats: &[f64], numbers: &[u32], n: usize) -> Result<(), Refusal>
     requires floats_room { n * float_width ≤ length floats.now }
     requires numbers_room { n * number_width ≤ length numbers.now }

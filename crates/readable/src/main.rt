@@ -18,6 +18,7 @@ use std::io::{Read, Write};
 fn read(book: &[u8]) -> Result<(), Refusal>
     ensures { number_of (told result) ≡ read_number book.now 192 65536 }
 {
+    // As many units as `sheet` has, by the same numbers: 65,536 bytes.
     let mut reals = [0.0f64; 3072];
     let mut cells = [0u32; 8192];
     let mut marks = [0u32; 2048];

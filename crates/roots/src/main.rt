@@ -61,7 +61,8 @@ fn answer(bytes: [u8; 8]) -> [u8; 16]
     text
 }
 
-// Reads one pattern and prints its line. Answers whether there may be another: false where the input has ended.
+// Reads one pattern and prints its line. Answers whether there may be another: false where the input has ended. A
+// `bool`, since neither answer has anything beside it.
 fn print_one<R: Read, W: Write>(from: &mut R, to: &mut W) -> Result<bool>
     ensures line { OnOk result (IfSome (R.remaining from.old) (λ input.
         Appends (W.contents to.old) (W.contents to.new) (line input))) }

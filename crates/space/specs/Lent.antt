@@ -13,7 +13,8 @@ Lent A = Both (MutBor A) (MutBor A)
 abbrev pub Seen : Type 0 → Type 0
 Seen A = Both (Bor A) (Bor A)
 
--- the work space: 3 f64 (reals), 8 u32 (cells) and 2 u32 (marks) to a unit
+-- The work space: 3 f64 (reals), 8 u32 (cells) and 2 u32 (marks) to a unit. In code an entry takes the three slices one
+-- by one, as C and Rust lend them.
 pub record Work : Type 0 where
   pub reals : List Float
   pub cells : List ℕ

@@ -10,7 +10,8 @@ ghost use Rattle.streams.specs.Streams.{IsInput, IsLonger};
 use std::io::{Read, Result};
 
 // Reads until the slice is full or the input ends, and answers how many bytes it put at the slice's start. Where a read
-// fails, the slice begins with what was read before it.
+// fails, the slice begins with what was read before it. std's `read_exact` tells of a short input that it is short, and
+// not how many bytes there were.
 pub fn read_full<R: Read>(from: &mut R, buf: &mut [u8]) -> Result<usize>
     ensures bound { ReadsAtMost result buf.new }
     ensures bytes { IfOk result (λ n. Consumes (R.remaining from.old) (R.remaining from.new) (take n buf.new)) }

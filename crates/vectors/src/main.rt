@@ -8,7 +8,8 @@ ghost use Rattle.vectors.specs.Vectors.{BookAnswered, NextAnswered, NoneAnswered
 
 use std::io::{Read, Result, Write};
 
-// Answers the book of so many bytes that comes next, which is read into a slice; false if it is longer than that.
+// Answers the book of so many bytes that comes next, which is read into a slice; false if it is longer than that: a
+// `bool`, since neither answer has anything beside it.
 fn answer_book<R: Read, W: Write>(
     space: &mut [u8],
     size: usize,
