@@ -3,7 +3,7 @@ use Rattle.std.proofs.Common.{sym, ap, ◌∙◌, arith}
 use Rattle.book_format.specs.Format.{legs}
 use Rattle.book_format.proofs.Given.{leg_parent_lem, leg_samples_lem}
 use Rattle.book_legs.proofs.Counts.{leg_in_lem}
-use Rattle.book_legs.proofs.Linking.{linking_start, room_of, linking_end, linking_found, linking_on, linking_done}
+use Rattle.book_legs.proofs.Linking.{linking_start, room_of, linking_end, linking_found, linking_on}
 use Rattle.book_legs.proofs.link_legs.Goals as goal
 
 pub loop-i-init : goal.loop-i-init
@@ -45,11 +45,3 @@ pub loop-i-preserved : goal.loop-i-preserved
 loop-i-preserved c =
     linking_on c.loop-i.invariant (omega arith) (rw c.book-rows.ensures.is (sym c.leg_fails.ensures ∙ c.if-leg_fails.false))
     c.leg_at-leg.result c.leg_at-leg.ensures _ c.link_leg.ensures
-
-pub returns : goal.returns
-returns c =
-    let d = rw c.book-rows.ensures.is at (linking_done c.loop-i.invariant c.requires.cells_zero (omega arith)) in
-    record {
-      answer = d.0;
-      chains = λ e. d.1;
-    }

@@ -1,5 +1,5 @@
 -- `book_reader::test_repeats` meets its contract.
-use Rattle.std.proofs.Common.{sym, ◌∙◌, arith}
+use Rattle.std.proofs.Common.{sym, ◌∙◌}
 use Rattle.space.proofs.Zeros.{zeros_again}
 use Rattle.refusals.proofs.Answers.{handed_on}
 use Rattle.book_reader.proofs.Numbers.{row6_repeats, legs_refused, legs_passed, row7_single, row7_early, row7_only, readable_of, cells_chained, from_6_first, from_6_second}
@@ -21,17 +21,13 @@ returns-then-link_legs c =
     from_6_second _ (row6_repeats _ _ p.rows_passed.places c.origins_repeat.ensures ∙ c.if-origins_repeat.false)
     (sym (row7_early _ _ (rw c.new-book.ensures at c.link_legs.ensures.answer) c.if-link_legs.true))
 
-pub legs_repeat-requires : goal.legs_repeat-requires
-legs_repeat-requires c =
+pub legs_repeat-requires-clause-chained : goal.legs_repeat-requires-clause-chained
+legs_repeat-requires-clause-chained c =
     let p = c.requires in
     let e = c.new-book.ensures in
     let r = readable_of p.rows_passed (legs_passed _ _ _ p.legs_told c.in_ok-tested.was) in
     let d = cells_chained _ _ r p.blank.cells_room p.blank.cells_zero (rw e at (c.link_legs.ensures.chains c.if-link_legs.false)) in
-    record {
-      chained = rw e d.chained;
-      marks_room = rw e (omega (arith, p.blank.marks_room, c.origins_repeat.auto, c.clear.auto));
-      marks_zero = zeros_again _ _ c.clear.ensures;
-    }
+    rw e d.chained
 
 pub returns-then-legs_repeat : goal.returns-then-legs_repeat
 returns-then-legs_repeat c =
