@@ -27,6 +27,7 @@ use report::Report;
 
 // The run that takes its leg next, and the rest: the run at the front, or else the one that was saved last, which is
 // taken up. None, if no run is left.
+#[tactic(auto, using(crate::proofs::Driving::none_next))]
 fn next_run(
     reals: &[f64],
     cells: &[u32],

@@ -5,11 +5,10 @@ use Rattle.std.specs.Prelude.{Ok, Err}
 use Rattle.refusals.specs.declared.Refusal.TheVariants.{BadEnd}
 use mathlib.Core.List.{List}
 use Prim.Native.Nat.{ℕ, ◌+◌, ◌-◌, ◌*◌, ◌≤◌, ◌<◌}
-use native.Mathlib.Numerals.{add-one}
 use native.Mathlib.Omega.{arith}
 use borrow.Author.Tests.{eq-eqb, ne_eqb}
 use lib.Dec.{eqb}
-use lib.ListN.{get_or, set}
+use lib.ListN.{get_or}
 use lib.Ieee.{Float}
 use Rattle.net_node.specs.declared.EstTime.{EstTime}
 use Rattle.net_node.specs.Table.{node_at, Table, at}
@@ -18,7 +17,7 @@ use Rattle.net_insertion.specs.Insertion.{flagged, table_of}
 use Rattle.net_insertion.proofs.Answers.{flagged_set, flagged_clear}
 use Rattle.grow_rules.specs.Run.{Net, Run, member_of}
 use Rattle.grow_rules.specs.Growth.{bad_finish}
-use Rattle.grow_ends.specs.Ends.{FinishAs, MarkedAs, finish_answer}
+use Rattle.grow_ends.specs.Ends.{FinishAs, finish_answer}
 
 -- by whether it is the last node, whether that has no next, and whether it is an end
 abbrev bad_as : Bool → Bool → Bool → Bool
@@ -73,11 +72,8 @@ module _ (fs : List Float) (us cells : List ℕ) (base n : ℕ) (place : Place) 
       pub finish_ended : 0 < get_or cells (base + (n - 1) * 8) 0 → FinishAs fs us cells base n place (Err BadEnd)
       finish_ended h = by_flag true (flagged_set cells base (n - 1) h)
 
-      pub finish_good : (last : ℕ) → get_or cells (base + (n - 1) * 8) 0 ≤ 0
-          → FinishAs fs us cells base n place (Ok tt) × MarkedAs cells
-          (set cells (base + (n - 1) * 8) (last + 1)) base last place.idx_prev (Ok tt)
-      finish_good last h = (
-        by_flag false (flagged_clear cells base (n - 1) h),
-        λ j.
-            set cells (base + sym p j * 8) (add-one last j),
-      )
+      pub finish_good : get_or cells (base + (n - 1) * 8) 0 ≤ 0 → FinishAs fs us cells base n place (Ok tt)
+      finish_good h = by_flag false (flagged_clear cells base (n - 1) h)
+
+-- each way of a finish
+pub ruleset finish_laws = (finish_elsewhere, finish_with_next, finish_ended, finish_good)

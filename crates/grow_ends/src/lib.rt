@@ -40,6 +40,7 @@ pub fn first_nodes(floats: &mut [f64], numbers: &mut [u32], departure: f64)
 }
 
 // A run finishes at its place, the last of n nodes, unless row 13 holds. The latest end before is `last_end`, or 0.
+#[tactic(auto, using(crate::proofs::Finishing::finish_laws))]
 pub fn finish(
     floats: &[f64],
     numbers: &[u32],
@@ -125,6 +126,7 @@ pub fn end_fakes(
 }
 
 // The last node, the end. How many nodes there are then; row 12: it doesn't fit.
+#[tactic(auto, using(crate::proofs::Fakes::last_full, crate::proofs::Fakes::last_stored))]
 pub fn last_node(
     floats: &mut [f64],
     numbers: &mut [u32],

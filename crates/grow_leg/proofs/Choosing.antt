@@ -50,6 +50,9 @@ module _ (b : List ℕ) (link : ℕ) where
   unfolding is_destination
   none_there n e h = sym (subst NoneOf e h)
 
+-- of the destinations up to one, each way to go on or to end
+pub ruleset destination_laws = (none_yet, none_next, one_there, none_there)
+
 -- ---- the ways behind a link
 
 -- link l as it was read

@@ -31,6 +31,7 @@ pub enum Ways {
 }
 
 // Whether a link is a destination.
+#[tactic(auto, using(crate::proofs::Choosing::destination_laws))]
 fn is_destination(book: &Book, link_idx: u32) -> bool
     ensures { result ≡ is_destination book.now link_idx }
 {

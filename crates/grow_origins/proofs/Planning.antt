@@ -101,3 +101,6 @@ module _ {b b' : List ℕ} (is : b' ≡ b) (v : Readable b') where
           pairs_at = omega (arith, n);
           pairs = omega (arith, n, h);
         }
+
+-- the three patterns are numbers'
+pub ruleset number_laws = (join_number, departure_number, length_number)

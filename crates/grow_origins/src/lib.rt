@@ -32,6 +32,7 @@ pub use starting_book::StartingBook;
 
 // What growth goes by. The legs' units of cells stand first, then the nodes', then the links'; the path's points stand
 // first in the reals, then the pairs of the runs that wait.
+#[tactic(auto, using(crate::proofs::Planning::number_laws))]
 pub fn plan_of(book: &ReadableBook, places: usize) -> Plan
     requires row7 { row7 book.now ≡ false }
     requires places_bound { places ≤ 65535 }

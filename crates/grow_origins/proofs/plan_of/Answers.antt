@@ -1,6 +1,6 @@
 -- `grow_origins::plan_of` meets its contract.
 use native.Mathlib.Omega.{arith}
-use Rattle.grow_origins.proofs.Planning.{legs_small, join_number, departure_number, length_number, plan_holds}
+use Rattle.grow_origins.proofs.Planning.{legs_small, plan_holds}
 use Rattle.grow_origins.proofs.plan_of.Goals as goal
 
 pub overflow_add-nodes_at : goal.overflow_add-nodes_at
@@ -16,18 +16,6 @@ overflow_add-w c =
 
 pub overflow_add-r : goal.overflow_add-r
 overflow_add-r c = let r = c.book-rows.ensures in omega (arith, legs_small r.is r.readable _ c.legs-legs.ensures)
-
-pub float_from_bits-result : goal.float_from_bits-result
-float_from_bits-result c =
-    let r = c.book-rows.ensures in join_number r.is r.readable _ c.head_patterns-head.ensures
-
-pub float_from_bits-result-2 : goal.float_from_bits-result-2
-float_from_bits-result-2 c =
-    let r = c.book-rows.ensures in departure_number r.is r.readable _ c.head_patterns-head.ensures
-
-pub float_from_bits-result-3 : goal.float_from_bits-result-3
-float_from_bits-result-3 c =
-    let r = c.book-rows.ensures in length_number r.is r.readable _ c.head_patterns-head.ensures
 
 pub returns-clause-plan : goal.returns-clause-plan
 returns-clause-plan c =
