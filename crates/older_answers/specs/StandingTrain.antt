@@ -1,6 +1,7 @@
 -- Events, growth and the whole job as they were before document 02, Ask 1: the time of every event is the quotient's.
 -- Kept for what proofs/StandingTrain.antt says of old answers and new ones. No contract reads them.
-use Rattle.std.specs.Prelude.{◌≡◌, ◌⊎◌, Bool, true, false, ◌||◌, cond, List, [], ◌∷◌, ◌++◌, ℕ, zero, suc, ◌-◌, ltb, length, Float}
+use Rattle.std.specs.Prelude.{◌≡◌, ◌⊎◌, Bool, true, false, ◌||◌, cond, List, [], ◌∷◌, ◌++◌, ℕ, zero, suc, ◌-◌, ltb}
+use Rattle.std.specs.Prelude.{length, Float}
 use Rattle.laws.specs.Answer.{Answer, refused, given, and_then, unless}
 use Rattle.laws.specs.Refusals.{row, first_of}
 use Rattle.book_format.specs.declared.Sample.{Sample}

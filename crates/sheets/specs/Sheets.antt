@@ -36,7 +36,8 @@ abbrev pub program_sizes : Sizes
 program_sizes = record { floats = 192 * float_width; numbers = 192 * number_width; bytes = 65536 }
 
 -- The promise of a function from a book to its listing: the sheet is made in what is lent, and its text is listed.
-pub record BookListed (b : List ℕ) (lent left : Slices) (out listing : List ℕ) (r : Result ℕ ListingError) : Type 0 where
+pub record BookListed (b : List ℕ) (lent left : Slices) (out listing : List ℕ) (r : Result ℕ ListingError)
+    : Type 0 where
   pub sheet : Result Report Refusal
   pub made : SheetMade b lent left sheet
   pub written : TextListed (text_of (told sheet) left.table) out listing r
