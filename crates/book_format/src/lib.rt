@@ -96,8 +96,8 @@ pub struct Link {
     pub idx_prev_alt: u32,
 }
 
-// The fields of an origin's and a leg's row are those of the bytes, before row 4 or 7 has looked at them: `is_front_end`
-// may be any number, and a parent 0 is none.
+// The fields of an origin's and a leg's row are those of the bytes, before row 4 or 7 has looked at them:
+// `is_front_end` may be any number, and a parent 0 is none.
 #[derive(Clone, Copy)]
 pub struct Origin {
     pub link_idx: u32,

@@ -1,6 +1,6 @@
--- The float tests and choices of document 01, in the terms of std's `Float.Ieee`, for every value: `nan`, both infinities and
--- both zeros too. A value that stands in a book is still a bit pattern there; one that stands in a lent table is an f64
--- already.
+-- The float tests and choices of document 01, in the terms of std's `Float.Ieee`, for every value: `nan`, both
+-- infinities and both zeros too. A value that stands in a book is still a bit pattern there; one that stands in a lent
+-- table is an f64 already.
 use Rattle.std.specs.Prelude.{◌≡◌, Bool, true, false, ◌&&◌, cond, ℕ, T, ltb, pos, Float}
 use Rattle.std.specs.Float.{nan, inf, fin, binary64}
 use Rattle.std.specs.Float.Ieee.{top, sub, lt, le, is_nan, fits, of_bits, to_bits, of_int}

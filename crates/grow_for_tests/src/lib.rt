@@ -9,8 +9,8 @@ use refusals::Refusal;
 use report::Report;
 
 // The report's counts. Whatever table and work space held, the table has the network then, or is zero, and the work
-// space is zero. `make_est_times` differs in the stage that it ends with: over a closure both would have to promise what
-// each of them says of its own table.
+// space is zero. `make_est_times` differs in the stage that it ends with: over a closure both would have to promise
+// what each of them says of its own table.
 pub fn grow_network(
     book: &[u8],
     floats: &mut [f64],

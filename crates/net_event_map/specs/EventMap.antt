@@ -52,8 +52,8 @@ bit true = 1
 bit false = 0
 
 -- Stands in contracts beside each `cells`: the slice is lent to the map, the notes and growth in turn, so a struct with
--- a `&mut` to it would be taken apart at each of these calls. What only reads takes the same two, since its callers hold
--- the slice to write it.
+-- a `&mut` to it would be taken apart at each of these calls. What only reads takes the same two, since its callers
+-- hold the slice to write it.
 -- The cells have room: 8 for each of the links, from `links_at` on, and 8 for each place of the table, from `nodes_at`
 -- on; the two don't overlap.
 pub record CellsApart (cells : List ℕ) (w : Layout) : Type 0 where

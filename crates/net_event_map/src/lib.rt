@@ -8,9 +8,10 @@ ghost use Rattle.net_event_map.specs.EventMap.{first_at, next_at, MapsNode, Maps
 
 use net_node::{EstType, LinkEvent};
 
-// Where the cells of links and of nodes stand, and how many links and places there are. It goes beside `cells`, and
-// not with them in one struct: insertion, notes and growth write other columns of the same cells between two calls, and
-// would take the struct apart for it. A struct for reading alone would stand beside this one, for seven functions of 23.
+// Where the cells of links and of nodes stand, and how many links and places there are. It goes beside `cells`, and not
+// with them in one struct: insertion, notes and growth write other columns of the same cells between two calls, and
+// would take the struct apart for it. A struct for reading alone would stand beside this one, for seven functions of
+// 23.
 #[derive(Clone, Copy)]
 pub struct Layout {
     pub links_at: usize,

@@ -52,8 +52,9 @@ pub fn closer_of(best: SpeedJoin, x: EstJoinPath, node: EstTime, speed: f64) -> 
 }
 
 // "Of entries with m = 0 the first with the smallest gap, strictly below J": its gap and its node, or J and 0 if there
-// is none. Document 01 names this form, with slices that are lent. An inner function, no entry for users: its caller must have seen to it that both slices have room for
-// `nodes` nodes, at most 65,535, and that each entry names one of these.
+// is none. Document 01 names this form, with slices that are lent. An inner function, no entry for users: its caller
+// must have seen to it that both slices have room for `nodes` nodes, at most 65,535, and that each entry names one of
+// these.
 #[tactic(auto, using(crate::proofs::Choosing::choosing_laws))]
 pub fn closest_of(
     floats: &[f64],

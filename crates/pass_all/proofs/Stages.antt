@@ -16,7 +16,7 @@ use Rattle.refusals.specs.declared.Refusal.TheVariants.{NotTimed}
 use Rattle.refusals.specs.Refusals.{refusal_number, told}
 use Rattle.space.specs.Space.{zeros}
 use Rattle.space.proofs.Zeros.{zero_at, zeros_front}
-use Rattle.net_node.specs.Table.{node_at, Room, Table, at}
+use Rattle.net_node.specs.Table.{node_at, Table, at}
 use Rattle.pass_rules.specs.Checks.{row14}
 use Rattle.laws.specs.Answer.{Answer, refused, given, and_then, number_of}
 use Rattle.pass_rules.specs.Net.{Pass}

@@ -13,8 +13,9 @@ use net_node::EstTime;
 use pass_queue::{Backward, Forward, Order};
 
 // The nodes of a network that is only read, the first `count` of a table: what row 5 leaves. Each method with an index
-// asks that it be below `count`: indices are plain numbers, which other nodes hold. net_node's `Nodes` is no part of it:
-// that one's alternatives rise, which a lent table's needn't, and one view with neither fact would be wrapped by both.
+// asks that it be below `count`: indices are plain numbers, which other nodes hold. net_node's `Nodes` is no part of
+// it: that one's alternatives rise, which a lent table's needn't, and one view with neither fact would be wrapped by
+// both.
 #[derive(Clone, Copy)]
 pub struct LinkedNodes<'a> {
     pub floats: &'a [f64],

@@ -1,4 +1,3 @@
-pub mod Entries
 pub mod Left
 pub mod Links
 pub mod Kept

@@ -10,11 +10,9 @@ use Rattle.net_node.specs.declared.EstTime.{EstTime}
 use Rattle.net_node.specs.Table.{node_at, at}
 use Rattle.laws.specs.Answer.{Answer, refused, given, and_then}
 use Rattle.pass_rules.specs.Net.{Pass}
-use Rattle.pass_rules.specs.Walks.{done_in}
 use Rattle.pass_state.specs.declared.Stand.{Stand}
 use Rattle.pass_state.specs.Held.{PassSlices, left, PassIn, Standing, Gives, StandsAs}
 use Rattle.pass_state.specs.Promises.{stops_by}
-use Rattle.pass_state.proofs.Left.{left_most}
 use Rattle.pass_state.proofs.Kept.{works, node_in}
 
 -- the slices have kept their lengths

@@ -16,7 +16,7 @@ use Rattle.laws.proofs.Below.{or_left, none_left, none_right, some_more, none_mo
 use Rattle.floats.specs.Floats.{table_float}
 use Rattle.space.specs.Space.{units_of}
 use Rattle.net_node.specs.declared.EstTime.{EstTime}
-use Rattle.net_node.specs.Table.{float_width, number_width, node_at, Room, Table, at}
+use Rattle.net_node.specs.Table.{float_width, number_width, node_at, Table, at}
 use Rattle.net_node.specs.Left.{nodes_in, kind_at}
 use Rattle.pass_rules.specs.Walks.{Inside, Linked, table_of}
 use Rattle.pass_table.specs.TableEntry.{table_row3, table_row4, table_row5, table_rows, bad_floats, bad_node, stray_node}

@@ -1,9 +1,9 @@
 -- The square root of IEEE 754, over whole numbers: the value of the format that is nearest to the exact root, a tie to
--- the even one. Document 01, "the speed at the point is the rounded square root". It has the shape of `round` in std's `Float.Ieee`:
--- the fraction is scaled to whole units of the format's smallest value, the whole root keeps its `prec` leading digits,
--- and `nearest` decides the last one by an exact comparison of squares. It says nothing of how a program finds the
--- digits. proofs/Nearest.antt proves that every other value of the format lies farther from the root: it is never in
--- the middle of two.
+-- the even one. Document 01, "the speed at the point is the rounded square root". It has the shape of `round` in std's
+-- `Float.Ieee`: the fraction is scaled to whole units of the format's smallest value, the whole root keeps its `prec`
+-- leading digits, and `nearest` decides the last one by an exact comparison of squares. It says nothing of how a
+-- program finds the digits. proofs/Nearest.antt proves that every other value of the format lies farther from the root:
+-- it is never in the middle of two.
 use Rattle.std.specs.Prelude.{true, false, cond, leb}
 use Prim.Native.Nat.{ℕ, zero, suc, ◌+◌, ◌-◌, ◌*◌, ◌/◌, ◌^◌, compare}
 use lib.Ieee.{Float, nan, inf, fin, Format, prec, low, up, down, size, nearest, units}

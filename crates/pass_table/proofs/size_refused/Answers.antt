@@ -1,13 +1,9 @@
 -- `pass_table::size_refused` meets its contract.
-use native.Mathlib.Omega.{arith}
-use Rattle.pass_table.proofs.FirstRows.{size_outside, size_most, size_inside}
+use Rattle.pass_table.proofs.FirstRows.{size_outside, size_inside}
 use Rattle.pass_table.proofs.size_refused.Goals as goal
 
 pub returns-then-n : goal.returns-then-n
 returns-then-n c = size_outside _ _ c.if-n.true
-
-pub overflow_add-result : goal.overflow_add-result
-overflow_add-result c = omega (arith, size_most c.args.n c.if-n.false)
 
 pub returns : goal.returns
 returns c = size_inside _ _ c.if-n.false
