@@ -347,7 +347,11 @@ module _ {L : Labels} {places : ℕ} {net : Net} {run : Run} {saved : List Run} 
               holds = λ c b. add_held mid n n_in room' e;
               listed = listed_more n (suc (suc n)) (omega arith) run.joins s.listed;
             })
-            (record { last = refl; empty = add_empty mid n n_in room' e; no_end = new_end g.body (suc n) (omega arith) });
+            (record {
+              last = refl;
+              empty = add_empty mid n n_in room' e;
+              no_end = new_end g.body (suc n) (omega arith);
+            });
         closes = subst (λ (k : ℕ). 0 < k) (sym (old p s.within)) first;
         kept = record {
           event = λ j l. a.kept.event j (omega arith) ∙ split_column g.body i h here run.place

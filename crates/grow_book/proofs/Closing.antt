@@ -83,8 +83,8 @@ module _ (w : Layout) (fs : List Float) (us cells : List ℕ) (c : Counts) where
           then-last = tail_is ∙ ap (λ (a : Answer Network). and_then a (lastly w.places net)) pushed
 
           module _ (fs'' : List Float) (us'' : List ℕ) (q : Result ℕ Refusal)
-              (l : TailAs (last_node w.places (record { table = record { floats = fs'; numbers = us' }; nodes = n })) fs''
-              us'' q) where
+              (l : TailAs (last_node w.places
+              (record { table = record { floats = fs'; numbers = us' }; nodes = n })) fs'' us'' q) where
             pub last_full : (x : Refusal) → q ≡ Err x → closing w.places net ≡ refused (refusal_number x)
             last_full x d = then-last ∙ ap (λ (a : Answer Network). and_then a
                 (λ (v : Network). given (grown_with net v))) (subst
@@ -116,7 +116,11 @@ module _ (w : Layout) (fs : List Float) (us cells : List ℕ) (c : Counts) where
           → Room fs' us' w.places × (0 < n)
       last_asks s n e lf lu =
           let v = s.closes.holds in (
-            record { floats = omega (arith, v.room.floats); numbers = omega (arith, v.room.numbers); most = v.room.most },
+            record {
+              floats = omega (arith, v.room.floats);
+              numbers = omega (arith, v.room.numbers);
+              most = v.room.most;
+            },
             omega (arith, v.sum, (counted s.net s.closes n e).0),
           )
 

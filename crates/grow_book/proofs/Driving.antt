@@ -26,7 +26,7 @@ use Rattle.grow_state.specs.declared.Plan.{Plan}
 use Rattle.grow_state.specs.declared.Front.{Front}
 use Rattle.grow_state.specs.declared.Rest.{Rest}
 use Rattle.grow_state.specs.declared.State.{State}
-use Rattle.grow_state.specs.Held.{PlanIn, SameRuns, WaitIn, RunsIn, DriveIn, Driving, SomeDrive, GivesAs, TurnedAs}
+use Rattle.grow_state.specs.Held.{PlanIn, SameRuns, WaitIn, RunsIn, DriveIn, Driving, GivesAs, TurnedAs}
 use Rattle.grow_state.specs.Held.{Lists, lists, SameDrive, idle, with_front}
 use Rattle.grow_leg.specs.OneLeg.{TakesLeg}
 use Rattle.arcs_growth.specs.Read.{Read}
@@ -80,11 +80,6 @@ all_none {b} {p} {s} g {runs' = runs'} d d' = go g.front d.waiting d'.waiting
 -- ---- the run that is next
 
 module _ {p : Plan} {reals : List Float} {cells : List ℕ} {joins : List EstJoinPath} (g : State) where
-  pub front_next : (f : Front) → g.front ≡ Some f → SameDrive p reals cells joins joins g (with_front g.rest f)
-  front_next f e b fs us path net runs d = subst
-      (λ (x : Option Front). DriveIn b p (lists fs us reals cells joins) path
-      (record { rest = g.rest; front = x }) net runs) e d
-
   pub none_next : g.front ≡ None → g.rest.top ≡ 0 → (joins' : List EstJoinPath)
       → NextRun p reals cells joins joins' g None
   none_next e z joins' b fs us path net runs d = wait_none (idle_drive e b fs us path net runs d).waiting z
@@ -94,9 +89,6 @@ module _ {p : Plan} {reals : List Float} {cells : List ℕ} {joins : List EstJoi
           → DriveIn b p (lists fs us reals cells joins) path (idle g.rest) net runs
       idle_drive e b fs us path net runs d = subst (λ (x : Option Front). DriveIn b p
           (lists fs us reals cells joins) path (record { rest = g.rest; front = x }) net runs) e d
-
-  pub idle_same : g.front ≡ None → SomeDrive p reals cells joins g → SomeDrive p reals cells joins (idle g.rest)
-  idle_same e s = subst (λ (x : Option Front). SomeDrive p reals cells joins (record { rest = g.rest; front = x })) e s
 
   pub up_next : g.front ≡ None → (joins' : List EstJoinPath) (h : State)
       → SameDrive p reals cells joins joins' (idle g.rest) h → SameDrive p reals cells joins joins' g h

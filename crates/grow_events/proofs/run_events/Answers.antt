@@ -59,7 +59,8 @@ loop-p-preserved c =
         cells_long = omega (arith, k, l.cells_long);
       },
       going_on _ _ _ _ _ _ _ _ _ _ _ c.loop-p.invariant.1 _ _ c.in-Some.ensures.steps x.result x.ensures _ _ _ _
-          r.result r.ensures.outcome r.ensures.more (sym c.if-is_bad.ensures) _ _ (went_on _ _ _ _ c.in-Ok.is c.in-On.is),
+          r.result r.ensures.outcome r.ensures.more (sym c.if-is_bad.ensures) _ _
+          (went_on _ _ _ _ c.in-Ok.is c.in-On.is),
     )
 
 pub returns-clause-outcome : goal.returns-clause-outcome
