@@ -89,7 +89,8 @@ fn lead_to_end(node: EstTime, next: u32) -> EstTime
 }
 
 // "End Fakes are pushed for the ends in reverse": the latest is `last_end`, or 0. How many nodes there are then; row
-// 12: one doesn't fit. The loop goes along the chain of ends in the cells, and counts no index.
+// 12: one doesn't fit. The loop goes along the chain of ends in the cells, and counts no index. The room of the ends'
+// marks is asked of the cells as they are lent: the map's and the runs' stand in the same units.
 pub fn end_fakes(
     floats: &mut [f64],
     numbers: &mut [u32],
