@@ -1,7 +1,7 @@
 // The queue of a time pass: a binary heap in the first n slots of lent slices. There is no heap memory for std's
-// BinaryHeap or a Vec of entries, and the slots behind the n are room to grow. A struct of both `&mut` and n would be put
-// together anew at each push and pop, since a pass lends its slices beside the table's, and would owe each function two
-// clauses more, that it leaves the same references behind. Contracts: specs/Queue.antt, specs/Slots.antt.
+// BinaryHeap or a Vec of entries, and the slots behind the n are room to grow. A struct of both `&mut` and n would be
+// put together anew at each push and pop, since a pass lends its slices beside the table's, and would owe each function
+// two clauses more, that it leaves the same references behind. Contracts: specs/Queue.antt, specs/Slots.antt.
 #![tactic(auto)]
 
 ghost use Rattle.std.specs.Prelude.{◌≡◌, Bool, true, false, ◌+◌, ◌*◌, ◌-◌, ◌≤◌, ◌<◌, length};
