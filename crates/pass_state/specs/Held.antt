@@ -1,8 +1,7 @@
 -- A time pass at work in the lent slices: the table's nodes, a flag for each node that is done (timed or passed), and
 -- the queue.
 use Rattle.std.specs.Prelude.{◌≡◌, Bool, true, false, not, ◌||◌, List, ◌∷◌, ℕ, zero, suc, ◌+◌, ◌*◌, ◌-◌, ◌≤◌, ◌<◌}
-use Rattle.std.specs.Prelude.{length}
-use Rattle.std.specs.Prelude.{Float, Option, Some, None}
+use Rattle.std.specs.Prelude.{length, Float, Option, Some, None}
 use Rattle.std.specs.Float.Ieee.{is_nan}
 use Rattle.laws.specs.Answer.{Answer, given}
 use Rattle.net_node.specs.Table.{Table, float_width, number_width}

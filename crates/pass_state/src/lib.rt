@@ -11,8 +11,8 @@ ghost use Rattle.pass_queue.specs.Queue.{HeapRoom};
 ghost use Rattle.pass_rules.specs.Walks.{Linked, table_of, done_in, behind_alt};
 ghost use Rattle.pass_state.specs.Held.{slices, NodeIn, Working, Standing};
 ghost use Rattle.pass_state.specs.Strands.{time_ahead, entry_before, alternative_entry, end_entry, finished};
-ghost use Rattle.pass_state.specs.Strands.{finished_flags, standing, alternating, stepping, stranding, settling};
-ghost use Rattle.pass_state.specs.Strands.{turning, turning_all};
+ghost use Rattle.pass_state.specs.Strands.{finished_flags, standing, alternating, stepping};
+ghost use Rattle.pass_state.specs.Strands.{stranding, settling, turning, turning_all};
 ghost use Rattle.pass_state.specs.Promises.{lent, stops_by, Enqueues, no_more, fewer, PassTo, StandsTo};
 ghost use Rattle.pass_state.specs.Promises.{Relinked, EndsTo};
 
