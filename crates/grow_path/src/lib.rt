@@ -21,8 +21,8 @@ pub fn start_path(reals: &mut [f64])
     reals[0] = 0.0;
 }
 
-// Puts a link behind the `depth` links of a path: its name, and the point behind it. A link is named by the index of its
-// row, and its bound is asked as a slice's is.
+// Puts a link behind the `depth` links of a path: its name, and the point behind it. A link is named by the index of
+// its row, and its bound is asked as a slice's is.
 #[tactic(auto, using(book_format::proofs::Given::link_length_lem))]
 pub fn extend_path(
     book: &ReadableBook,
