@@ -62,10 +62,11 @@ impl PassedPoint {
     pub fn is_bad(self) -> bool
         ensures { result ≡ bad_point self }
     {
-        event_formula::is_bad(Passing {
+        let passing = Passing {
             time: self.time,
             speed: self.speed,
-        })
+        };
+        passing.is_bad()
     }
 }
 
