@@ -12,6 +12,7 @@ use Rattle.refusals.specs.declared.Refusal.TheVariants.{CutOff, LeftOver}
 use Rattle.refusals.specs.Refusals.{refusal_number}
 use Rattle.book_format.specs.declared.Sample.{Sample}
 use Rattle.book_format.specs.declared.SamplePatterns.{SamplePatterns}
+use Rattle.book_format.specs.declared.HeadPatterns.{HeadPatterns}
 use Rattle.book_format.specs.Format.{links, origins, destinations, legs, samples, end_of}
 use Rattle.book_format.specs.Format.{join_bits, departure_bits, length_bits}
 use Rattle.book_format.specs.Format.{link_length, link_next, link_next_alt, link_prev, link_prev_alt}
@@ -77,6 +78,10 @@ bad_sample_from b at =
 -- a sample's patterns, of which one is no book's float
 unfoldable pub bad_patterns : SamplePatterns → Bool
 bad_patterns p = not (book_float p.time) || not (book_float p.offset) || not (book_float p.speed)
+
+-- the patterns of the three floats at the head, of which one is no book's float
+unfoldable pub bad_head : HeadPatterns → Bool
+bad_head p = not (book_float p.join) || not (book_float p.departure) || not (book_float p.length)
 
 unfoldable pub bad_sample : List ℕ → ℕ → Bool
 unfolding bad_sample_from

@@ -2,10 +2,11 @@
 // Contracts: specs/Format.antt, specs/Rows.antt, specs/Chains.antt.
 #![tactic(auto)]
 
-ghost use Rattle.std.specs.Prelude.{◌≡◌, true, false, ◌+◌, ◌*◌, ◌≤◌, ◌<◌, length};
+ghost use Rattle.std.specs.Prelude.{◌≡◌, true, false, ◌+◌, ◌-◌, ◌*◌, ◌≤◌, ◌<◌, length, cond, ltb, Ok, Err, IfOk};
 ghost use Rattle.fields.specs.Fields.{u32_at};
 ghost use Rattle.floats.specs.Floats.{book_float};
 ghost use Rattle.refusals.specs.Refusals.{told};
+ghost use Rattle.refusals.specs.declared.Refusal.TheVariants.{CutOff};
 ghost use Rattle.book_format.specs.Format.{links, origins, destinations, legs, samples, rows, end_of};
 ghost use Rattle.book_format.specs.Format.{links_at_of, origins_at_of, samples_at_of};
 ghost use Rattle.book_format.specs.Format.{link_width, origin_width, sample_width};
@@ -13,7 +14,7 @@ ghost use Rattle.book_format.specs.Format.{link_length, origin_offset, destinati
 ghost use Rattle.book_format.specs.Format.{sample_from, sample_at, patterns_from, sample_patterns};
 ghost use Rattle.book_format.specs.Format.{head_patterns, float_of};
 ghost use Rattle.book_format.specs.Rows.{row4, row5, some_bad_leg};
-ghost use Rattle.book_format.specs.Rows.{measured_of, outside_limits, bad_sample_from, bad_sample, bad_patterns};
+ghost use Rattle.book_format.specs.Rows.{measured_of, outside_limits, bad_sample_from, bad_sample, bad_patterns, bad_head};
 ghost use Rattle.book_format.specs.Rows.{sample_falls};
 ghost use Rattle.book_format.specs.Chains.{Counted, Valid, Readable};
 
@@ -147,6 +148,18 @@ pub struct HeadPatterns {
     pub length: u64,
 }
 
+impl HeadPatterns {
+    // Row 4: whether one of the three is none that a book may hold.
+    #[tactic(auto, unfolding(crate::specs::Rows::bad_head))]
+    pub fn is_bad(self) -> bool
+        ensures { result ≡ bad_head self }
+    {
+        !floats::is_book_float(self.join)
+            | !floats::is_book_float(self.departure)
+            | !floats::is_book_float(self.length)
+    }
+}
+
 const LINKS_AT: usize = 28;
 
 const LINK_WIDTH: usize = 24;
@@ -168,13 +181,17 @@ fn float_of(bits: u64) -> f64
     f64::from_bits(bits)
 }
 
-// The u32 at an offset, as a count. It stays a function: its bound is what keeps the sums of `measure` in range.
-fn count_at(book: &[u8], at: usize) -> usize
-    requires { at + 4 ≤ length book.now }
-    ensures value { result ≡ u32_at book.now at }
-    ensures upper_bound { result < 4294967296 }
+// The count that stands just before the first row of a section, if the bytes reach so far (row 1). Its bound is what
+// keeps the sums of `measure` in range.
+fn count_before(bytes: &[u8], at: usize) -> Result<usize, Refusal>
+    requires { 4 ≤ at }
+    ensures answer { result ≡ cond (ltb (length bytes.now) at) (Err CutOff) (Ok (u32_at bytes.now (at - 4))) }
+    ensures count_bounded { IfOk result (λ n. n < 4294967296) }
 {
-    fields::u32_at(book, at) as usize
+    if bytes.len() < at {
+        return Err(Refusal::CutOff);
+    }
+    Ok(fields::u32_at(bytes, at - 4) as usize)
 }
 
 // Where row i of a section stands, whose first row stands at `at`. It stays a place, and no slice of the row: so each
@@ -193,32 +210,17 @@ impl<'a> Book<'a> {
     pub fn measure(bytes: &'a [u8]) -> Result<Book<'a>, Refusal>
         ensures { told result ≡ measured_of bytes.now }
     {
-        let len = bytes.len();
-        if len < LINKS_AT {
-            return Err(Refusal::CutOff);
-        }
-        let links = count_at(bytes, 24);
+        let links = count_before(bytes, LINKS_AT)?;
         let origins_at = LINKS_AT + links * LINK_WIDTH + 4;
-        if len < origins_at {
-            return Err(Refusal::CutOff);
-        }
-        let origins = count_at(bytes, origins_at - 4);
+        let origins = count_before(bytes, origins_at)?;
         let destinations_at = origins_at + origins * ORIGIN_WIDTH + 4;
-        if len < destinations_at {
-            return Err(Refusal::CutOff);
-        }
-        let destinations = count_at(bytes, destinations_at - 4);
+        let destinations = count_before(bytes, destinations_at)?;
         let legs_at = destinations_at + destinations * DESTINATION_WIDTH + 4;
-        if len < legs_at {
-            return Err(Refusal::CutOff);
-        }
-        let legs = count_at(bytes, legs_at - 4);
+        let legs = count_before(bytes, legs_at)?;
         let samples_at = legs_at + legs * LEG_WIDTH + 4;
-        if len < samples_at {
-            return Err(Refusal::CutOff);
-        }
-        let samples = count_at(bytes, samples_at - 4);
+        let samples = count_before(bytes, samples_at)?;
         let end = samples_at + samples * SAMPLE_WIDTH;
+        let len = bytes.len();
         if len < end {
             return Err(Refusal::CutOff);
         }

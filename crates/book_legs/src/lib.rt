@@ -53,10 +53,10 @@ fn leg_begins(book: &Book, parent: usize, end: usize, first: usize) -> bool
 
 // Puts leg number j in front of its parent's children, and notes where its samples end.
 fn link_leg(cells: &mut [u32], j: usize, parent: usize, end: usize)
-    requires j_in_bounds { j * 8 + 2 < length cells.old }
-    requires parent_in_bounds { parent * 8 < length cells.old }
-    requires j_bound { j ≤ 65535 }
-    requires end_bound { end ≤ 1000000 }
+    requires j_cells_inside { j * 8 + 2 < length cells.old }
+    requires parent_cell_inside { parent * 8 < length cells.old }
+    requires j_most { j ≤ 65535 }
+    requires end_most { end ≤ 1000000 }
     ensures { cells.new ≡ with_leg cells.old j parent end }
 {
     let before = cells[parent * 8];
@@ -108,7 +108,7 @@ pub fn link_legs(book: &ReadableBook, cells: &mut [u32]) -> bool
 // struct with the fact that they are chained: growth writes in the cells between two searches, and would make it anew.
 pub fn find_leg(book: &Book, cells: &[u32], parent: u32, link_idx: u32) -> Option<u32>
     requires chained { Chained book.now cells.now }
-    requires parent_bound { parent ≤ legs book.now }
+    requires parent_le_legs { parent ≤ legs book.now }
     ensures { result ≡ leg_search book.now parent link_idx }
 {
     let mut j = cells[parent as usize * 8];
@@ -126,7 +126,7 @@ pub fn find_leg(book: &Book, cells: &[u32], parent: u32, link_idx: u32) -> Optio
 // The leg of a number: its samples begin where those of the leg before it end.
 pub fn leg_samples(cells: &[u32], number: u32) -> TakenLeg
     requires number_nonzero { 0 < number }
-    requires number_in_bounds { number * 8 + 2 < length cells.now }
+    requires number_cells_inside { number * 8 + 2 < length cells.now }
     ensures { result ≡ leg_in cells.now number }
 {
     let at = number as usize;
@@ -149,7 +149,7 @@ fn take_found(cells: &[u32], found: Option<u32>) -> Result<TakenLeg, Refusal>
 // The leg with this parent and link, to be taken.
 pub fn take_leg(book: &Book, cells: &[u32], parent: u32, link_idx: u32) -> Result<TakenLeg, Refusal>
     requires chained { Chained book.now cells.now }
-    requires parent_bound { parent ≤ legs book.now }
+    requires parent_le_legs { parent ≤ legs book.now }
     ensures { result ≡ taken_leg book.now parent link_idx }
 {
     take_found(cells, find_leg(book, cells, parent, link_idx))
@@ -195,8 +195,8 @@ pub fn mark_starts(book: &ReadableBook, marks: &mut [u32])
 // The leg that starts over a link, as the marks name it.
 fn find_start(book: &Book, marks: &[u32], link_idx: u32) -> Option<u32>
     requires started { Started book.now marks.now }
-    requires book_in_bounds { 2 * links book.now ≤ length marks.now }
-    requires link_idx_bound { link_idx < links book.now }
+    requires marks_room { 2 * links book.now ≤ length marks.now }
+    requires link_idx_lt_links { link_idx < links book.now }
     ensures { result ≡ leg_search book.now 0 link_idx }
 {
     let number = marks[book.links() + link_idx as usize];
@@ -212,8 +212,8 @@ pub fn take_start(
 ) -> Result<TakenLeg, Refusal>
     requires chained { Chained book.now cells.now }
     requires started { Started book.now marks.now }
-    requires book_in_bounds { 2 * links book.now ≤ length marks.now }
-    requires link_idx_bound { link_idx < links book.now }
+    requires marks_room { 2 * links book.now ≤ length marks.now }
+    requires link_idx_lt_links { link_idx < links book.now }
     ensures { result ≡ taken_leg book.now 0 link_idx }
 {
     take_found(cells, find_start(book, marks, link_idx))

@@ -94,9 +94,9 @@ fn turn(book: &ValidBook, w: Walk, marks: &mut [u32]) -> Walk
 
 // How many numbers the search asks for: two for each link, one for each destination and one for each origin.
 pub fn search_room(book: &Book) -> usize
-    requires links_bound { links book.now ≤ 65535 }
-    requires destinations_bound { destinations book.now ≤ 1000 }
-    requires origins_bound { origins book.now ≤ 1000 }
+    requires links_most { links book.now ≤ 65535 }
+    requires destinations_most { destinations book.now ≤ 1000 }
+    requires origins_most { origins book.now ≤ 1000 }
     ensures { result ≡ search_room book.now }
 {
     2 * book.links() + book.destinations() + book.origins()

@@ -36,7 +36,7 @@ fn children_repeat(book: &ReadableBook, cells: &[u32], marks: &mut [u32], p: usi
     requires marks_room { links book.now ≤ length marks.old }
     requires p_lt_legs { p < legs book.now }
     requires under { Under marks.old p }
-    ensures value { result ≡ some_below (legs book.now) (child_repeats book.now p) }
+    ensures answer { result ≡ some_below (legs book.now) (child_repeats book.now p) }
     ensures stamped { Under marks.new (p + 1) }
 {
     let rows = book.book();

@@ -247,16 +247,12 @@ fn link_zero(book: &Book) -> bool
 }
 
 // What the floats at the head and link 0 are refused for.
-#[tactic(auto, unfolding(crate::specs::Elements::head_number, book_format::specs::Format::head_patterns, laws::specs::Refusals::first_of))]
+#[tactic(auto, unfolding(crate::specs::Elements::head_number, laws::specs::Refusals::first_of, book_format::specs::Format::head_patterns, book_format::specs::Rows::bad_head,),)]
 fn head_refusal(book: &Book) -> Result<(), Refusal>
     requires links_nonzero { 0 < links book.now }
     ensures { number_of (told result) ≡ head_number book.now }
 {
-    let head = book.head_patterns();
-    let bad = !floats::is_book_float(head.join)
-        | !floats::is_book_float(head.departure)
-        | !floats::is_book_float(head.length);
-    if bad {
+    if book.head_patterns().is_bad() {
         return Err(Refusal::BadValue);
     }
     if !link_zero(book) {

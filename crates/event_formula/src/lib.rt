@@ -13,6 +13,16 @@ pub struct Passing {
     pub speed: f64,
 }
 
+impl Passing {
+    // Row 11: whether an event's speed is not finite, or its time no number or too large.
+    #[tactic(auto, using(crate::proofs::Laws::finite_is), unfolding(crate::specs::Event::bad_passing))]
+    pub fn is_bad(self) -> bool
+        ensures { result ≡ bad_passing self }
+    {
+        !self.speed.is_finite() | !floats::is_table_float(self.time)
+    }
+}
+
 // The offsets of the points that a train's front and its end pass next, and its length.
 #[derive(Clone, Copy)]
 pub struct NextPoints {
@@ -61,12 +71,4 @@ pub fn pass_at(s: Sample, before: Sample, offset: f64) -> Passing
     );
     let time = time_at(s, speed, dist_diff_x2);
     Passing { time, speed }
-}
-
-// Row 11: whether an event's speed is not finite, or its time no number or too large.
-#[tactic(auto, using(crate::proofs::Laws::finite_is), unfolding(crate::specs::Event::bad_passing))]
-pub fn is_bad(p: Passing) -> bool
-    ensures { result ≡ bad_passing p }
-{
-    !p.speed.is_finite() | !floats::is_table_float(p.time)
 }

@@ -62,10 +62,11 @@ impl PassedPoint {
     pub fn is_bad(self) -> bool
         ensures { result ≡ bad_point self }
     {
-        event_formula::is_bad(Passing {
+        let passing = Passing {
             time: self.time,
             speed: self.speed,
-        })
+        };
+        passing.is_bad()
     }
 }
 
@@ -129,7 +130,7 @@ pub fn reaches_last(book: &[u8], offsets: &[f64], m: Movement) -> bool
 // A point with none beyond x before it, sought from the last point back by steps that double. A leg's first point lies
 // near the end of its path, so this costs the same on a long path, where `partition_point` over all of it would not.
 fn gallop(offsets: &[f64], points: usize, x: f64) -> usize
-    requires points_in_bounds { points ≤ length offsets.now }
+    requires points_inside { points ≤ length offsets.now }
     requires rises { Rises (λ k. get_or offsets.now k nan) points }
     ensures { NoneBeyond (λ k. get_or offsets.now k nan) points x result }
 {
@@ -145,7 +146,7 @@ fn gallop(offsets: &[f64], points: usize, x: f64) -> usize
 
 // The first of the points that lies beyond x, or their number.
 fn first_beyond(offsets: &[f64], points: usize, x: f64) -> usize
-    requires points_in_bounds { points ≤ length offsets.now }
+    requires points_inside { points ≤ length offsets.now }
     requires rises { Rises (λ k. get_or offsets.now k nan) points }
     ensures { result ≡ first_beyond (λ k. get_or offsets.now k nan) x 0 points }
 {

@@ -21,7 +21,7 @@ use space::Zero;
 fn search_part(book: &ReadableBook, part: &mut [u32]) -> Result<usize, Refusal>
     requires row6_passed { row6 book.now ≡ false }
     requires row8_passed { row8 book.now ≡ false }
-    requires part_value { part.old ≡ zeros (length part.old) }
+    requires part_zero { part.old ≡ zeros (length part.old) }
     ensures number { number_of (told result) ≡ part_number book.now (length part.old) }
     ensures into { SearchedIn book.now part.old part.new result }
 {

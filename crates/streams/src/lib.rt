@@ -13,7 +13,7 @@ use std::io::{Read, Result};
 // fails, the slice begins with what was read before it. std's `read_exact` tells of a short input that it is short, and
 // not how many bytes there were.
 pub fn read_full<R: Read>(from: &mut R, buf: &mut [u8]) -> Result<usize>
-    ensures bound { ReadsAtMost result buf.new }
+    ensures at_most { ReadsAtMost result buf.new }
     ensures bytes { IfOk result (λ n. Consumes (R.remaining from.old) (R.remaining from.new) (take n buf.new)) }
     ensures end { IfOk result (λ n. n < length buf.new → IsAtEnd (R.remaining from.new)) }
     ensures err { OnErr result ((n : ℕ) × (n ≤ length buf.new)
@@ -33,7 +33,7 @@ pub fn read_full<R: Read>(from: &mut R, buf: &mut [u8]) -> Result<usize>
 // Reads the whole input and answers how many bytes it has, which stand at the slice's start, or `None` where the slice
 // is too short for it. One byte behind those that fill the slice is read and lost.
 pub fn read_whole<R: Read>(from: &mut R, buf: &mut [u8]) -> Result<Option<usize>>
-    ensures bound { IfOk result (λ r. IfSome r (λ n. n ≤ length buf.new)) }
+    ensures at_most { IfOk result (λ r. IfSome r (λ n. n ≤ length buf.new)) }
     ensures whole { IfOk result (λ r. IfSome r (λ n. IsInput (R.remaining from.old) (take n buf.new))) }
     ensures longer { IfOk result (λ r. IfNone r (IsLonger (R.remaining from.old) (length buf.new))) }
 {

@@ -6,7 +6,7 @@ use Rattle.book_legs.proofs.Walking.{walking_start, walking_row, walking_on, wal
 use Rattle.book_legs.proofs.find_leg.Goals as goal
 
 pub loop-j-init : goal.loop-j-init
-loop-j-init c = walking_start _ _ _ _ c.requires.chained c.requires.parent_bound
+loop-j-init c = walking_start _ _ _ _ c.requires.chained c.requires.parent_le_legs
 
 pub leg_at-leg-requires : goal.leg_at-leg-requires
 leg_at-leg-requires c = record { i_lt_legs = (walking_row c.loop-j.invariant c.loop-j-test.true).1 }

@@ -35,10 +35,10 @@ link_leg-requires c =
     let p = leg_parent_lem _ _ _ c.leg_at-leg.ensures in
     let e = ap legs c.book-rows.ensures.is in
     record {
-      j_in_bounds = omega (arith, e);
-      parent_in_bounds = omega (arith, l.parent, p, e);
-      j_bound = omega (arith, l.number);
-      end_bound = omega (arith, l.within, l.limit, leg_samples_lem _ _ _ c.leg_at-leg.ensures, c.loop-i.invariant.begun);
+      j_cells_inside = omega (arith, e);
+      parent_cell_inside = omega (arith, l.parent, p, e);
+      j_most = omega (arith, l.number);
+      end_most = omega (arith, l.within, l.limit, leg_samples_lem _ _ _ c.leg_at-leg.ensures, c.loop-i.invariant.begun);
     }
 
 pub loop-i-preserved : goal.loop-i-preserved

@@ -26,9 +26,9 @@ search_room-room-requires c =
     let l = limits _ t.1.passed.counted.counts in
     let e = c.book.ensures.is ∙ t.0 in
     record {
-      links_bound = rw e l.links_most;
-      destinations_bound = rw e l.destinations_most;
-      origins_bound = rw e l.origins_most;
+      links_most = rw e l.links_most;
+      destinations_most = rw e l.destinations_most;
+      origins_most = rw e l.origins_most;
     }
 
 -- how many marks the search asks for, and that there are so many

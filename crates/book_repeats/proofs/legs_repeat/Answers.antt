@@ -9,12 +9,12 @@ pub loop-p-init : goal.loop-p-init
 loop-p-init c = parents_start _ _ c.requires.marks_zero
 
 pub returns-then-children_repeat : goal.returns-then-children_repeat
-returns-then-children_repeat c = parents_found _ _ (sym c.if-children_repeat.true ∙ c.children_repeat.ensures.value)
+returns-then-children_repeat c = parents_found _ _ (sym c.if-children_repeat.true ∙ c.children_repeat.ensures.answer)
 
 pub loop-p-preserved : goal.loop-p-preserved
 loop-p-preserved c =
     let d = c.children_repeat in
-    parents_on c.loop-p.invariant d.auto.marks d.ensures.stamped (sym c.if-children_repeat.false ∙ d.ensures.value)
+    parents_on c.loop-p.invariant d.auto.marks d.ensures.stamped (sym c.if-children_repeat.false ∙ d.ensures.answer)
 
 pub returns : goal.returns
 returns c =

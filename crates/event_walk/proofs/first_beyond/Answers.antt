@@ -9,5 +9,5 @@ pub returns : goal.returns
 returns c =
     let a = c.args in
     let q = c.requires in
-    first_parted a.offsets.now a.points c.gallop-low.result q.points_in_bounds a.x c.gallop-low.ensures c.partition_point.result c.partition_point.ensures.bound
-    (IsPartitionPoint-from_clause (λ y. le y a.x) _ _ c.partition_point.ensures.partitioned (seen_parted a.offsets.now a.points c.gallop-low.result q.points_in_bounds a.x q.rises) (λ z r f h. search rules))
+    first_parted a.offsets.now a.points c.gallop-low.result q.points_inside a.x c.gallop-low.ensures c.partition_point.result c.partition_point.ensures.bound
+    (IsPartitionPoint-from_clause (λ y. le y a.x) _ _ c.partition_point.ensures.partitioned (seen_parted a.offsets.now a.points c.gallop-low.result q.points_inside a.x q.rises) (λ z r f h. search rules))

@@ -17,7 +17,7 @@ take_leg-requires c =
     let e = c.book.ensures.is in
     record {
       chained = subst (λ (b : List ℕ). Chained b c.args.cells.now) (sym e) s.some_ending.ends.ends.chained;
-      parent_bound = omega (arith, ap legs e, front_leg plan s.some_ending.ends.ends);
+      parent_le_legs = omega (arith, ap legs e, front_leg plan s.some_ending.ends.ends);
     }
 
 pub returns-in_err-leg : goal.returns-in_err-leg

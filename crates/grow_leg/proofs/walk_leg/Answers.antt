@@ -49,7 +49,7 @@ leg_samples-taken-requires c =
     let plan = planned_in _ c.args.p.now.planned c.requires.reals_room in
     let s = c.requires in
     let d = (some_front s.driving).holds in
-    record { number_nonzero = some_leg plan d; number_in_bounds = omega (arith, leg_inside plan d, d.chained.room) }
+    record { number_nonzero = some_leg plan d; number_cells_inside = omega (arith, leg_inside plan d, d.chained.room) }
 
 pub extend_path-requires : goal.extend_path-requires
 extend_path-requires c =

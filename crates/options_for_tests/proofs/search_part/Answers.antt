@@ -9,7 +9,7 @@ use Rattle.options_for_tests.proofs.search_part.Goals as goal
 pub search_room-requires : goal.search_room-requires
 search_room-requires c =
     let l = limits _ c.book.ensures.readable.counted.counts in
-    record { links_bound = l.links_most; destinations_bound = l.destinations_most; origins_bound = l.origins_most }
+    record { links_most = l.links_most; destinations_most = l.destinations_most; origins_most = l.origins_most }
 
 pub returns-then-part-search_room : goal.returns-then-part-search_room
 returns-then-part-search_room c = record {
