@@ -16,9 +16,20 @@ use net_event_map::Layout;
 use net_node::{EstTime, EstType};
 use net_notes::{Column, Span};
 
+// How many numbers the stack has (`stack_length`).
+pub const STACK_LENGTH: usize = 4608;
+
+// How many nexts a strand walk may read.
+const MOST_NEXTS: u32 = 4096;
+
+// The greatest number of the stack that is a node, and the least that is an opening (`opening_of`).
+const LAST_NODE: u32 = 65535;
+
+const FIRST_OPENING: u32 = 65536;
+
 // The stack. Its numbers stay packed (specs/Openings.antt): which nodes are opened is counted in numbers of the stack,
 // of which a node that is opened has two, so an item each would open others.
-pub type Stack = ArrayVec<u32, 4608>;
+pub type Stack = ArrayVec<u32, STACK_LENGTH>;
 
 // Whether a strand is left at a node: at an Arrive, and where there is no next.
 #[tactic(auto, using(crate::proofs::Arrives::arrive_eq), unfolding(crate::specs::Openings::ends_strand))]
@@ -41,9 +52,9 @@ pub fn open_node(stack: &mut Stack, here: u32, at: usize, left: u32)
     ensures room { array_vec_len stack.new + left ≤ stack_length }
     ensures top { array_vec_len stack.new ≤ array_vec_len stack.old + 2 }
 {
-    if stack.len() + left as usize + 1 < 4608 {
+    if stack.len() + left as usize + 1 < STACK_LENGTH {
         stack.push(here);
-        stack.push(65535 + at as u32 * 4096 + left);
+        stack.push(LAST_NODE + at as u32 * MOST_NEXTS + left);
     }
 }
 
@@ -69,12 +80,12 @@ pub fn close_node(cells: &mut [u32], w: Layout, i: u32, opening: u32, at: usize,
     ensures { Notes w i (note_in cells.old w i matched_column) (span_number (opening_at opening) at)
         (opening_left opening - left) cells.old cells.new }
 {
-    let c = opening - 65536;
+    let c = opening - FIRST_OPENING;
     let span = Span {
-        begin: (c / 4096) as usize,
+        begin: (c / MOST_NEXTS) as usize,
         end: at,
     };
-    let nexts = c % 4096 + 1 - left;
+    let nexts = c % MOST_NEXTS + 1 - left;
     let matched = net_notes::noted(cells, w, i, Column::Matched);
     net_notes::note(cells, w, i, matched, span.number(), nexts);
 }

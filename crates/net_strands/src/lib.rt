@@ -19,12 +19,13 @@ use net_notes::{Column, Span};
 use net_stack::Stack;
 use refusals::Refusal;
 
-// What is looked at while a run's list is rebuilt for an event: the network, the event, the old list, and where the
-// cells of links and nodes stand.
+// What is looked at while a run's list is rebuilt for an event: the network, the event, whether some node of the
+// network has it, the old list, and where the cells of links and nodes stand.
 #[derive(Clone, Copy)]
 struct Rebuild<'a> {
     nodes: Nodes<'a>,
     event: LinkEvent,
+    seen: bool,
     old: &'a [EstJoinPath],
     layout: Layout,
     ghost within: { nodes.count ≤ layout.places },
@@ -213,7 +214,6 @@ impl<'a> Rebuild<'a> {
     #[tactic(auto, using(crate::proofs::Extending::entry_laws, crate::proofs::Given::extends_laws))]
     fn extend(
         &self,
-        seen: bool,
         x: EstJoinPath,
         cells: &mut [u32],
         stack: &mut Stack,
@@ -223,7 +223,7 @@ impl<'a> Rebuild<'a> {
         requires cells_apart { CellsApart cells.old self.now.layout }
         requires given { GivenFor self.now cells.old list.old.items }
         ensures { ExtendsBy self.now (extended (nodes_held self.now.nodes) self.now.nodes.count self.now.event
-            seen x) cells list result }
+            self.now.seen x) cells list result }
     {
         let m = x.link_idx_match;
         let node = self.nodes.load(x.est_idx_next);
@@ -236,7 +236,7 @@ impl<'a> Rebuild<'a> {
         if !(arrive | cleared) {
             return push_entry(list, x);
         }
-        if !seen {
+        if !self.seen {
             return Ok(());
         }
         self.follow(new_match(kind, m), x, cells, stack, list)
@@ -246,7 +246,6 @@ impl<'a> Rebuild<'a> {
     #[tactic(auto, using(crate::proofs::Extending::gathering_laws))]
     fn extend_all(
         &self,
-        seen: bool,
         cells: &mut [u32],
         stack: &mut Stack,
         list: &mut JoinPaths,
@@ -255,12 +254,12 @@ impl<'a> Rebuild<'a> {
         requires ungiven { Ungiven cells.old self.now.layout }
         requires some_nodes { 0 < self.now.nodes.count }
         ensures list { EntriesAs (extended_all (nodes_held self.now.nodes) self.now.nodes.count self.now.event
-            seen self.now.old.now []) list.new.items result }
+            self.now.seen self.now.old.now []) list.new.items result }
         ensures noted { Touched self.now.layout cells.old cells.new }
     {
         list.clear();
         for x in self.old {
-            self.extend(seen, *x, cells, stack, list)?;
+            self.extend(*x, cells, stack, list)?;
         }
         Ok(())
     }
@@ -291,10 +290,11 @@ pub fn update_join_paths_space(
     let rebuild = Rebuild {
         nodes: *nodes,
         event,
+        seen,
         old,
         layout: w,
     };
-    let built = rebuild.extend_all(seen, cells, stack, list);
+    let built = rebuild.extend_all(cells, stack, list);
     net_notes::forget_notes(cells, w);
     built
 }
