@@ -48,7 +48,11 @@ fn glyph(d: u64) -> u8
     requires { d < 16 }
     ensures { result ≡ glyph d }
 {
-    if d < 10 { 48 + d as u8 } else { 87 + d as u8 }
+    if d < 10 {
+        b'0' + d as u8
+    } else {
+        b'a' - 10 + d as u8
+    }
 }
 
 // The letter of a kind. `From` can't stand here: the kind is net_node's and the byte is std's.
@@ -99,11 +103,11 @@ impl Text<'_> {
         ensures { Puts self.old (decimal n) self.new }
     {
         if n < 10 {
-            self.put_byte(48 + n as u8);
+            self.put_byte(b'0' + n as u8);
             return;
         }
         self.put_decimal(n / 10);
-        self.put_byte(48 + (n % 10) as u8);
+        self.put_byte(b'0' + (n % 10) as u8);
     }
 
     // Puts a word and a number in decimal behind the text.

@@ -158,11 +158,11 @@ fn is_plain(here: EstTime, before: EstTime, after: EstTime, n: usize, i: usize) 
 {
     (1 < i)
         & ((i < n - 1)
-            & (!(here.idx_prev == 0)
-                & (!(here.idx_next == 0)
+            & ((here.idx_prev != 0)
+                & ((here.idx_next != 0)
                     & ((before.idx_next as usize == i)
                         & ((after.idx_prev as usize == i)
-                            & (!(before.idx_next_alt as usize == i) & !here.is_fake()))))))
+                            & ((before.idx_next_alt as usize != i) & !here.is_fake()))))))
 }
 
 impl LinkedNodes<'_> {
@@ -217,7 +217,7 @@ impl LinkedNodes<'_> {
         let to = L::ahead(node) as usize;
         let end = L::end_of(self.count);
         let done = 0 < flags[to];
-        node.is_fake() & (!done & !(to == end))
+        node.is_fake() & (!done & (to != end))
     }
 
     // The relink walk of a pass: from node i along Fakes that lead to nodes which are neither done nor its end.

@@ -9,11 +9,10 @@ use lib.Dec.{T, leb, ltb, eqb, lt→ltb, le→leb, not_T, eqb→eq, ltb→lt, nl
 use lib.Arith.{lt→nleb}
 use lib.IntN.{ℤ}
 use lib.Pow.{pow-add, pow_pos, pow-lt}
-use lib.Ieee.{Float, nan, inf, fin, Format, binary32, binary64, prec, emax, low, up, down, size, odd, units, nearest, hid, ones, top, fits, is_nan, nan_bits, of_fields, of_bits, to_bits, ne}
+use lib.Ieee.{Float, nan, inf, fin, Format, binary32, binary64, prec, emax, low, up, down, size, odd, units, nearest, hid, ones, top, fits, is_nan, nan_bits, of_fields, of_bits, to_bits}
 use lib.Ieee.Fits.{two, two-le_pos, odd-fits, down_pos, eq→eqb, nearest-le}
 use lib.Ieee.Exact.{HasValue, odd_sign, units_val}
 use lib.Ieee.Bits.{is_true, is_false, cond_no, of_bits-to_bits, to_bits-lt, nan_bits_is, nan_bits_above}
-use lib.Ieee.Compare.{differs_from_itself, nan_differs}
 use lib.Ieee.Nearest.{nearest-ge}
 use Rattle.root.specs.Root.{root_of, sqrt}
 use Rattle.root.specs.Steps.{magnitude_at, magnitude, Scales, Rooted}
@@ -228,9 +227,11 @@ pub root_infinity : (x : Float) → of_bits binary64 9218868437227405312 ≡ x �
 unfolding sqrt of_bits
 root_infinity x e = sym e ∙ ap (sqrt binary64) e
 
-pub root_nan : (x : Float) → ne x x ≡ true → x ≡ sqrt binary64 x
-unfolding sqrt
-root_nan x e = let i : x ≡ nan = differs_from_itself x (subst T (sym e) tt) in i ∙ ap (sqrt binary64) (sym i)
+pub root_nan : (x : Float) → is_nan x ≡ true → x ≡ sqrt binary64 x
+unfolding sqrt is_nan
+root_nan nan e = refl
+root_nan (inf s) e = absurd (subst T (sym e) tt)
+root_nan (fin s m k) e = absurd (subst T (sym e) tt)
 
 -- below zero
 value_negative : (f : Format) (x : Float) (v c : ℕ) → 0 < v → 0 < c → HasValue x true v c → sqrt f x ≡ nan
@@ -277,22 +278,16 @@ number_pattern b h = subst (λ (t : Bool). T (not t)) (sym (nan_bits_above binar
     no : 9218868437227405312 < b % 9223372036854775808 → ⊥
     no l = omega arith
 
-pub not_nan : (x : Float) → ne x x ≡ false → T (not (is_nan x))
-unfolding is_nan
-not_nan nan e = absurd (subst T (sym nan_differs ∙ e) tt)
-not_nan (inf s) e = tt
-not_nan (fin s m e) h = tt
-
 -- the pattern that the machine writes for a value that is no NaN: it is read as the value, and lies at the infinity's or below, its sign aside
 pub record Written (x : Float) (b : ℕ) : Type 0 where
   pub reads : of_bits binary64 b ≡ x
   pub wide : b < 18446744073709551616
   pub number : b % 9223372036854775808 ≤ 9218868437227405312
 
-pub pattern_written : (x : Float) → fits binary64 x ≡ true → ne x x ≡ false → Written x (to_bits binary64 x)
+pub pattern_written : (x : Float) → fits binary64 x ≡ true → is_nan x ≡ false → Written x (to_bits binary64 x)
 pattern_written x g e =
     let i : T (fits binary64 x) = subst T (sym g) tt in
     let b = to_bits binary64 x in
     let r : of_bits binary64 b ≡ x = of_bits-to_bits binary64 x i in
     let n : ltb 9218868437227405312 (b % 9223372036854775808) ≡ is_nan x = sym (nan_bits_above binary64 b) ∙ nan_bits_is binary64 b ∙ ap is_nan r in
-    record { reads = r; wide = to_bits-lt binary64 x i; number = nltb→le 9218868437227405312 (b % 9223372036854775808) (subst (λ (t : Bool). T (not t)) (sym n) (not_nan x e)) }
+    record { reads = r; wide = to_bits-lt binary64 x i; number = nltb→le 9218868437227405312 (b % 9223372036854775808) (subst (λ (t : Bool). T (not t)) (sym (n ∙ e)) tt) }

@@ -150,7 +150,7 @@ fn guess(bits: u64) -> u64
     let t = x * z + CUT - CUT;
     let r = x - t * t;
     let g = t + r / (2.0 * t + 0.5 * z * r);
-    if g != g {
+    if g.is_nan() {
         return HID;
     }
     HID + f64::to_bits(g) % HID
@@ -215,7 +215,7 @@ fn positive_root(x: Positive) -> f64
 pub fn root(x: f64) -> f64
     ensures { result ≡ sqrt binary64 x }
 {
-    if x != x {
+    if x.is_nan() {
         return x;
     }
     let bits = f64::to_bits(x);

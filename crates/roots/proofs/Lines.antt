@@ -107,11 +107,3 @@ module _ {i : ℕ} {first now held holds : Option (List ℕ)} (more : Option (Li
           let none : 8 ≤ length (drop (8 * i) input) → ⊥ = λ h. (let whole : b ≡ true = q.1 h in cc) in
           let turns : i ≡ length input / 8 = omega (arith, r.0, length-drop (8 * i) input, none) in
           λ short. subst (λ (k : ℕ). Appends held more (lines (k + 1) input)) turns p
-
--- where the turns were used up, the input was too long
-pub never_used_up : {i : ℕ} {first now held holds : Option (List ℕ)} → Turned i first now held holds → 18446744073709551615 ≤ i → IfSome first (λ input. length input < 18446744073709551616 → Appends held holds (text input))
-never_used_up {i} {first} {now} {held} {holds} t h = go first t.rest
-  where
-    go : (a : Option (List ℕ)) → IfSome a (λ input. (8 * i ≤ length input) × (now ≡ Some (drop (8 * i) input))) → IfSome a (λ input. length input < 18446744073709551616 → Appends held holds (text input))
-    go None r = tt
-    go (Some input) r = λ short. let long = r.0 in absurd (omega arith)

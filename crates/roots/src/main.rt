@@ -29,7 +29,7 @@ fn root_bits(bits: u64) -> u64
         return NAN;
     }
     let x = root::root(f64::from_bits(bits));
-    if x != x {
+    if x.is_nan() {
         return NAN;
     }
     f64::to_bits(x)

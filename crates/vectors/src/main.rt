@@ -47,7 +47,8 @@ fn answer_next<R: Read, W: Write>(k: u64, from: &mut R, to: &mut W) -> Result<bo
     answer_book(&mut space, size, from, to)
 }
 
-// Answers all books of a stream, up to a million.
+// Answers all books of a stream, up to a million. A proved loop has to end, and nothing says that the input does; no
+// stream of tests has as many.
 fn answer_all<R: Read, W: Write>(from: &mut R, to: &mut W) -> Result<()>
     ensures { OnOk result (StreamAnswered
         (R.remaining from.old) (R.remaining from.new) (W.contents to.old) (W.contents to.new)) }

@@ -1,5 +1,5 @@
 -- `roots::print_all` meets its contract. Assumes nothing.
-use Rattle.roots.proofs.Lines.{none_turned, turned_on, all_printed, never_used_up}
+use Rattle.roots.proofs.Lines.{none_turned, turned_on, all_printed}
 use Rattle.roots.proofs.print_all.Goals as goal
 
 pub loop-turn-init : goal.loop-turn-init
