@@ -40,10 +40,8 @@ fn test_whole<'a>(book: Book<'a>, places: usize, bytes: usize) -> Result<Tested<
     }
     let legs = match book_rows::lowest_row(&book) {
         Ok(()) => Ok(()),
-        Err(refusal) => match refusal {
-            Refusal::BadLeg => Err(refusal),
-            _ => return Err(refusal),
-        },
+        Err(refusal) if refusal != Refusal::BadLeg => return Err(refusal),
+        Err(bad_leg) => Err(bad_leg),
     };
     let book = ValidBook::new(book);
     Ok(Tested { book, legs })

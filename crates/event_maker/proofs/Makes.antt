@@ -1,15 +1,19 @@
 -- The entry: what is lent, as the movement that its parts are called with.
 use mathlib.Core.Path.{◌≡◌, refl, sym, ap, ◌∙◌, subst}
-use mathlib.Core.Bool.{Bool, true, false}
+use mathlib.Core.Bool.{Bool, true, false, true≢false}
 use mathlib.Core.List.{List, [], ◌∷◌, ◌++◌}
 use Prim.Native.Nat.{ℕ, ◌/◌, ◌≤◌, min}
 use native.Mathlib.Omega.{arith}
 use lib.Dec.{T, ltb}
 use lib.ListN.{length, get_or}
 use lib.Ieee.{Float, nan, binary64, fits}
+use Rattle.std.specs.Prelude.{Result, Ok, Err}
+use Rattle.std.specs.Result.{is_err}
+use Rattle.refusals.specs.declared.Refusal.{Refusal}
+use Rattle.refusals.specs.Refusals.{told}
 use Rattle.laws.specs.Answer.{Answer, refused, given}
 use Rattle.laws.specs.Refusals.{row, first_of}
-use Rattle.space.specs.Space.{zero_floats}
+use Rattle.space.specs.Space.{zeros, zero_floats}
 use Rattle.event_walk.specs.declared.Movement.{Movement}
 use Rattle.event_walk.specs.Course.{Course, course_of, Held, Walkable}
 use Rattle.event_walk.specs.Walk.{points_passed, row11}
@@ -57,13 +61,35 @@ module _ (train : Float) (samples : List ℕ) (offsets : List Float) (links : Li
           ∙ ap (λ (n : ℕ). answer_of lent samples (list_places n u)) p
           ∙ ap (λ (n : ℕ). answer_of lent samples (list_places F n)) q
 
-    -- the list of an accepted leg
-    module _ (n : ℕ) where
-      pub made-floats : (f F : ℕ) → f ≡ F → (fs : List Float) → FloatsListed (given n) course f fs → fs ≡ floats_as (given n) lent F
-      made-floats f F p fs l = l ∙ ap (λ (c : Course). floats_as (given n) c f) course_is ∙ ap (floats_as (given n) lent) p
+    -- the list of a leg that is refused or not, as it stands behind `is_err`
+    module _ (r : Result ℕ Refusal) where
+      pub refused-floats : is_err r ≡ true → (F : ℕ) → zero_floats F ≡ floats_as (told r) lent F
+      refused-floats e F = go r e
+        where
+          go : (r : Result ℕ Refusal) → is_err r ≡ true → zero_floats F ≡ floats_as (told r) lent F
+          go (Ok n) e = absurd (true≢false (sym e))
+          go (Err x) e = refl
 
-      pub made-numbers : (u U : ℕ) → u ≡ U → (us : List ℕ) → NumbersListed (given n) course links u us → us ≡ numbers_as (given n) lent links U
-      made-numbers u U p us l = l ∙ ap (λ (c : Course). numbers_as (given n) c links u) course_is ∙ ap (numbers_as (given n) lent links) p
+      pub refused-numbers : is_err r ≡ true → (U : ℕ) → zeros U ≡ numbers_as (told r) lent links U
+      refused-numbers e U = go r e
+        where
+          go : (r : Result ℕ Refusal) → is_err r ≡ true → zeros U ≡ numbers_as (told r) lent links U
+          go (Ok n) e = absurd (true≢false (sym e))
+          go (Err x) e = refl
+
+      pub made-floats : is_err r ≡ false → (f F : ℕ) → f ≡ F → (fs : List Float) → FloatsListed (told r) course f fs → fs ≡ floats_as (told r) lent F
+      made-floats e f F p fs l = go r e l
+        where
+          go : (r : Result ℕ Refusal) → is_err r ≡ false → FloatsListed (told r) course f fs → fs ≡ floats_as (told r) lent F
+          go (Ok n) e l = l ∙ ap (λ (c : Course). floats_as (given n) c f) course_is ∙ ap (floats_as (given n) lent) p
+          go (Err x) e l = absurd (true≢false e)
+
+      pub made-numbers : is_err r ≡ false → (u U : ℕ) → u ≡ U → (us : List ℕ) → NumbersListed (told r) course links u us → us ≡ numbers_as (told r) lent links U
+      made-numbers e u U p us l = go r e l
+        where
+          go : (r : Result ℕ Refusal) → is_err r ≡ false → NumbersListed (told r) course links u us → us ≡ numbers_as (told r) lent links U
+          go (Ok n) e l = l ∙ ap (λ (c : Course). numbers_as (given n) c links u) course_is ∙ ap (numbers_as (given n) lent links) p
+          go (Err x) e l = absurd (true≢false e)
 
 -- ---- how many events an accepted list has at most
 

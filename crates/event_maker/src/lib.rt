@@ -204,12 +204,10 @@ pub fn make_events(
         offsets,
         movement,
     };
-    match list_events(&course, links, floats, numbers) {
-        Ok(count) => Ok(count),
-        Err(refusal) => {
-            Zero::clear(floats);
-            Zero::clear(numbers);
-            Err(refusal)
-        }
+    let made = list_events(&course, links, floats, numbers);
+    if made.is_err() {
+        Zero::clear(floats);
+        Zero::clear(numbers);
     }
+    made
 }

@@ -19,8 +19,8 @@ bounds-marks-link c =
     let r = c.book-rows.ensures in
     walk_link c.loop-j.invariant c.loop-j-test.true _ (rw r.is at c.leg_at-link.ensures) (subst Readable r.is r.readable) c.requires.marks_room
 
-pub returns-then-marks-link-clause-value : goal.returns-then-marks-link-clause-value
-returns-then-marks-link-clause-value c =
+pub returns-then-marks-link-clause-answer : goal.returns-then-marks-link-clause-answer
+returns-then-marks-link-clause-answer c =
     walk_found c.loop-j.invariant c.loop-j-test.true _ (rw c.book-rows.ensures.is at c.leg_at-link.ensures) c.if-marks-link.true
 
 pub bounds-marks-link-in-loop-j : goal.bounds-marks-link-in-loop-j
@@ -39,5 +39,5 @@ loop-j-preserved c =
     let e = rw r.is at c.leg_at-link.ensures in
     walk_on w h _ e _ (walk_link w h _ e (subst Readable r.is r.readable) c.requires.marks_room) c.if-marks-link.false (next_child c.requires.chained w h)
 
-pub returns-clause-value : goal.returns-clause-value
-returns-clause-value c = walk_none c.loop-j.invariant c.loop-j-test.false
+pub returns-clause-answer : goal.returns-clause-answer
+returns-clause-answer c = walk_none c.loop-j.invariant c.loop-j-test.false

@@ -3,7 +3,7 @@ use mathlib.Core.Path.{sym, ap, ◌∙◌}
 use Rattle.space.specs.Space.{zeros, zero_floats}
 use Rattle.refusals.proofs.Answers.{handed_on}
 use Rattle.refusals.proofs.Numbers.{refusal_some}
-use Rattle.event_maker.proofs.Makes.{rows_answer, lent_held, lent_walkable, made_answer, made-floats, made-numbers}
+use Rattle.event_maker.proofs.Makes.{rows_answer, lent_held, lent_walkable, made_answer, refused-floats, refused-numbers, made-floats, made-numbers}
 use Rattle.event_maker.proofs.make_events.Goals as goal
 
 pub returns-in_err-first_refusal : goal.returns-in_err-first_refusal
@@ -25,23 +25,26 @@ invariant_of-course c =
       walkable = lent_walkable a.train_length a.samples.now a.offsets.now a.links.now _ c.min.ensures d c.type_inv.offsets c.well_formed.0.1;
     }
 
-pub returns-in-Ok : goal.returns-in-Ok
-returns-in-Ok c =
+pub returns-then-is_err : goal.returns-then-is_err
+returns-then-is_err c =
     let a = c.args in
     let d = sym c.in_ok-first_refusal.ensures in
-    let l = c.in-Ok.ensures in
+    let m = c.list_events-made in
+    let e = sym c.is_err.ensures.value ∙ c.if-is_err.true in
     record {
-      answer = made_answer a.train_length a.samples.now a.offsets.now a.links.now _ c.min.ensures d _ _ _ _ _ c.clear.auto.s c.clear-2.auto.s l.answer;
-      floats = made-floats a.train_length a.samples.now a.offsets.now a.links.now _ c.min.ensures d _ _ _ c.clear.auto.s _ l.floats;
-      numbers = made-numbers a.train_length a.samples.now a.offsets.now a.links.now _ c.min.ensures d _ _ _ c.clear-2.auto.s _ l.numbers;
+      answer = made_answer a.train_length a.samples.now a.offsets.now a.links.now _ c.min.ensures d _ _ _ _ _ c.clear.auto.s c.clear-2.auto.s m.ensures.answer;
+      floats = c.clear-then-is_err.ensures ∙ ap zero_floats (m.auto.floats ∙ c.clear.auto.s) ∙ refused-floats a.train_length a.samples.now a.offsets.now a.links.now _ c.min.ensures d _ e _;
+      numbers = c.clear-then-is_err-2.ensures ∙ ap zeros (m.auto.numbers ∙ c.clear-2.auto.s) ∙ refused-numbers a.train_length a.samples.now a.offsets.now a.links.now _ c.min.ensures d _ e _;
     }
 
-pub returns-in-Err : goal.returns-in-Err
-returns-in-Err c =
+pub returns-else-is_err : goal.returns-else-is_err
+returns-else-is_err c =
     let a = c.args in
     let d = sym c.in_ok-first_refusal.ensures in
+    let l = c.list_events-made.ensures in
+    let e = sym c.is_err.ensures.value ∙ c.if-is_err.false in
     record {
-      answer = made_answer a.train_length a.samples.now a.offsets.now a.links.now _ c.min.ensures d _ _ _ _ _ c.clear.auto.s c.clear-2.auto.s c.in-Err.ensures.answer;
-      floats = c.clear-in-Err.ensures ∙ ap zero_floats (c.list_events.auto.floats ∙ c.clear.auto.s);
-      numbers = c.clear-in-Err-2.ensures ∙ ap zeros (c.list_events.auto.numbers ∙ c.clear-2.auto.s);
+      answer = made_answer a.train_length a.samples.now a.offsets.now a.links.now _ c.min.ensures d _ _ _ _ _ c.clear.auto.s c.clear-2.auto.s l.answer;
+      floats = made-floats a.train_length a.samples.now a.offsets.now a.links.now _ c.min.ensures d _ e _ _ c.clear.auto.s _ l.floats;
+      numbers = made-numbers a.train_length a.samples.now a.offsets.now a.links.now _ c.min.ensures d _ e _ _ c.clear-2.auto.s _ l.numbers;
     }
