@@ -21,6 +21,7 @@ use grow_origins::StartingBook;
 use grow_state::{Front, Plan, PlannedBook, Rest, State};
 use net_event_map::Layout;
 use net_join_paths::JoinPaths;
+use net_joins::RebuildScratch;
 use net_stack::Stack;
 use refusals::Refusal;
 use report::Report;
@@ -56,8 +57,7 @@ fn drive(
     reals: &mut [f64],
     cells: &mut [u32],
     joins: &mut JoinPaths,
-    scratch: &mut JoinPaths,
-    stack: &mut Stack,
+    scratch: &mut RebuildScratch,
     g: Rest,
 ) -> Result<Counts, Refusal>
     requires reals_room { RealsRoom p.now.book.now reals.old }
@@ -76,7 +76,7 @@ fn drive(
             return Ok(state.rest.counts);
         };
         state = grow_leg::turn(
-            p, floats, numbers, reals, cells, joins, scratch, stack, rest, front,
+            p, floats, numbers, reals, cells, joins, scratch, rest, front,
         )?;
     }
     Ok(state.rest.counts)
@@ -120,8 +120,7 @@ fn run_all(
     reals: &mut [f64],
     cells: &mut [u32],
     joins: &mut JoinPaths,
-    scratch: &mut JoinPaths,
-    stack: &mut Stack,
+    scratch: &mut RebuildScratch,
 ) -> Result<Report, Refusal>
     requires reals_room { RealsRoom p.now.planned.book.now reals.old }
     requires at_start { AtStart p.now.planned.book.now p.now.planned.plan
@@ -133,7 +132,7 @@ fn run_all(
     let g = grow_origins::first_state();
     let rest = grow_origins::origins(p, floats, numbers, reals, cells, joins, g)?;
     let counts = drive(
-        &p.planned, floats, numbers, reals, cells, joins, scratch, stack, rest,
+        &p.planned, floats, numbers, reals, cells, joins, scratch, rest,
     )?;
     close(floats, numbers, cells, p.planned.plan.w, counts)
 }
@@ -167,16 +166,9 @@ pub fn grow_book(
     grow_ends::first_nodes(floats, numbers, plan.departure);
     grow_path::start_path(reals);
     let mut joins = JoinPaths::new();
-    let mut scratch = JoinPaths::new();
-    let mut stack = Stack::new();
-    run_all(
-        &p,
-        floats,
-        numbers,
-        reals,
-        cells,
-        &mut joins,
-        &mut scratch,
-        &mut stack,
-    )
+    let mut scratch = RebuildScratch {
+        list: JoinPaths::new(),
+        stack: Stack::new(),
+    };
+    run_all(&p, floats, numbers, reals, cells, &mut joins, &mut scratch)
 }

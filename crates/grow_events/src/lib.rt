@@ -13,9 +13,8 @@ use event_walk::{Course, PassedPoints};
 use net_event_map::Layout;
 use net_insertion::{Insertion, Place};
 use net_join_paths::JoinPaths;
-use net_joins::Step;
+use net_joins::{RebuildScratch, Step};
 use net_node::TimedEvent;
-use net_stack::Stack;
 use refusals::Refusal;
 
 // What is counted of a network: its nodes, event nodes, split Fakes and joins; and the latest node at which a run has
@@ -123,8 +122,7 @@ pub fn run_event(
     w: Layout,
     join: f64,
     joins: &mut JoinPaths,
-    scratch: &mut JoinPaths,
-    stack: &mut Stack,
+    scratch: &mut RebuildScratch,
     c: Counts,
     m: Mover,
     e: TimedEvent,
@@ -139,9 +137,7 @@ pub fn run_event(
         let (counts, mover) = insert_event(floats, numbers, cells, w, join, c, m, e)?;
         return Ok(RunOutcome::On(counts, mover));
     }
-    let step = net_joins::join_step(
-        floats, numbers, c.nodes, cells, w, join, joins, scratch, stack, e,
-    )?;
+    let step = net_joins::join_step(floats, numbers, c.nodes, cells, w, join, joins, scratch, e)?;
     match step {
         Step::Joined(_) => Ok(RunOutcome::Ended(with_joined(c))),
         Step::Waits => {
@@ -172,8 +168,7 @@ pub fn run_events(
     w: Layout,
     join: f64,
     joins: &mut JoinPaths,
-    scratch: &mut JoinPaths,
-    stack: &mut Stack,
+    scratch: &mut RebuildScratch,
     c: Counts,
     m: Mover,
 ) -> Result<RunOutcome, Refusal>
@@ -193,7 +188,7 @@ pub fn run_events(
         }
         let e = grow_path::event_at(cells, p);
         let became = run_event(
-            floats, numbers, cells, w, join, joins, scratch, stack, counts, mover, e,
+            floats, numbers, cells, w, join, joins, scratch, counts, mover, e,
         );
         // One pattern for both, `Ok(RunOutcome::On(..))`, was tried: its proof didn't close.
         let Ok(outcome) = became else {

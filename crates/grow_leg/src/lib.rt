@@ -20,7 +20,7 @@ use event_walk::Course;
 use grow_events::{Counts, RunOutcome};
 use grow_state::{Front, Plan, PlannedBook, Rest, State};
 use net_join_paths::JoinPaths;
-use net_stack::Stack;
+use net_joins::RebuildScratch;
 use refusals::Refusal;
 
 // The links over which a run can go on. Of two the alternative is saved.
@@ -240,8 +240,7 @@ fn walk_leg(
     reals: &mut [f64],
     cells: &mut [u32],
     joins: &mut JoinPaths,
-    scratch: &mut JoinPaths,
-    stack: &mut Stack,
+    scratch: &mut RebuildScratch,
     g: Rest,
     front: Front,
 ) -> Result<RunOutcome, Refusal>
@@ -276,7 +275,6 @@ fn walk_leg(
         plan.join,
         joins,
         scratch,
-        stack,
         g.counts,
         front.mover,
     )
@@ -290,8 +288,7 @@ pub fn turn(
     reals: &mut [f64],
     cells: &mut [u32],
     joins: &mut JoinPaths,
-    scratch: &mut JoinPaths,
-    stack: &mut Stack,
+    scratch: &mut RebuildScratch,
     g: Rest,
     front: Front,
 ) -> Result<State, Refusal>
@@ -301,9 +298,7 @@ pub fn turn(
     ensures { TakesLeg p.now.book.now p.now.plan g front (lists_at_entry floats numbers reals cells joins)
         (lists_at_exit floats numbers reals cells joins) result }
 {
-    let became = walk_leg(
-        p, floats, numbers, reals, cells, joins, scratch, stack, g, front,
-    )?;
+    let became = walk_leg(p, floats, numbers, reals, cells, joins, scratch, g, front)?;
     match became {
         RunOutcome::Ended(counts) => Ok(State {
             rest: Rest { counts, ..g },

@@ -10,7 +10,7 @@ ghost use Rattle.net_join_paths.specs.declared.EstJoinPath.{EstJoinPath};
 ghost use Rattle.net_join_paths.specs.Entries.{Valid};
 ghost use Rattle.net_node.specs.Lent.{nodes_at_entry, table_at_entry};
 ghost use Rattle.net_node.specs.Held.{nodes_held};
-ghost use Rattle.net_joins.specs.Joins.{closer, closest, chain_end, join_fake, join_at, joined_table, joins_if};
+ghost use Rattle.net_joins.specs.Joins.{closer, closest, chain_end, join_at, joined_table, joins_if};
 ghost use Rattle.net_joins.specs.Joins.{join_step, StepAs, SteppedInto};
 ghost use Rattle.net_joins.specs.Marks.{marks, NamesMarked, Ending, MapWalkable, AppendsChain, AppendsNodes};
 ghost use Rattle.net_joins.specs.Marks.{GoesOnWith, MapKept};
@@ -27,6 +27,14 @@ use refusals::Refusal;
 pub struct SpeedJoin {
     pub speed_diff_join: f64,
     pub est_idx_join: u32,
+}
+
+// What a run's list is rebuilt in: the new list, and the stack of the walks that give its entries. Both are cleared
+// where they are taken up, so contracts say nothing of what they hold.
+#[derive(Drop)]
+pub struct RebuildScratch {
+    pub list: JoinPaths,
+    pub stack: Stack,
 }
 
 // What becomes of a run at an event: it has joined a node, or it waits for its next event with the list it has then. No
@@ -95,19 +103,8 @@ fn chain_end(nodes: &Nodes, start: u32) -> u32
     }
 }
 
-// A join's Fake, between the last node and the end of the chain.
-#[tactic(auto, unfolding(crate::specs::Joins::join_fake))]
-fn join_fake(next: u32, prev: u32) -> EstTime
-    ensures { result ≡ join_fake next prev }
-{
-    EstTime {
-        idx_next: next,
-        idx_prev: prev,
-        ..EstTime::BLANK
-    }
-}
-
-// The last of n nodes is linked to the end of a chain through a new Fake. The end may be the last node itself.
+// The last of n nodes is linked to the end of a chain through a new Fake, which lies between them. The end may be the
+// last node itself.
 fn join_at(floats: &mut [f64], numbers: &mut [u32], n: u32, end: u32, e: TimedEvent)
     requires end_lt_n { end < n }
     requires float_width_in_bounds { n * float_width + float_width ≤ length floats.old }
@@ -122,7 +119,11 @@ fn join_at(floats: &mut [f64], numbers: &mut [u32], n: u32, end: u32, e: TimedEv
     };
     net_node::store(floats, numbers, end as usize, joined);
     let last = n - 1;
-    let fake = join_fake(end, last);
+    let fake = EstTime {
+        idx_next: end,
+        idx_prev: last,
+        ..EstTime::BLANK
+    };
     net_node::store(floats, numbers, n as usize, fake);
     let before = net_node::load(floats, numbers, last as usize);
     let linked = net_insertion::link_to(before, n, e);
@@ -247,25 +248,25 @@ fn join_target(
     Ok(Step::Joined(target))
 }
 
-// The run goes on: what no entry names is appended to the list in `scratch`, and the list is left in `joins`.
+// The run goes on: what no entry names is appended to the rebuilt list, and the list is left in `joins`.
 fn go_on(
     cells: &mut [u32],
     w: Layout,
     event: LinkEvent,
-    scratch: &mut JoinPaths,
+    rebuilt: &mut JoinPaths,
     joins: &mut JoinPaths,
 ) -> Result<Step, Refusal>
     requires cells_apart { CellsApart cells.old w }
     requires real { Real event w.links }
-    requires valid { Valid scratch.old.items w.places }
+    requires valid { Valid rebuilt.old.items w.places }
     requires map_walkable { MapWalkable cells.old w }
-    ensures answer { GoesOnWith cells.old w event scratch.old.items joins.new.items result }
+    ensures answer { GoesOnWith cells.old w event rebuilt.old.items joins.new.items result }
     ensures cells { MapKept cells.old cells.new w }
 {
-    add_new_join_paths(cells, w, event, scratch)?;
+    add_new_join_paths(cells, w, event, rebuilt)?;
     joins.clear();
     joins
-        .try_extend_from_slice(scratch)
+        .try_extend_from_slice(rebuilt)
         .map_err(|_| Refusal::NoPlace)?;
     Ok(Step::Waits)
 }
@@ -280,8 +281,7 @@ pub fn join_step(
     w: Layout,
     join: f64,
     joins: &mut JoinPaths,
-    scratch: &mut JoinPaths,
-    stack: &mut Stack,
+    scratch: &mut RebuildScratch,
     est_time_add: TimedEvent,
 ) -> Result<Step, Refusal>
     requires room { Room floats.old numbers.old w.places }
@@ -306,8 +306,17 @@ pub fn join_step(
         numbers,
         count: n,
     };
-    net_strands::update_join_paths_space(&nodes, event, seen, joins, cells, w, stack, scratch)?;
-    let best = closest_of(floats, numbers, n, scratch, join, est_time_add.speed);
+    net_strands::update_join_paths_space(
+        &nodes,
+        event,
+        seen,
+        joins,
+        cells,
+        w,
+        &mut scratch.stack,
+        &mut scratch.list,
+    )?;
+    let best = closest_of(floats, numbers, n, &scratch.list, join, est_time_add.speed);
     if best.speed_diff_join < join {
         return join_target(
             floats,
@@ -318,5 +327,5 @@ pub fn join_step(
             est_time_add,
         );
     }
-    go_on(cells, w, event, scratch, joins)
+    go_on(cells, w, event, &mut scratch.list, joins)
 }

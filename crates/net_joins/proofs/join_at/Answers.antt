@@ -1,16 +1,18 @@
 -- `net_joins::join_at` meets its contract: `Stored` has its three stores.
 use mathlib.Core.Path.{refl}
+use Rattle.net_joins.specs.Joins.{join_fake}
 use Rattle.net_joins.proofs.Stores.{join_stored}
 use Rattle.net_joins.proofs.join_at.Goals as goal
 
 pub returns : goal.returns
+unfolding join_fake
 returns c =
     let all = join_stored (record {
       load = c.load-node.ensures;
       joined = refl;
       floats = c.store.ensures.floats;
       numbers = c.store.ensures.numbers;
-      fake = c.join_fake-fake.ensures;
+      fake = refl;
       floats_then = c.store-2.ensures.floats;
       numbers_then = c.store-2.ensures.numbers;
       load_then = c.load-before.ensures;
