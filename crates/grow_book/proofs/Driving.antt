@@ -16,7 +16,7 @@ use Rattle.laws.proofs.Members.{All}
 use Rattle.book_format.specs.Format.{legs}
 use Rattle.book_format.proofs.Given.{limits}
 use Rattle.book_options.specs.Options.{kept_origins}
-use Rattle.grow_waiting.specs.declared.Rooms.{Rooms}
+use Rattle.grow_waiting.specs.declared.rooms.Rooms.{Rooms}
 use Rattle.grow_waiting.specs.Held.{Waiting, SavedIn}
 use Rattle.grow_waiting.proofs.Kept.{saved_end}
 use Rattle.grow_rules.specs.Run.{Net, Run}

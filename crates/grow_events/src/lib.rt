@@ -19,7 +19,7 @@ use refusals::Refusal;
 
 // What is counted of a network: its nodes, event nodes, split Fakes and joins; and the latest node at which a run has
 // finished, or 0: so the cells that chain the ends hold it too, and an Option would only be made of it and back.
-#[derive(Clone, Copy)]
+#[derive(Clone, Copy, Default)]
 pub struct Counts {
     pub nodes: usize,
     pub added: usize,
@@ -36,7 +36,8 @@ pub struct Mover {
     pub has_split: bool,
 }
 
-// What becomes of a run at an event, or at all of a leg: it goes on, or it has ended by a join.
+// What becomes of a run at an event, or at all of a leg: it goes on, or it has ended by a join. The two cases have names:
+// beside the counts, `None` for the mover would say that no run moves, and not that this one has ended.
 #[derive(Clone, Copy)]
 pub enum RunOutcome {
     On(Counts, Mover),
@@ -57,7 +58,8 @@ fn with_added(c: Counts, node: u32, split: bool) -> Counts
     }
 }
 
-// Inserts an event at a run's place; a node that is added is put into the map of events.
+// Inserts an event at a run's place; a node that is added is put into the map of events. `w` and `join` go together in
+// this crate alone: a struct of both would stand in the plan above, of which many functions take `w` and no gap.
 pub fn insert_event(
     floats: &mut [f64],
     numbers: &mut [u32],

@@ -91,13 +91,20 @@ module _ {b b' : List ℕ} (same : b' ≡ b) (readable : Readable b') (l : ℕ) 
 
   -- what a mark says of one of them
   module _ {marks : List ℕ} (k : OptionsIn b marks) where
-    pub next_in : (r : Bool) → r ≡ eqb (get_or marks x.idx_next 0 % 2) 1 → in_set b (link_next b l) ≡ r
+    next_in : (r : Bool) → r ≡ eqb (get_or marks x.idx_next 0 % 2) 1 → in_set b (link_next b l) ≡ r
     next_in r f = sym (f ∙ ap (λ (n : ℕ). eqb (get_or marks n 0 % 2) 1) next_is
         ∙ k.set (link_next b l) (next_named b indices l h))
 
-    pub alt_in : (r : Bool) → r ≡ eqb (get_or marks x.idx_next_alt 0 % 2) 1 → in_set b (link_next_alt b l) ≡ r
+    alt_in : (r : Bool) → r ≡ eqb (get_or marks x.idx_next_alt 0 % 2) 1 → in_set b (link_next_alt b l) ≡ r
     alt_in r f = sym (f ∙ ap (λ (n : ℕ). eqb (get_or marks n 0 % 2) 1) alt_is
         ∙ k.set (link_next_alt b l) (next_alt_named b indices l h))
+
+    -- the ways by both marks
+    pub ways_by : (m a : Bool) → eqb x.idx_next 0 ≡ false → m ≡ eqb (get_or marks x.idx_next 0 % 2) 1
+        → a ≡ eqb (get_or marks x.idx_next_alt 0 % 2) 1
+        → ways_as false m a x.idx_next x.idx_next_alt ≡ ways_as (eqb (link_next b l) 0) (in_set b (link_next b l))
+        (in_set b (link_next_alt b l)) (link_next b l) (link_next_alt b l)
+    ways_by m a z f g = ways_are false m a z (next_in m f) (alt_in a g)
 
 -- ---- what the run does with them
 

@@ -29,7 +29,7 @@ use Rattle.grow_state.specs.declared.Plan.{Plan}
 use Rattle.grow_state.specs.declared.Front.{Front}
 use Rattle.grow_state.specs.declared.Rest.{Rest}
 use Rattle.grow_state.specs.Held.{PlanIn, GivesAs, idle, lists}
-use Rattle.grow_state.proofs.Keeping.{plan_room, chained_same, wait_same}
+use Rattle.grow_state.proofs.Keeping.{chained_same, wait_same}
 use Rattle.grow_events.proofs.Kept.{net_anew, counts_with}
 use Rattle.grow_leg.specs.OneLeg.{AtEnd}
 
@@ -161,7 +161,7 @@ module _ {b : List ℕ} {p : Plan} {fs : List Float} {us : List ℕ} {reals : Li
           };
           short = a.short;
           waiting = wait_same (record {
-            fields = λ j k l s t. other (j * 8 + k) (λ e. omega (arith, plan_room plan, plan.same_nodes));
+            fields = λ j k l s t. other (j * 8 + k) (λ e. omega (arith, p.r.legs_before, plan.same_nodes));
             entries = λ j k l s t. other (p.r.nodes_at + j * 8 + k) (λ e. omega (arith, plan.same_nodes));
             reals = λ q l. refl;
           }) a.waiting;

@@ -30,7 +30,7 @@ use Rattle.grow_state.specs.declared.Plan.{Plan}
 use Rattle.grow_state.specs.declared.Front.{Front}
 use Rattle.grow_state.specs.declared.Rest.{Rest}
 use Rattle.grow_state.specs.Held.{PlanIn, GivesAs, RunSound, Begins, Prefixes, Lists, path_before, with_front, lists}
-use Rattle.grow_state.proofs.Keeping.{plan_legs, plan_room}
+use Rattle.grow_state.proofs.Keeping.{plan_legs}
 use Rattle.grow_events.proofs.Kept.{net_same}
 use Rattle.grow_leg.specs.OneLeg.{AtEnd, Free, SavedOver, SavedAs}
 use Rattle.grow_leg.proofs.Paths.{path_long, before_child}
@@ -241,7 +241,7 @@ module _ {b : List ℕ} {p : Plan} {fs : List Float} {us : List ℕ} {reals : Li
         ends-left k h =
             let e : p.r.nodes_at + k * 8 + 2 ≡ ends_at p.w + k * 8 = omega (arith, plan.same_nodes) in
             subst (λ (q : ℕ). get_or cells' q 0 ≡ get_or cells q 0) e
-            (node_left else (plan_room plan) k 2 (omega (arith, plan.same_places)) (omega arith))
+            (node_left else k 2 (omega (arith, plan.same_places)) (omega arith))
 
         others : Untaken x.number a.waiting.runs
         others = subst (λ (j : ℕ). Untaken j a.waiting.runs) (sym child.number)
@@ -255,10 +255,10 @@ module _ {b : List ℕ} {p : Plan} {fs : List Float} {us : List ℕ} {reals : Li
           is = save_is ∙ ap (λ (s : Bool). fits_in s (taking false ∷ rest))
               (le-ltb p.r.places (g.used + length joins) room);
           ends = record {
-            grown = net_same a.grown cells' long (save_mapped else (plan_room plan) a.grown.apart (sym plan.same_nodes)
+            grown = net_same a.grown cells' long (save_mapped else a.grown.apart (sym plan.same_nodes)
                 (sym plan.same_places) a.grown.within a.grown.mapped) ends-left;
-            chained = save_chained else (plan_room plan) (omega (arith, plan.all_legs)) long a.chained;
-            kept = save_path else (plan_room plan) (omega (arith, a.short, plan.all_legs))
+            chained = save_chained else (omega (arith, plan.all_legs)) long a.chained;
+            kept = save_path else (omega (arith, a.short, plan.all_legs))
                 (omega (arith, a.short, plan.pairs_at)) a.kept;
             short = a.short;
             front = a.front;

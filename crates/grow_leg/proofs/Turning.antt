@@ -33,7 +33,7 @@ use Rattle.std.specs.Prelude.{Result, Ok, Err}
 use Rattle.refusals.specs.declared.Refusal.{Refusal}
 use Rattle.grow_state.specs.Held.{PlanIn, DriveIn, WaitIn, AllSound, Prefixes, SeparateFrom, GivesAs, TurnedAs}
 use Rattle.grow_state.specs.Held.{path_before, idle, with_front, lists}
-use Rattle.grow_state.proofs.Keeping.{plan_room, chained_same, wait_same, sound_more}
+use Rattle.grow_state.proofs.Keeping.{chained_same, wait_same, sound_more}
 use Rattle.grow_leg.specs.OneLeg.{outcome_as, leg_outcome, WalkedAs, AtEnd, SomeWay, Free}
 use Rattle.grow_leg.proofs.Paths.{path_is}
 use Rattle.grow_path.proofs.Paths.{path_most}
@@ -95,7 +95,7 @@ module _ {b : List ℕ} {p : Plan} {fs : List Float} {us : List ℕ} {reals : Li
 
     waits : WaitIn b p.r reals' cells' g.top g.used saved
     waits = wait_same (record {
-      fields = λ j k h l m. left (j * 8 + k) (omega (arith, plan_room plan, plan.same_nodes)) (λ e. omega arith);
+      fields = λ j k h l m. left (j * 8 + k) (omega (arith, p.r.legs_before, plan.same_nodes)) (λ e. omega arith);
       entries = λ i k h l m. subst (λ (n : ℕ). get_or cells' (n + i * 8 + k) 0 ≡ get_or cells (n + i * 8 + k) 0)
           (sym plan.same_nodes) (entry i k (omega (arith, plan.same_places)) l m);
       reals = λ q h. w.reals_left q (λ e. omega (arith, depth_inside plan d, plan.pairs_at));

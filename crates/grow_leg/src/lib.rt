@@ -60,17 +60,14 @@ fn ways_behind(p: &PlannedBook, link_idx: u32) -> Result<Ways, Refusal>
     if link.idx_next == 0 {
         return Err(Refusal::NoWayOn);
     }
+    let by_next = leads_on(p.marks, link.idx_next);
     let by_alt = leads_on(p.marks, link.idx_next_alt);
-    if !leads_on(p.marks, link.idx_next) {
-        if by_alt {
-            return Ok(Ways::One(link.idx_next_alt));
-        }
-        return Err(Refusal::NoWayOn);
+    match (by_next, by_alt) {
+        (true, true) => Ok(Ways::Both(link.idx_next, link.idx_next_alt)),
+        (true, false) => Ok(Ways::One(link.idx_next)),
+        (false, true) => Ok(Ways::One(link.idx_next_alt)),
+        (false, false) => Err(Refusal::NoWayOn),
     }
-    if by_alt {
-        return Ok(Ways::Both(link.idx_next, link.idx_next_alt));
-    }
-    Ok(Ways::One(link.idx_next))
 }
 
 // The run at the front finishes, unless row 13 holds.
@@ -129,17 +126,8 @@ fn on_over(
     })
 }
 
-// The entries of all runs that wait, once one that has `count` of them waits too. The run at the front doesn't wait.
-fn waiting_entries(used: usize, count: usize) -> usize
-    requires used_bound { used ≤ 65535 }
-    requires count_bound { count ≤ 1024 }
-    ensures { result ≡ used + count }
-{
-    used + count
-}
-
 // The run at the front goes on over one link, and a copy of it, which has not added, is saved to go on over another.
-// Row 12: the entries of all runs that wait.
+// Row 12: the entries of all runs that wait, and of the copy. The run at the front doesn't wait.
 fn save_over(
     p: &PlannedBook,
     reals: &mut [f64],
@@ -156,7 +144,7 @@ fn save_over(
 {
     let r = p.plan.r;
     let leg = book_legs::take_leg(p.book.book(), cells, front.leg, link_idx)?;
-    let used = waiting_entries(g.used, joins.len());
+    let used = g.used + joins.len();
     if r.places < used {
         return Err(Refusal::NoPlace);
     }

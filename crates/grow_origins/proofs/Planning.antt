@@ -71,20 +71,20 @@ module _ {b b' : List ℕ} (is : b' ≡ b) (v : Readable b') where
         (book_no_nan (length_bits b) (length_float b readable.floats))
 
     -- the plan, as the code puts it together
-    abbrev plan_of : ℕ → ℕ → ℕ → Plan
-    plan_of j l places = record {
+    abbrev plan_of : (j l places : ℕ) → (j + 1) * 8 ≤ (j + 1) * 8 → Plan
+    plan_of j l places before = record {
       w = record { links_at = (j + 1) * 8 + places * 8; nodes_at = (j + 1) * 8; links = l; places = places };
-      r = record { nodes_at = (j + 1) * 8; pairs_at = j + 2; legs = j; places = places };
+      r = record { nodes_at = (j + 1) * 8; pairs_at = j + 2; legs = j; places = places; legs_before = before };
       join = of_bits binary64 head.join;
       departure = of_bits binary64 head.departure;
       length = of_bits binary64 head.length;
     }
 
     pub plan_holds : {bytes : List ℕ} → bytes ≡ b' → length bytes ≡ end_of bytes → row7 b ≡ false
-        → (j l places reals : ℕ) → j ≡ legs b' → l ≡ links b' → legs b * 3 + 4 ≤ reals
-        → PlanIn b (plan_of j l places) reals
+        → (j l places reals : ℕ) (before : (j + 1) * 8 ≤ (j + 1) * 8) → j ≡ legs b' → l ≡ links b'
+        → legs b * 3 + 4 ≤ reals → PlanIn b (plan_of j l places before) reals
     unfolding head_patterns
-    plan_holds same whole seven j l places reals many all h =
+    plan_holds same whole seven j l places reals before many all h =
         let n : j ≡ legs b = many ∙ ap legs is in
         record {
           whole = subst (λ (x : List ℕ). length x ≡ end_of x) (same ∙ is) whole;

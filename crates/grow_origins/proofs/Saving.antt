@@ -20,7 +20,7 @@ use Rattle.net_join_paths.specs.Entries.{Valid}
 use Rattle.net_event_map.specs.declared.Layout.{Layout}
 use Rattle.grow_path.specs.Path.{legs_to, path_of}
 use Rattle.grow_path.proofs.Legs.{less_one}
-use Rattle.grow_waiting.specs.declared.Rooms.{Rooms}
+use Rattle.grow_waiting.specs.declared.rooms.Rooms.{Rooms}
 use Rattle.grow_waiting.specs.Held.{Waiting, Untaken, SavedIn, waiting_of}
 use Rattle.grow_waiting.specs.Held.{SavedElsewhere}
 use Rattle.grow_waiting.proofs.Kept.{node_left, save_chained, save_path, save_mapped, saved_room}
@@ -38,7 +38,7 @@ use Rattle.refusals.specs.Refusals.{refusal_number}
 use Rattle.grow_state.specs.declared.Rest.{Rest}
 use Rattle.grow_state.specs.Held.{PlanIn, path_before, Prefixes, Separate, SeparateFrom, RunSound, AllSound, SameRuns}
 use Rattle.grow_state.specs.Held.{WaitIn, DriveIn, idle, lists}
-use Rattle.grow_state.proofs.Keeping.{plan_legs, plan_room, chained_same, wait_same, sound_more}
+use Rattle.grow_state.proofs.Keeping.{plan_legs, chained_same, wait_same, sound_more}
 use Rattle.grow_origins.specs.Origins.{OtherLinks, AllFirst, NotOver, OriginsAs, saved_origin, OriginInserted}
 
 -- ---- the leg
@@ -136,18 +136,18 @@ prefixes_none b runs path e h = subst (λ (p : List ℕ). Prefixes b p runs) (sy
 
 module _ {w : Layout} {r : Rooms} {fs : List Float} {us cells : List ℕ} {c : Counts} {net : Net}
     (v : NetIn w cells fs us cells c net) {cells' : List ℕ} {reals reals' : List Float}
-    (s : SavedElsewhere cells cells' reals reals' r) (room : (r.legs + 1) * 8 ≤ r.nodes_at)
+    (s : SavedElsewhere cells cells' reals reals' r)
     (same_nodes : r.nodes_at ≡ w.nodes_at) (same_places : r.places ≡ w.places)
     (long : length cells' ≡ length cells) where
   mark_left : (i : ℕ) → i < w.places → get_or cells' (ends_at w + i * 8) 0 ≡ get_or cells (ends_at w + i * 8) 0
   mark_left i h =
       let e : r.nodes_at + i * 8 + 2 ≡ ends_at w + i * 8 = omega (arith, same_nodes) in
       let l : get_or cells' (r.nodes_at + i * 8 + 2) 0 ≡ get_or cells (r.nodes_at + i * 8 + 2) 0 =
-      node_left s room i 2 (omega (arith, same_places)) (omega arith) in
+      node_left s i 2 (omega (arith, same_places)) (omega arith) in
       subst (λ (q : ℕ). get_or cells' q 0 ≡ get_or cells q 0) e l
 
   net_saved : NetIn w cells' fs us cells' c net
-  net_saved = net_same v cells' long (save_mapped s room v.apart (sym same_nodes) (sym same_places) v.within v.mapped)
+  net_saved = net_same v cells' long (save_mapped s v.apart (sym same_nodes) (sym same_places) v.within v.mapped)
       mark_left
 
 -- ---- all that is held, while events are inserted and no run is at the front
@@ -194,8 +194,8 @@ module _ {b : List ℕ} {p : Plan} {fs : List Float} {us : List ℕ} {reals : Li
 pub record SaveAsked (p : Plan) (g : Rest) (leg : ℕ) (joins : List EstJoinPath) : Type 0 where
   pub leg_le_legs : leg ≤ p.r.legs
   pub leg_nonzero : 0 < leg
-  pub all_legs_bound : p.r.legs ≤ 65535
-  pub count_bound : g.used + length joins ≤ p.r.places
+  pub legs_le_65535 : p.r.legs ≤ 65535
+  pub entries_fit : g.used + length joins ≤ p.r.places
 
 module _ (b : List ℕ) (p : Plan) (fs : List Float) (us : List ℕ) (reals : List Float) (cells : List ℕ)
     (joins : List EstJoinPath) (idxs : List ℕ) (g : Rest) (place : Place) (link : ℕ) (net : Net) (run : Run)
@@ -232,8 +232,8 @@ module _ (b : List ℕ) (p : Plan) (fs : List Float) (us : List ℕ) (reals : Li
     save_asks = record {
       leg_le_legs = omega (arith, plan.all_legs, leg_is.number, of.within);
       leg_nonzero = omega (arith, leg_is.number);
-      all_legs_bound = omega (arith, plan.all_legs, plan_legs plan);
-      count_bound = omega (arith, ap length none, saved_room cells reals p.r g.top g.used wait.runs wait.kept);
+      legs_le_65535 = omega (arith, plan.all_legs, plan_legs plan);
+      entries_fit = omega (arith, ap length none, saved_room cells reals p.r g.top g.used wait.runs wait.kept);
     }
 
     then : Run
@@ -293,9 +293,9 @@ module _ (b : List ℕ) (p : Plan) (fs : List Float) (us : List ℕ) (reals : Li
         is = answer_is;
         origins = record {
           holds = record {
-            grown = net_saved held.grown s (plan_room plan) plan.same_nodes plan.same_places long;
-            chained = save_chained s (plan_room plan) (omega (arith, plan.all_legs)) long held.chained;
-            kept = save_path s (plan_room plan) (omega arith) (omega (arith, plan.pairs_at)) held.kept;
+            grown = net_saved held.grown s plan.same_nodes plan.same_places long;
+            chained = save_chained s (omega (arith, plan.all_legs)) long held.chained;
+            kept = save_path s (omega arith) (omega (arith, plan.pairs_at)) held.kept;
             short = omega arith;
             waiting = wait_more;
             sound = (run_sound, held.sound);

@@ -102,10 +102,7 @@ pub fn first_state() -> Rest
 {
     let counts = Counts {
         nodes: 2,
-        added: 0,
-        splits: 0,
-        joined: 0,
-        last_end: 0,
+        ..Counts::default()
     };
     Rest {
         counts,

@@ -15,7 +15,7 @@ use lib.Ieee.{Float}
 use Rattle.book_format.specs.Format.{legs}
 use Rattle.book_format.specs.Chains.{Chained}
 use Rattle.book_format.proofs.Given.{limits}
-use Rattle.grow_waiting.specs.declared.Rooms.{Rooms}
+use Rattle.grow_waiting.specs.declared.rooms.Rooms.{Rooms}
 use Rattle.grow_waiting.proofs.Kept.{Undisturbed, saved_same}
 use Rattle.grow_rules.specs.Run.{Run}
 use Rattle.grow_events.proofs.Kept.{valid_more}
@@ -27,10 +27,6 @@ use Rattle.grow_state.specs.Held.{PlanIn, RealsRoom, WaitIn, AllSound, Lists, Tu
 module _ {b : List ℕ} {p : Plan} {n : ℕ} (a : PlanIn b p n) where
   pub plan_legs : legs b ≤ 65535
   plan_legs = (limits b a.readable.counted.counts).legs_most
-
-  -- the legs' units stand before the nodes'
-  pub plan_room : (p.r.legs + 1) * 8 ≤ p.r.nodes_at
-  plan_room = omega (arith, a.all_legs, a.nodes_at, a.same_nodes)
 
   -- more reals have room too
   pub plan_more : (m : ℕ) → n ≤ m → PlanIn b p m

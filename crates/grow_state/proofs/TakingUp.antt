@@ -10,7 +10,7 @@ use lib.Ieee.{Float}
 use Rattle.net_join_paths.specs.declared.EstJoinPath.{EstJoinPath}
 use Rattle.net_join_paths.specs.Entries.{Valid}
 use Rattle.net_insertion.specs.declared.Place.{Place}
-use Rattle.grow_waiting.specs.declared.Rooms.{Rooms}
+use Rattle.grow_waiting.specs.declared.rooms.Rooms.{Rooms}
 use Rattle.grow_waiting.specs.declared.Popped.{Popped}
 use Rattle.grow_waiting.specs.Held.{Waiting, SavedIn, SomeWaits, PoppedAs}
 use Rattle.grow_waiting.proofs.Kept.{saved_rest}

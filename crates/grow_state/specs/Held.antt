@@ -13,7 +13,7 @@ use Rattle.net_join_paths.specs.Entries.{Valid}
 use Rattle.net_join_paths.specs.declared.EstJoinPath.{EstJoinPath}
 use Rattle.arrayvec.specs.ArrayVec.{ArrayVec}
 use Rattle.grow_waiting.specs.Held.{Waiting, SavedIn}
-use Rattle.grow_waiting.specs.declared.Rooms.{Rooms}
+use Rattle.grow_waiting.specs.declared.rooms.Rooms.{Rooms}
 use Rattle.grow_rules.specs.Run.{Net, Run, member_of}
 use Rattle.grow_rules.specs.Growth.{Growth, join_gap, departure}
 use Rattle.grow_events.specs.Held.{NetIn, RunIn}

@@ -61,6 +61,7 @@ pub fn take_up(
     ensures { SameDrive p reals.now cells.now joins.old.items joins.new.items
         (idle g) (with_front result.0 result.1) }
 {
+    // No `From`: a run that was popped is the front's but for its `below`, which is the rest's.
     let popped = grow_waiting::pop(cells, reals, p.r, g.top, g.used, joins);
     let front = Front {
         mover: Mover {

@@ -16,27 +16,27 @@ use Rattle.grow_path.specs.Kept.{PathIn}
 use Rattle.net_event_map.specs.declared.Layout.{Layout}
 use Rattle.net_event_map.specs.EventMap.{Mapped}
 use Rattle.net_event_map.specs.EventMap.{CellsApart}
-use Rattle.grow_waiting.specs.declared.Rooms.{Rooms}
+use Rattle.grow_waiting.specs.declared.rooms.Rooms.{Rooms}
 use Rattle.grow_waiting.specs.declared.Popped.{Popped}
 use Rattle.grow_waiting.specs.Held.{Waiting, Untaken, top_of, SavedIn, SavedElsewhere, PoppedAs}
 use Rattle.grow_waiting.proofs.Runs.{Steady, saved_still}
 
 -- ---- what saving leaves
 
-module _ {c c' : List ℕ} {r r' : List Float} {w : Rooms} (s : SavedElsewhere c c' r r' w)
-    (room : (w.legs + 1) * 8 ≤ w.nodes_at) where
+module _ {c c' : List ℕ} {r r' : List Float} {w : Rooms} (s : SavedElsewhere c c' r r' w) where
   -- cells 0 to 3 of a leg's unit
   pub leg_left : (j k : ℕ) → j ≤ w.legs → k < 4 → get_or c' (j * 8 + k) 0 ≡ get_or c (j * 8 + k) 0
-  leg_left j k h g = s.cells (j * 8 + k) (λ i t a b e d. omega arith) (λ i t a b e d. omega arith)
+  leg_left j k h g = s.cells (j * 8 + k) (λ i t a b e d. omega arith) (λ i t a b e d. omega (arith, w.legs_before))
 
   -- cells 0 to 2 of a node's unit
   pub node_left : (i k : ℕ) → i < w.places → k < 3
       → get_or c' (w.nodes_at + i * 8 + k) 0 ≡ get_or c (w.nodes_at + i * 8 + k) 0
-  node_left i k h g = s.cells (w.nodes_at + i * 8 + k) (λ j t a b e d. omega arith) (λ j t a b e d. omega arith)
+  node_left i k h g = s.cells (w.nodes_at + i * 8 + k) (λ j t a b e d. omega (arith, w.legs_before))
+      (λ j t a b e d. omega arith)
 
   -- cells behind the nodes' units
   pub behind_left : (q : ℕ) → w.nodes_at + w.places * 8 ≤ q → get_or c' q 0 ≡ get_or c q 0
-  behind_left q h = s.cells q (λ j t a b e d. omega arith) (λ j t a b e d. omega arith)
+  behind_left q h = s.cells q (λ j t a b e d. omega (arith, w.legs_before)) (λ j t a b e d. omega arith)
 
   -- reals before the pairs
   pub reals_left : (q : ℕ) → q < w.pairs_at → get_or r' q nan ≡ get_or r q nan
@@ -68,15 +68,18 @@ module _ {c c' : List ℕ} {r r' : List Float} {w : Rooms} (s : SavedElsewhere c
     cleared = λ i h. behind_left (v.links_at + i * 8 + 2) (omega (arith, p.apart)) ∙ m.cleared i h;
     next = λ i j h g t. first_of j (omega arith) ∙ m.next i j h g t;
     fresh = λ j h g. first_of j g ∙ m.fresh j h g;
-    unmarked = λ j h. s.cells (v.nodes_at + j * 8 + 1) (λ i t e f g d. omega arith) (λ i t e f g d. omega arith)
+    unmarked = λ j h. s.cells (v.nodes_at + j * 8 + 1) (λ i t e f g d. omega (arith, w.legs_before))
+        (λ i t e f g d. omega arith)
         ∙ m.unmarked j h;
-    ungiven = λ j k h x y. s.cells (v.nodes_at + j * 8 + k) (λ i t e f g d. omega arith) (λ i t e f g d. omega arith)
+    ungiven = λ j k h x y. s.cells (v.nodes_at + j * 8 + k) (λ i t e f g d. omega (arith, w.legs_before))
+        (λ i t e f g d. omega arith)
         ∙ m.ungiven j k h x y;
     zeroth = m.zeroth;
   }
     where
       first_of : (j : ℕ) → j < v.places → get_or c' (v.nodes_at + j * 8) 0 ≡ get_or c (v.nodes_at + j * 8) 0
-      first_of j h = s.cells (v.nodes_at + j * 8) (λ i t e f g d. omega arith) (λ i t e f g d. omega arith)
+      first_of j h = s.cells (v.nodes_at + j * 8) (λ i t e f g d. omega (arith, w.legs_before))
+          (λ i t e f g d. omega arith)
 
 -- ---- what leaves the runs
 
@@ -125,20 +128,21 @@ module _ (c : List ℕ) (r : List Float) (w : Rooms) (top used : ℕ) (runs : Li
   })
 
   -- in cells 0 to 3 of a leg's unit
-  pub saved_leg : (j k x : ℕ) → j ≤ w.legs → k < 4 → (w.legs + 1) * 8 ≤ w.nodes_at → SavedIn c r w top used runs
+  pub saved_leg : (j k x : ℕ) → j ≤ w.legs → k < 4 → SavedIn c r w top used runs
       → SavedIn (set c (j * 8 + k) x) r w top used runs
-  saved_leg j k x h g room = saved_cell (j * 8 + k) x (λ i t a b e d. omega arith) (λ i t a b e d. omega arith)
+  saved_leg j k x h g = saved_cell (j * 8 + k) x (λ i t a b e d. omega arith)
+      (λ i t a b e d. omega (arith, w.legs_before))
 
   -- in cells 0 to 2 of a node's unit
-  pub saved_node : (i k x : ℕ) → k < 3 → (w.legs + 1) * 8 ≤ w.nodes_at → SavedIn c r w top used runs
+  pub saved_node : (i k x : ℕ) → k < 3 → SavedIn c r w top used runs
       → SavedIn (set c (w.nodes_at + i * 8 + k) x) r w top used runs
-  saved_node i k x g room = saved_cell (w.nodes_at + i * 8 + k) x (λ j t a b e d. omega arith)
+  saved_node i k x g = saved_cell (w.nodes_at + i * 8 + k) x (λ j t a b e d. omega (arith, w.legs_before))
       (λ j t a b e d. omega arith)
 
   -- behind the nodes' units
-  pub saved_behind : (q x : ℕ) → w.nodes_at + w.places * 8 ≤ q → (w.legs + 1) * 8 ≤ w.nodes_at
-      → SavedIn c r w top used runs → SavedIn (set c q x) r w top used runs
-  saved_behind q x h room = saved_cell q x (λ j t a b e d. omega arith) (λ j t a b e d. omega arith)
+  pub saved_behind : (q x : ℕ) → w.nodes_at + w.places * 8 ≤ q → SavedIn c r w top used runs
+      → SavedIn (set c q x) r w top used runs
+  saved_behind q x h = saved_cell q x (λ j t a b e d. omega (arith, w.legs_before)) (λ j t a b e d. omega arith)
 
   -- in the reals before the pairs
   pub saved_real : (q : ℕ) (x : Float) → q < w.pairs_at → SavedIn c r w top used runs

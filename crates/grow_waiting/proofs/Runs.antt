@@ -11,7 +11,7 @@ use Rattle.std.proofs.lemmas.List.{take_more, length-take-le}
 use lib.Ieee.{Float, nan}
 use Rattle.net_insertion.specs.declared.Place.{Place}
 use Rattle.net_join_paths.specs.declared.EstJoinPath.{EstJoinPath}
-use Rattle.grow_waiting.specs.declared.Rooms.{Rooms}
+use Rattle.grow_waiting.specs.declared.rooms.Rooms.{Rooms}
 use Rattle.grow_waiting.specs.Held.{Waiting, EntriesFrom, RunKept, Untaken, top_of, SavedIn, waiting_of, SavedElsewhere}
 use Rattle.grow_waiting.specs.Steps.{EntriesPushed}
 
@@ -198,7 +198,6 @@ pub record Saving (c : List ℕ) (r : List Float) (w : Rooms) (top used : ℕ) (
     (joins : List EstJoinPath) (count : ℕ) : Type 0 where
   pub counted : count ≡ length joins
   pub nodes_inside : w.nodes_at + w.places * 8 ≤ length c
-  pub legs_before : (w.legs + 1) * 8 ≤ w.nodes_at
   pub pairs_inside : w.pairs_at + w.legs * 2 + 2 ≤ length r
   pub inside : leg ≤ w.legs
   pub real : 0 < leg
@@ -253,21 +252,21 @@ module _ {c : List ℕ} {r : List Float} {w : Rooms} {top used : ℕ} {place : P
       get_or-set_other c3 (leg * 8 + 7) (leg * 8 + 4) top 0 (λ (d : leg * 8 + 4 ≡ leg * 8 + 7). omega arith)
       ∙ get_or-set_other c2 (leg * 8 + 6) (leg * 8 + 4) count 0 (λ (d : leg * 8 + 4 ≡ leg * 8 + 6). omega arith)
       ∙ get_or-set_other c1 (leg * 8 + 5) (leg * 8 + 4) depth 0 (λ (d : leg * 8 + 4 ≡ leg * 8 + 5). omega arith)
-      ∙ get_or-set_same c (leg * 8 + 4) place.idx_prev 0 (omega (arith, f.nodes_inside, f.legs_before, f.inside))
+      ∙ get_or-set_same c (leg * 8 + 4) place.idx_prev 0 (omega (arith, f.nodes_inside, w.legs_before, f.inside))
 
   is_depth : get_or c4 (leg * 8 + 5) 0 ≡ depth
   is_depth =
       get_or-set_other c3 (leg * 8 + 7) (leg * 8 + 5) top 0 (λ (d : leg * 8 + 5 ≡ leg * 8 + 7). omega arith)
       ∙ get_or-set_other c2 (leg * 8 + 6) (leg * 8 + 5) count 0 (λ (d : leg * 8 + 5 ≡ leg * 8 + 6). omega arith)
-      ∙ get_or-set_same c1 (leg * 8 + 5) depth 0 (omega (arith, n1, f.nodes_inside, f.legs_before, f.inside))
+      ∙ get_or-set_same c1 (leg * 8 + 5) depth 0 (omega (arith, n1, f.nodes_inside, w.legs_before, f.inside))
 
   is_count : get_or c4 (leg * 8 + 6) 0 ≡ count
   is_count =
       get_or-set_other c3 (leg * 8 + 7) (leg * 8 + 6) top 0 (λ (d : leg * 8 + 6 ≡ leg * 8 + 7). omega arith)
-      ∙ get_or-set_same c2 (leg * 8 + 6) count 0 (omega (arith, n2, f.nodes_inside, f.legs_before, f.inside))
+      ∙ get_or-set_same c2 (leg * 8 + 6) count 0 (omega (arith, n2, f.nodes_inside, w.legs_before, f.inside))
 
   is_next : get_or c4 (leg * 8 + 7) 0 ≡ top
-  is_next = get_or-set_same c3 (leg * 8 + 7) top 0 (omega (arith, n3, f.nodes_inside, f.legs_before, f.inside))
+  is_next = get_or-set_same c3 (leg * 8 + 7) top 0 (omega (arith, n3, f.nodes_inside, w.legs_before, f.inside))
 
   is_time : get_or r2 (w.pairs_at + leg * 2) nan ≡ place.time_to_next
   is_time =
@@ -282,7 +281,7 @@ module _ {c : List ℕ} {r : List Float} {w : Rooms} {top used : ℕ} {place : P
   module _ {c' : List ℕ} (p : EntriesPushed c4 c' w used joins) where
     -- pushing leaves the legs' units
     leg_unit : (j k : ℕ) → j ≤ w.legs → k < 8 → get_or c' (j * 8 + k) 0 ≡ get_or c4 (j * 8 + k) 0
-    leg_unit j k a b = p.elsewhere (j * 8 + k) (λ i t e g h d o. omega (arith, f.legs_before))
+    leg_unit j k a b = p.elsewhere (j * 8 + k) (λ i t e g h d o. omega (arith, w.legs_before))
 
     pub save_elsewhere : SavedElsewhere c c' r r2 w
     save_elsewhere = record {
@@ -304,7 +303,7 @@ module _ {c : List ℕ} {r : List Float} {w : Rooms} {top used : ℕ} {place : P
           (λ (d : w.pairs_at + j * 2 + 1 ≡ w.pairs_at + leg * 2 + 1). a (omega arith));
       entries = λ i k h g e.
           p.elsewhere (w.nodes_at + i * 8 + k) (λ l t a b d o q. omega arith)
-          ∙ four_other (w.nodes_at + i * 8 + k) (λ t a b d. omega (arith, f.legs_before, f.inside));
+          ∙ four_other (w.nodes_at + i * 8 + k) (λ t a b d. omega (arith, w.legs_before, f.inside));
     }
 
     kept_new : RunKept c' r2 w top used (waiting_of place leg depth joins)

@@ -7,7 +7,7 @@ use Rattle.std.specs.Prelude.{◌≡◌, ◌≢◌, List, [], ◌∷◌, ℕ, su
 use Rattle.std.specs.Float.{nan}
 use Rattle.net_insertion.specs.declared.Place.{Place}
 use Rattle.net_join_paths.specs.declared.EstJoinPath.{EstJoinPath}
-use Rattle.grow_waiting.specs.declared.Rooms.{Rooms}
+use Rattle.grow_waiting.specs.declared.rooms.Rooms.{Rooms}
 use Rattle.grow_waiting.specs.declared.Popped.{Popped}
 
 -- a run that waits: its place, the leg that it takes next, how many legs it has taken, and its join entries

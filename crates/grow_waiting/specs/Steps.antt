@@ -3,7 +3,7 @@ use Rattle.std.specs.Prelude.{◌≡◌, ◌≢◌, List, ◌∷◌, ℕ, ◌+�
 use Rattle.net_join_paths.specs.declared.EstJoinPath.{EstJoinPath}
 use Rattle.space.specs.Lent.{Lent, Seen}
 use Rattle.grow_waiting.specs.declared.Popped.{Popped}
-use Rattle.grow_waiting.specs.declared.Rooms.{Rooms}
+use Rattle.grow_waiting.specs.declared.rooms.Rooms.{Rooms}
 use Rattle.grow_waiting.specs.Held.{EntriesFrom, Waiting, Untaken, SavedIn, PoppedAs}
 
 -- entries put on the stack from `used` on; every other cell is as it was

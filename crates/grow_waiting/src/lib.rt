@@ -10,15 +10,9 @@ ghost use Rattle.grow_waiting.specs.Steps.{stacks_at_entry, stacks_at_exit, stac
 use net_insertion::Place;
 use net_join_paths::{EstJoinPath, JoinPaths};
 
-// Where the nodes' units stand in the cells and the pairs of reals in the reals, and how many legs and places there
-// are.
-#[derive(Clone, Copy)]
-pub struct Rooms {
-    pub nodes_at: usize,
-    pub pairs_at: usize,
-    pub legs: usize,
-    pub places: usize,
-}
+mod rooms;
+
+pub use rooms::Rooms;
 
 // A run that is taken up again: its place, its leg, how many legs it has taken, and the leg of the run saved before it,
 // 0 for none as the cells hold it.
@@ -33,7 +27,7 @@ pub struct Popped {
 // Puts the entries of a list on the stack in the nodes' units, from `used` on.
 fn push_entries(cells: &mut [u32], w: Rooms, used: usize, joins: &JoinPaths)
     requires places_in_bounds { w.nodes_at + w.places * 8 ≤ length cells.old }
-    requires count_bound { used + array_vec_len joins.now ≤ w.places }
+    requires entries_fit { used + array_vec_len joins.now ≤ w.places }
     ensures { EntriesPushed cells.old cells.new w used joins.now.items }
 {
     for (k, x) in joins.iter().enumerate() {
@@ -47,8 +41,8 @@ fn push_entries(cells: &mut [u32], w: Rooms, used: usize, joins: &JoinPaths)
 // numbers of a node's unit, among others, so there is no slice of entries to clone.
 fn copy_entries(cells: &[u32], w: Rooms, from: usize, count: usize, joins: &mut JoinPaths)
     requires places_in_bounds { w.nodes_at + w.places * 8 ≤ length cells.now }
-    requires count_in_bounds { from + count ≤ w.places }
-    requires count_bound { count ≤ 1024 }
+    requires entries_fit { from + count ≤ w.places }
+    requires count_le_1024 { count ≤ 1024 }
     ensures { EntriesCopied cells.now w from count joins.new.items }
 {
     joins.clear();
@@ -61,7 +55,8 @@ fn copy_entries(cells: &[u32], w: Rooms, from: usize, count: usize, joins: &mut 
     }
 }
 
-// Saves a run on top of those that wait, whose top is `top` and which have `used` entries.
+// Saves a run on top of those that wait, whose top is `top` and which have `used` entries. No struct holds them: their
+// list is the cells, as nothing is allocated, and both numbers stand in the caller's state.
 pub fn save(
     cells: &mut [u32],
     reals: &mut [f64],
@@ -74,14 +69,13 @@ pub fn save(
     joins: &JoinPaths,
 )
     requires places_in_bounds { w.nodes_at + w.places * 8 ≤ length cells.old }
-    requires legs_bound { (w.legs + 1) * 8 ≤ w.nodes_at }
     requires pairs_in_bounds { w.pairs_at + w.legs * 2 + 2 ≤ length reals.old }
     requires leg_le_legs { leg ≤ w.legs }
     requires leg_nonzero { 0 < leg }
-    requires all_legs_bound { w.legs ≤ 65535 }
-    requires depth_bound { depth ≤ 65535 }
-    requires count_bound { used + array_vec_len joins.now ≤ w.places }
-    requires places_bound { w.places ≤ 65535 }
+    requires legs_le_65535 { w.legs ≤ 65535 }
+    requires depth_le_65535 { depth ≤ 65535 }
+    requires entries_fit { used + array_vec_len joins.now ≤ w.places }
+    requires places_le_65535 { w.places ≤ 65535 }
     ensures elsewhere { SavedElsewhere cells.old cells.new reals.old
         reals.new w }
     ensures saved { SavesOnTop w top used (waiting_of place leg depth joins.now.items)
@@ -108,7 +102,6 @@ pub fn pop(
     joins: &mut JoinPaths,
 ) -> Popped
     requires places_in_bounds { w.nodes_at + w.places * 8 ≤ length cells.now }
-    requires legs_bound { (w.legs + 1) * 8 ≤ w.nodes_at }
     requires pairs_in_bounds { w.pairs_at + w.legs * 2 + 2 ≤ length reals.now }
     requires some_waits { SomeWaits cells.now reals.now w top used }
     ensures popped { TakesUp w top used (stacks_seen cells reals) joins.new.items result }

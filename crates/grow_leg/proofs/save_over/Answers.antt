@@ -5,7 +5,7 @@ use Prim.Native.Nat.{ℕ}
 use native.Mathlib.Omega.{arith}
 use Rattle.book_format.specs.Format.{legs}
 use Rattle.book_format.specs.Chains.{Chained}
-use Rattle.grow_state.proofs.Keeping.{plan_legs, plan_room, planned_in}
+use Rattle.grow_state.proofs.Keeping.{plan_legs, planned_in}
 use Rattle.grow_leg.proofs.GoingOn.{saved_refused, front_leg, front_depth, front_used, save_none, save_full, save_leg}
 use Rattle.grow_leg.proofs.GoingOn.{save-gives}
 use Rattle.grow_leg.proofs.save_over.Goals as goal
@@ -27,18 +27,17 @@ returns-in_err-leg c =
     saved_refused _ _ _ _ _ _ _ _ _ c.from_residual.result _ c.from_residual.ensures.1
     (save_none plan a _ c.book.ensures.is c.take_leg.result c.take_leg.ensures _ c.in_err-leg.was)
 
-pub waiting_entries-used-requires : goal.waiting_entries-used-requires
-waiting_entries-used-requires c =
+pub overflow_add-used : goal.overflow_add-used
+overflow_add-used c =
     let plan = planned_in _ c.args.p.now.planned c.requires.reals_room in
-    let s = c.requires in
-    let all = front_used plan s.some_ending.ends.ends in
-    record { used_bound = all.0; count_bound = omega (arith, all.1, c.len.ensures.value) }
+    let all = front_used plan c.requires.some_ending.ends.ends in
+    omega (arith, all.0, all.1, c.len.ensures.value)
 
 pub returns-then-r-used : goal.returns-then-r-used
 returns-then-r-used c =
     let plan = planned_in _ c.args.p.now.planned c.requires.reals_room in
     λ fs us net run rest a f. save_full plan a _ c.book.ensures.is c.take_leg.result c.take_leg.ensures _
-    c.in_ok-leg.was (omega (arith, c.if-r-used.true, c.waiting_entries-used.ensures, c.len.ensures.value))
+    c.in_ok-leg.was (omega (arith, c.if-r-used.true, c.len.ensures.value))
 
 pub overflow_add-front : goal.overflow_add-front
 overflow_add-front c =
@@ -53,22 +52,20 @@ save-requires c =
     let l = save_leg plan a _ c.book.ensures.is c.take_leg.result c.take_leg.ensures _ c.in_ok-leg.was in
     record {
       places_in_bounds = omega (arith, a.grown.apart.nodes_inside, plan.same_nodes, plan.same_places);
-      legs_bound = plan_room plan;
       pairs_in_bounds = plan.pairs;
       leg_le_legs = l.1;
       leg_nonzero = l.0;
-      all_legs_bound = omega (arith, plan.all_legs, plan_legs plan);
-      depth_bound = front_depth plan a;
-      count_bound = omega (arith, c.if-r-used.false, c.waiting_entries-used.ensures, c.len.ensures.value);
-      places_bound = omega (arith, plan.same_places, a.grown.room.most);
+      legs_le_65535 = omega (arith, plan.all_legs, plan_legs plan);
+      depth_le_65535 = front_depth plan a;
+      entries_fit = omega (arith, c.if-r-used.false, c.len.ensures.value);
+      places_le_65535 = omega (arith, plan.same_places, a.grown.room.most);
     }
 
 pub returns : goal.returns
 returns c =
     let plan = planned_in _ c.args.p.now.planned c.requires.reals_room in
     let v = c.save in
-    let n = c.waiting_entries-used.ensures in
     let m = c.len.ensures.value in
     λ fs us net run rest a f. save-gives plan a _ c.book.ensures.is c.take_leg.result c.take_leg.ensures _
-    c.in_ok-leg.was (omega (arith, c.if-r-used.false, n, m)) _ _
-    (omega (arith, v.auto)) v.ensures.elsewhere v.ensures.saved f _ (omega (arith, n, m))
+    c.in_ok-leg.was (omega (arith, c.if-r-used.false, m)) _ _
+    (omega (arith, v.auto)) v.ensures.elsewhere v.ensures.saved f _ (omega (arith, m))

@@ -22,4 +22,4 @@ returns-clause-plan c =
     let r = c.book-rows.ensures in
     let bytes = c.bytes.ensures in
     λ reals h. plan_holds r.is r.readable _ c.head_patterns-head.ensures bytes.is bytes.whole c.requires.row7 _ _ _
-    reals c.legs-legs.ensures c.links.ensures h
+    reals _ c.legs-legs.ensures c.links.ensures h

@@ -24,17 +24,17 @@ save-requires-clause-leg_nonzero c =
     (save_asks _ _ _ _ _ _ _ _ _ _ _ _ _ _ plan c.requires.some_origin_inserted.inserted_origin _
     c.book.ensures.is c.take_start.ensures _ c.in_ok-leg.was c.requires.no_joins).leg_nonzero
 
-pub save-requires-clause-all_legs_bound : goal.save-requires-clause-all_legs_bound
-save-requires-clause-all_legs_bound c =
+pub save-requires-clause-legs_le_65535 : goal.save-requires-clause-legs_le_65535
+save-requires-clause-legs_le_65535 c =
     let plan = planned_in _ c.args.p.now.planned.planned c.requires.reals_room in
     (save_asks _ _ _ _ _ _ _ _ _ _ _ _ _ _ plan c.requires.some_origin_inserted.inserted_origin _
-    c.book.ensures.is c.take_start.ensures _ c.in_ok-leg.was c.requires.no_joins).all_legs_bound
+    c.book.ensures.is c.take_start.ensures _ c.in_ok-leg.was c.requires.no_joins).legs_le_65535
 
-pub save-requires-clause-count_bound : goal.save-requires-clause-count_bound
-save-requires-clause-count_bound c =
+pub save-requires-clause-entries_fit : goal.save-requires-clause-entries_fit
+save-requires-clause-entries_fit c =
     let plan = planned_in _ c.args.p.now.planned.planned c.requires.reals_room in
     (save_asks _ _ _ _ _ _ _ _ _ _ _ _ _ _ plan c.requires.some_origin_inserted.inserted_origin _
-    c.book.ensures.is c.take_start.ensures _ c.in_ok-leg.was c.requires.no_joins).count_bound
+    c.book.ensures.is c.take_start.ensures _ c.in_ok-leg.was c.requires.no_joins).entries_fit
 
 pub returns : goal.returns
 returns c =

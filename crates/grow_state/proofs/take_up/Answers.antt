@@ -8,7 +8,6 @@ pop-popped-requires c =
     let s = c.requires.some_drive in
     record {
       places_in_bounds = omega (arith, s.driving.holds.grown.apart.nodes_inside, s.plan.same_nodes, s.plan.same_places);
-      legs_bound = omega (arith, s.plan.all_legs, s.plan.same_nodes, s.plan.nodes_at);
       pairs_in_bounds = s.plan.pairs;
       some_waits = drive_pops s c.requires.top_nonzero;
     }

@@ -7,5 +7,5 @@ use Rattle.grow_waiting.proofs.push_entries.Goals as goal
 
 pub loop-k-preserved : goal.loop-k-preserved
 loop-k-preserved c = let d = c.deref-x-items.ensures.0 in
-    pushed_on _ _ c.loop-k.invariant (omega (arith, ap length d)) c.requires.count_bound
+    pushed_on _ _ c.loop-k.invariant (omega (arith, ap length d)) c.requires.entries_fit
     (omega (arith, c.requires.places_in_bounds)) _ _ d

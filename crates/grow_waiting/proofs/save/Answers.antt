@@ -9,11 +9,10 @@ saving : (c : After-push_entries) → Saving c.args.cells.now c.args.reals.now c
 saving c = record {
   counted = c.len.ensures.value;
   nodes_inside = c.requires.places_in_bounds;
-  legs_before = c.requires.legs_bound;
   pairs_inside = c.requires.pairs_in_bounds;
   inside = c.requires.leg_le_legs;
   real = c.requires.leg_nonzero;
-  entries_inside = omega (arith, c.requires.count_bound, c.len.ensures.value);
+  entries_inside = omega (arith, c.requires.entries_fit, c.len.ensures.value);
 }
 
 pub returns-clause-elsewhere : goal.returns-clause-elsewhere
