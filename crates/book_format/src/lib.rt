@@ -14,8 +14,8 @@ ghost use Rattle.book_format.specs.Format.{link_length, origin_offset, destinati
 ghost use Rattle.book_format.specs.Format.{sample_from, sample_at, patterns_from, sample_patterns};
 ghost use Rattle.book_format.specs.Format.{head_patterns, float_of};
 ghost use Rattle.book_format.specs.Rows.{row4, row5, some_bad_leg};
-ghost use Rattle.book_format.specs.Rows.{measured_of, outside_limits, bad_sample_from, bad_sample, bad_patterns, bad_head};
-ghost use Rattle.book_format.specs.Rows.{sample_falls};
+ghost use Rattle.book_format.specs.Rows.{measured_of, outside_limits, bad_sample_from, bad_sample, bad_patterns};
+ghost use Rattle.book_format.specs.Rows.{bad_head, sample_falls};
 ghost use Rattle.book_format.specs.Chains.{Counted, Valid, Readable};
 
 use refusals::Refusal;

@@ -50,6 +50,7 @@ pub extern "C" fn keldurap_tests_search_options(
     Zero::clear(part);
     let reading = book_reader::read_book(book, places, reals.len(), cells, marks);
     space::clear_work(reals, cells, marks);
+    // No `and_then`: its contract doesn't say that the part, lent to the closure, is untouched where that isn't called.
     let found = match reading {
         Ok(accepted) => search_part(&accepted.book, part),
         Err(refusal) => Err(refusal),
