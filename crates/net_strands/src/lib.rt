@@ -265,9 +265,9 @@ impl<'a> Rebuild<'a> {
     }
 }
 
-// The new list for an event, out of the old one's entries. `seen` says whether some node has the event: a `bool`, as
-// `net_event_map::contains` answers it and the definition takes it. What an entry gives is noted in the cells
-// meanwhile; they are afterwards as they were.
+// The new list for an event, out of the old one's entries. `seen` says whether some node has the event: callers ask the
+// event map (`net_event_map::contains`), which is not read here. What an entry gives is noted in the cells meanwhile;
+// they are afterwards as they were.
 pub fn update_join_paths_space(
     nodes: &Nodes,
     event: LinkEvent,
