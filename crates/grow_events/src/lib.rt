@@ -36,8 +36,8 @@ pub struct Mover {
     pub has_split: bool,
 }
 
-// What becomes of a run at an event, or at all of a leg: it goes on, or it has ended by a join. The two cases have names:
-// beside the counts, `None` for the mover would say that no run moves, and not that this one has ended.
+// What becomes of a run at an event, or at all of a leg: it goes on, or it has ended by a join. The two cases have
+// names: beside the counts, `None` for the mover would say that no run moves, and not that this one has ended.
 #[derive(Clone, Copy)]
 pub enum RunOutcome {
     On(Counts, Mover),
@@ -46,8 +46,8 @@ pub enum RunOutcome {
 
 // The counts with one event node more, and a split's Fake. `split` is counted, and chooses no step.
 fn with_added(c: Counts, node: u32, split: bool) -> Counts
-    requires added_bound { c.added < 65535 }
-    requires splits_bound { c.splits < 65535 }
+    requires added_lt_65535 { c.added < 65535 }
+    requires splits_lt_65535 { c.splits < 65535 }
     ensures { result ≡ counts_added c node split }
 {
     Counts {
@@ -58,8 +58,9 @@ fn with_added(c: Counts, node: u32, split: bool) -> Counts
     }
 }
 
-// Inserts an event at a run's place; a node that is added is put into the map of events. `w` and `join` go together in
-// this crate alone: a struct of both would stand in the plan above, of which many functions take `w` and no gap.
+// Inserts an event at a run's place; a node that is added is put into the map of events. `w` and `join` are the
+// plan's, which stands above this crate: a struct of both would be made there of its two fields, and taken apart at
+// each call below.
 pub fn insert_event(
     floats: &mut [f64],
     numbers: &mut [u32],
@@ -71,7 +72,7 @@ pub fn insert_event(
     e: TimedEvent,
 ) -> Result<(Counts, Mover), Refusal>
     requires growing { Growing w floats.old numbers.old cells.old c }
-    requires idx_prev_bound { m.place.idx_prev < c.nodes }
+    requires idx_prev_lt_nodes { m.place.idx_prev < c.nodes }
     requires real { Real e.link_event w.links }
     ensures outcome { InsertsEvent w join c m e (table_at_entry floats numbers) cells.old
         (table_at_exit floats numbers) cells.new result }
@@ -105,8 +106,8 @@ pub fn insert_event(
 
 // The counts with a join's Fake more.
 fn with_joined(c: Counts) -> Counts
-    requires nodes_bound { c.nodes < 65535 }
-    requires joined_bound { c.joined < 65535 }
+    requires nodes_lt_65535 { c.nodes < 65535 }
+    requires joined_lt_65535 { c.joined < 65535 }
     ensures { result ≡ counts_joined c }
 {
     Counts {

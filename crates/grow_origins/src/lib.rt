@@ -35,7 +35,7 @@ pub use starting_book::StartingBook;
 #[tactic(auto, using(crate::proofs::Planning::number_laws))]
 pub fn plan_of(book: &ReadableBook, places: usize) -> Plan
     requires row7 { row7 book.now ≡ false }
-    requires places_bound { places ≤ 65535 }
+    requires places_le_65535 { places ≤ 65535 }
     ensures plan { (reals : ℕ) → legs book.now * 3 + 4 ≤ reals
         → PlanIn book.now result reals }
     ensures places { result.w.places ≡ places }
@@ -154,7 +154,7 @@ fn save_origin(
     requires some_origin_inserted { SomeOriginInserted p.now.planned.book.now p.now.planned.plan reals.old cells.old
         joins.now.items g place link_idx }
     requires no_joins { joins.now.items ≡ [] }
-    requires link_idx_bound { link_idx < links p.now.planned.book.now }
+    requires link_idx_lt_links { link_idx < links p.now.planned.book.now }
     ensures { SavesOrigin p.now.planned.book.now p.now.planned.plan g place link_idx (stacks_at_entry cells reals)
         (stacks_at_exit cells reals) joins.now.items result }
 {
@@ -180,7 +180,7 @@ fn origin(
     last: u32,
 ) -> Result<Rest, Refusal>
     requires reals_room { RealsRoom p.now.planned.book.now reals.old }
-    requires idx_bound { idx < origins p.now.planned.book.now }
+    requires idx_lt_origins { idx < origins p.now.planned.book.now }
     requires some_origin { SomeOrigin p.now.planned.book.now p.now.planned.plan
         (lists floats.old numbers.old reals.old cells.old joins.now.items) idx g }
     requires no_joins { joins.now.items ≡ [] }

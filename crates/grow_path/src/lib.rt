@@ -33,7 +33,7 @@ pub fn extend_path(
 )
     requires point_in_bounds { depth + 1 < length reals.old }
     requires cell_in_bounds { depth * 8 + 3 < length cells.old }
-    requires link_idx_bound { link_idx < links book.now }
+    requires link_idx_lt_links { link_idx < links book.now }
     ensures reals { reals.new ≡ point_added book.now reals.old depth link_idx }
     ensures cells { cells.new ≡ link_added cells.old depth link_idx }
 {
@@ -45,9 +45,9 @@ pub fn extend_path(
 // What the walk of a leg looks at, whose path has `depth` links, its own among them.
 pub fn movement_of(book: &Book, leg: TakenLeg, depth: usize, length: f64) -> Movement
     requires first_le_end { leg.first ≤ leg.end }
-    requires end_bound { leg.end ≤ 1000000 }
-    requires samples_at_bound { samples_at_of book.now ≤ 4000000 }
-    requires depth_bound { depth ≤ 65535 }
+    requires end_le_1000000 { leg.end ≤ 1000000 }
+    requires samples_at_le_4000000 { samples_at_of book.now ≤ 4000000 }
+    requires depth_le_65535 { depth ≤ 65535 }
     ensures { result ≡ movement_on book.now leg depth «length» }
 {
     Movement {

@@ -11,7 +11,7 @@ pub plan_of-plan-requires : goal.plan_of-plan-requires
 plan_of-plan-requires c = let r = c.requires.ready in
     record {
       row7 = r.row7;
-      places_bound = (places_fit c.places-places.ensures).most;
+      places_le_65535 = (places_fit c.places-places.ensures).most;
     }
 
 pub invariant_of-planned : goal.invariant_of-planned

@@ -10,12 +10,12 @@ use Rattle.grow_events.proofs.insert_event.Goals as goal
 use Rattle.grow_events.proofs.insert_event.Goals.{In-Added}
 
 -- the node that was added
-fresh : (c : In-Added) → Fresh c.requires.growing.holds c.args.join c.args.m.place c.args.e c.requires.idx_prev_bound
+fresh : (c : In-Added) → Fresh c.requires.growing.holds c.args.join c.args.m.place c.args.e c.requires.idx_prev_lt_nodes
     c.in-Added.place.idx_prev c.in-Added.split
 fresh c =
     let i = c.insert_est_time in
-    added_fresh c.requires.growing.holds _ _ _ c.requires.idx_prev_bound _ _ i.result i.ensures.answer i.ensures.table _
-    _ (c.in_ok-inserted.was ∙ ap Ok c.in-Added.is)
+    added_fresh c.requires.growing.holds _ _ _ c.requires.idx_prev_lt_nodes _ _ i.result i.ensures.answer
+    i.ensures.table _ _ (c.in_ok-inserted.was ∙ ap Ok c.in-Added.is)
 
 pub returns-in_err-inserted-clause-outcome : goal.returns-in_err-inserted-clause-outcome
 returns-in_err-inserted-clause-outcome c =

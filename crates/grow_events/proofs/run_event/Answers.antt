@@ -23,8 +23,8 @@ returns-in_err-step-clause-outcome c =
     λ start leg net run v u. step_refused v u _ _ c.if-not-m.false _ _ _ _ s.result s.ensures.answer s.ensures.table
     s.ensures.cells _ c.in_err-step.was _ (handed_on _ _ c.from_residual-in_err-step.ensures.1)
 
-pub with_joined-requires-clause-nodes_bound : goal.with_joined-requires-clause-nodes_bound
-with_joined-requires-clause-nodes_bound c =
+pub with_joined-requires-clause-nodes_lt_65535 : goal.with_joined-requires-clause-nodes_lt_65535
+with_joined-requires-clause-nodes_lt_65535 c =
     let s = c.join_step in
     (joined_small c.requires.moving.holds c.requires.moving.runs _ _ c.if-not-m.false _ _ _ _ s.result s.ensures.answer
     s.ensures.table s.ensures.cells _ (c.in_ok-step.was ∙ ap Ok c.in-Joined.is)).0

@@ -60,7 +60,7 @@ extend_path-requires c =
     record {
       point_in_bounds = omega (arith, n, plan.pairs, plan.pairs_at);
       cell_in_bounds = omega (arith, n, d.chained.room);
-      link_idx_bound = link_inside plan d c.leg_at-leg.result
+      link_idx_lt_links = link_inside plan d c.leg_at-leg.result
           (c.leg_at-leg.ensures ∙ ap (λ (b : List ℕ). leg_at b (c.args.front.leg - 1)) c.book-rows.ensures.is);
     }
 
@@ -77,9 +77,9 @@ movement_of-movement-requires c =
     let i = samples_inside plan d c.leg_samples-taken.result c.leg_samples-taken.ensures in
     record {
       first_le_end = i.0;
-      end_bound = i.1;
-      samples_at_bound = omega (arith, ap samples_at_of c.book-rows.ensures.is, section_inside plan d);
-      depth_bound = omega (arith, depth_inside plan d, plan_legs plan);
+      end_le_1000000 = i.1;
+      samples_at_le_4000000 = omega (arith, ap samples_at_of c.book-rows.ensures.is, section_inside plan d);
+      depth_le_65535 = omega (arith, depth_inside plan d, plan_legs plan);
     }
 
 pub reaches_last-requires : goal.reaches_last-requires

@@ -11,7 +11,7 @@ origin_events-requires-clause-link_idx_lt_links c =
     omega (
       arith,
       row_link _ _ c.origin_at-at.ensures c.valid.ensures.is,
-      origin_named _ plan.readable.indices _ c.requires.idx_bound,
+      origin_named _ plan.readable.indices _ c.requires.idx_lt_origins,
       plan.all_links,
     )
 
@@ -27,13 +27,13 @@ save_origin-requires-clause-some_origin_inserted c =
     some_inserted _ _ _ _ _ _ _ _ _ _ (row_link _ _ c.origin_at-at.ensures c.valid.ensures.is) plan _ _ _
     (omega (arith, e.auto)) e.result e.ensures.more e.ensures.answer c.requires.some_origin _ _ c.in_ok-counts.was
 
-pub save_origin-requires-clause-link_idx_bound : goal.save_origin-requires-clause-link_idx_bound
-save_origin-requires-clause-link_idx_bound c =
+pub save_origin-requires-clause-link_idx_lt_links : goal.save_origin-requires-clause-link_idx_lt_links
+save_origin-requires-clause-link_idx_lt_links c =
     let plan = planned_in _ c.args.p.now.planned.planned c.requires.reals_room in
     omega (
       arith,
       row_link _ _ c.origin_at-at.ensures c.valid.ensures.is,
-      origin_named _ plan.readable.indices _ c.requires.idx_bound,
+      origin_named _ plan.readable.indices _ c.requires.idx_lt_origins,
     )
 
 pub returns : goal.returns

@@ -16,8 +16,8 @@ insert_event-requires-2-clause-growing c =
     (first_grown _ _ _ _ _ _ _ _ _ _ _ _ _ i.result i.ensures.outcome c.origin_run-run.ensures
     c.requires.leads_from.within c.requires.growing _ _ c.in_ok-counts.was).0
 
-pub insert_event-requires-2-clause-idx_prev_bound : goal.insert_event-requires-2-clause-idx_prev_bound
-insert_event-requires-2-clause-idx_prev_bound c =
+pub insert_event-requires-2-clause-idx_prev_lt_nodes : goal.insert_event-requires-2-clause-idx_prev_lt_nodes
+insert_event-requires-2-clause-idx_prev_lt_nodes c =
     let i = c.insert_event in
     (first_grown _ _ _ _ _ _ _ _ _ _ _ _ _ i.result i.ensures.outcome c.origin_run-run.ensures
     c.requires.leads_from.within c.requires.growing _ _ c.in_ok-counts.was).1

@@ -57,8 +57,8 @@ bounds-marks-rows_at c =
           (idx_left _ _ _ c.args.p.now.kept_is c.loop-k-test.true),
     )
 
-pub origin-requires-clause-idx_bound : goal.origin-requires-clause-idx_bound
-origin-requires-clause-idx_bound c = idx_named _ _ _ _ _ _ _ _ _ _ _ _ _ _ _ c.loop-k.invariant _
+pub origin-requires-clause-idx_lt_origins : goal.origin-requires-clause-idx_lt_origins
+origin-requires-clause-idx_lt_origins c = idx_named _ _ _ _ _ _ _ _ _ _ _ _ _ _ _ c.loop-k.invariant _
     (idx_at _ _ _ _ _ (c.links.ensures ∙ ap links c.book-rows.ensures.is)
     (c.destinations.ensures ∙ ap destinations c.book-rows.ensures.is) c.args.p.now.planned.options
     (idx_left _ _ _ c.args.p.now.kept_is c.loop-k-test.true)) (idx_left _ _ _ c.args.p.now.kept_is c.loop-k-test.true)

@@ -12,7 +12,7 @@ overflow_mul-nodes_at c = let r = c.book-rows.ensures in omega (arith, legs_smal
 pub overflow_add-w : goal.overflow_add-w
 overflow_add-w c =
     let r = c.book-rows.ensures in
-    omega (arith, c.requires.places_bound, legs_small r.is r.readable _ c.legs-legs.ensures)
+    omega (arith, c.requires.places_le_65535, legs_small r.is r.readable _ c.legs-legs.ensures)
 
 pub overflow_add-r : goal.overflow_add-r
 overflow_add-r c = let r = c.book-rows.ensures in omega (arith, legs_small r.is r.readable _ c.legs-legs.ensures)
