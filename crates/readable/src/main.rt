@@ -40,15 +40,15 @@ fn answer<R: Read, W: Write>(rt: &impl Eprint, from: &mut R, to: &mut W) -> io::
     ensures { OnOk result (IfSome (R.remaining from.old)
         (λ input. Appends (W.contents to.old) (W.contents to.new) (input_text input))) }
 {
-    let mut space = [0u8; 65536];
-    let written = match streams::read_whole(from, &mut space)? {
-        Some(n) => print_answer(read(&space[..n]), to),
-        None => to.write_all(b"too long\n"),
-    };
-    streams::say_unless(rt, "readable", written)
+    streams::answer_whole(
+        rt,
+        "readable",
+        from,
+        to,
+        |book, to| print_answer(read(book), to),
+    )
 }
 
-// The program `sheet` begins alike, with an `answer` of its own.
 fn main(rt: HostRuntime) -> io::Result<()> {
     answer(&rt, &mut rt.stdin(), &mut rt.stdout())
 }

@@ -17,15 +17,15 @@ fn answer<R: Read, W: Write>(rt: &impl Eprint, from: &mut R, to: &mut W) -> Resu
     ensures longer { OnOk result (IfSome (R.remaining from.old) (λ input.
         65536 < length input → Appends (W.contents to.old) (W.contents to.new) (codes "too long" ++ 10 ∷ []))) }
 {
-    let mut space = [0u8; 65536];
-    let written = match streams::read_whole(from, &mut space)? {
-        Some(n) => sheets::print_sheet(&space[..n], to),
-        None => to.write_all(b"too long\n"),
-    };
-    streams::say_unless(rt, "sheet", written)
+    streams::answer_whole(
+        rt,
+        "sheet",
+        from,
+        to,
+        |book, to| sheets::print_sheet(book, to),
+    )
 }
 
-// The program `readable` begins alike, with an `answer` of its own.
 fn main(rt: HostRuntime) -> Result<()> {
     answer(&rt, &mut rt.stdin(), &mut rt.stdout())
 }

@@ -1,13 +1,14 @@
-// Reading a stream into a lent slice, until the slice is full, or whole; and what a program says where its output is
-// not taken.
+// Reading a stream into a lent slice, until the slice is full, or whole; what a program says where its output is not
+// taken; and a whole input's answer.
 #![tactic(auto)]
 
-ghost use Rattle.std.specs.Prelude.{◌≡◌, ℕ, ◌<◌, ◌≤◌, IfOk, IfSome, IfNone, OnErr, length, take};
+ghost use Rattle.std.specs.Prelude.{◌≡◌, ℕ, ◌<◌, ◌≤◌, ◌++◌, ◌∷◌, []};
+ghost use Rattle.std.specs.Prelude.{IfOk, IfSome, IfNone, OnErr, OnOk, codes, length, take};
 ghost use Rattle.std.specs.Io.{ReadsAtMost};
-ghost use Rattle.std.specs.Io.KnownBytes.{Consumes, IsAtEnd};
-ghost use Rattle.streams.specs.Streams.{IsInput, IsLonger};
+ghost use Rattle.std.specs.Io.KnownBytes.{Appends, Consumes, IsAtEnd};
+ghost use Rattle.streams.specs.Streams.{IsInput, IsLonger, PrintedBy};
 
-use std::io::{Read, Result};
+use std::io::{Read, Result, Write};
 
 // Reads until the slice is full or the input ends, and answers how many bytes it put at the slice's start. Where a read
 // fails, the slice begins with what was read before it. std's `read_exact` tells of a short input that it is short, and
@@ -53,4 +54,26 @@ pub fn say_unless(rt: &impl Eprint, program: &str, written: Result<()>) -> Resul
         let _ = eprintln!(rt; "{program}: standard output: not all was written");
     }
     written
+}
+
+// Reads the whole input, up to 65,536 bytes, and hands it on to have its answer printed; of a longer one it prints that
+// it is too long. Where not all was written, standard error says so of the program.
+pub fn answer_whole<R: Read, W: Write, F: FnOnce(&[u8], &mut W) -> Result<()>>(
+    rt: &impl Eprint,
+    program: &str,
+    from: &mut R,
+    to: &mut W,
+    print: F,
+) -> Result<()>
+    requires { F.IsAlwaysCallable print }
+    ensures whole { OnOk result (IfSome (R.remaining from.old) (λ input.
+        length input ≤ 65536 → PrintedBy F.FnOnce print input to.old result to.new)) }
+    ensures longer { OnOk result (IfSome (R.remaining from.old) (λ input.
+        65536 < length input → Appends (W.contents to.old) (W.contents to.new) (codes "too long" ++ 10 ∷ []))) }
+{
+    let mut space = [0u8; 65536];
+    let Some(n) = read_whole(from, &mut space)? else {
+        return say_unless(rt, program, to.write_all(b"too long\n"));
+    };
+    say_unless(rt, program, print(&space[..n], to))
 }
