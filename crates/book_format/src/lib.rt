@@ -9,6 +9,7 @@ ghost use Rattle.refusals.specs.Refusals.{told};
 ghost use Rattle.refusals.specs.declared.Refusal.TheVariants.{CutOff};
 ghost use Rattle.book_format.specs.Format.{links, origins, destinations, legs, samples, rows, end_of};
 ghost use Rattle.book_format.specs.Format.{links_at_of, origins_at_of, samples_at_of};
+ghost use Rattle.book_format.specs.Format.{destinations_at_of, legs_at_of};
 ghost use Rattle.book_format.specs.Format.{link_width, origin_width, sample_width};
 ghost use Rattle.book_format.specs.Format.{link_length, origin_offset, destination_link, link_at, origin_at, leg_at};
 ghost use Rattle.book_format.specs.Format.{sample_from, sample_at, patterns_from, sample_patterns};
@@ -297,6 +298,34 @@ impl<'a> Book<'a> {
     {
         let s = &self.sections;
         s.legs + s.destinations + s.origins + s.links + s.samples
+    }
+
+    // Where the first origin stands, and below the first row of each section after it.
+    #[tactic(auto, using(crate::proofs::Places::sized_origins_at))]
+    pub fn origins_at(&self) -> usize
+        ensures { result ≡ origins_at_of self.now }
+    {
+        let Sections { origins_at, .. } = self.sections;
+        origins_at
+    }
+
+    #[tactic(auto, using(crate::proofs::Places::sized_destinations_at))]
+    pub fn destinations_at(&self) -> usize
+        ensures { result ≡ destinations_at_of self.now }
+    {
+        let Sections {
+            destinations_at,
+            ..
+        } = self.sections;
+        destinations_at
+    }
+
+    #[tactic(auto, using(crate::proofs::Places::sized_legs_at))]
+    pub fn legs_at(&self) -> usize
+        ensures { result ≡ legs_at_of self.now }
+    {
+        let Sections { legs_at, .. } = self.sections;
+        legs_at
     }
 
     // Where the first sample stands.

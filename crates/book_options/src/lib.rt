@@ -92,6 +92,16 @@ fn turn(book: &ValidBook, w: Walk, marks: &mut [u32]) -> Walk
     Walk { top: top + 2, kept }
 }
 
+// How many numbers the search of a book with these counts asks for.
+pub fn room_of(links: usize, destinations: usize, origins: usize) -> usize
+    requires links_most { links ≤ 65535 }
+    requires destinations_most { destinations ≤ 1000 }
+    requires origins_most { origins ≤ 1000 }
+    ensures { result ≡ 2 * links + destinations + origins }
+{
+    2 * links + destinations + origins
+}
+
 // How many numbers the search asks for: two for each link, one for each destination and one for each origin.
 pub fn search_room(book: &Book) -> usize
     requires links_most { links book.now ≤ 65535 }
@@ -99,7 +109,7 @@ pub fn search_room(book: &Book) -> usize
     requires origins_most { origins book.now ≤ 1000 }
     ensures { result ≡ search_room book.now }
 {
-    2 * book.links() + book.destinations() + book.origins()
+    room_of(book.links(), book.destinations(), book.origins())
 }
 
 // How many origins are kept, or that a destination is link 0 or no origin is kept (row 8). The marks are the search's

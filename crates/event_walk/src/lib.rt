@@ -9,8 +9,7 @@ ghost use Rattle.book_format.specs.Rows.{bad_sample_from};
 ghost use Rattle.event_walk.specs.Course.{course_of, Held, Rises, Walkable};
 ghost use Rattle.event_walk.specs.Search.{NoneBeyond, FirstReaching, unseen, point_with};
 ghost use Rattle.event_walk.specs.Walk.{first_beyond, start, reaches_last, points_passed, bad_point, Within};
-ghost use Rattle.event_walk.specs.Walk.{WithinHeld};
-ghost use Rattle.event_walk.specs.Walk.{NextOf, offset_next, clears_next};
+ghost use Rattle.event_walk.specs.Walk.{WithinHeld, passed_from, NextOf, offset_next, clears_next};
 
 use book_format::Sample;
 use event_formula::{NextPoints, Passing};
@@ -72,9 +71,9 @@ impl PassedPoint {
 
 // Where the walk of a course stands: its heads are where they can be.
 #[derive(Clone, Copy)]
-struct Position<'a> {
-    course: Course<'a>,
-    heads: Heads,
+pub struct Position<'a> {
+    pub course: Course<'a>,
+    pub heads: Heads,
     ghost within: { WithinHeld course.samples.now course.offsets.now course.movement heads } by { Prim.hlevel props },
 }
 
@@ -194,7 +193,7 @@ impl<'a> Course<'a> {
 
     // Where the walk begins.
     #[tactic(auto, unfolding(crate::specs::Course::course_of))]
-    fn start_heads(&self) -> Heads
+    pub fn start_heads(&self) -> Heads
         ensures is { result ≡ start (course_held self.now) }
         ensures within { Within (course_held self.now) result }
     {
@@ -321,8 +320,15 @@ impl<'a> Position<'a> {
         ))
     }
 
+    // The points that are passed from here on.
+    pub fn passed_points(self) -> PassedPoints<'a>
+        ensures { result ≡ passed_from (course_held self.entry.course) self.entry.heads }
+    {
+        PassedPoints { position: self }
+    }
+
     // The next point that is passed, and the heads behind it.
-    fn next_event(self) -> Option<(PassedPoint, Heads)>
+    pub fn next_event(self) -> Option<(PassedPoint, Heads)>
         ensures { NextOf (course_held self.entry.course) self.entry.heads result }
     {
         if !self.is_unseen() {

@@ -9,11 +9,9 @@ ghost use Rattle.net_node.specs.Left.{filled};
 ghost use Rattle.net_node.specs.Lent.{table_seen};
 ghost use Rattle.listing.specs.Listing.{glyph, letter, digits, decimal, float};
 ghost use Rattle.listing.specs.Listing.{line, lines, head, refused_text, sheet_in, TextListed};
-ghost use Rattle.refusals.specs.Refusals.{refusal_number};
 ghost use Rattle.listing.specs.Written.{Puts, Finishes};
 
 use net_node::{EstTime, EstType};
-use refusals::Refusal;
 use report::Report;
 use space::Zero;
 
@@ -214,12 +212,12 @@ pub fn list_sheet(
     text.finish()
 }
 
-// Lists a refusal.
-pub fn list_refused(refusal: Refusal, out: &mut [u8]) -> Result<usize, ListingError>
-    ensures { TextListed (some (refused_text (refusal_number refusal))) out.old out.new result }
+// Lists a refusal by its number.
+pub fn list_refused(number: u32, out: &mut [u8]) -> Result<usize, ListingError>
+    ensures { TextListed (some (refused_text number)) out.old out.new result }
 {
     let mut text = Text { out, at: Some(0) };
-    text.put_field(b"refused ", u32::from(refusal) as u64);
+    text.put_field(b"refused ", number as u64);
     text.put_byte(b'\n');
     text.finish()
 }

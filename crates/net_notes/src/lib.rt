@@ -39,13 +39,23 @@ impl Span {
     }
 }
 
+// What a node's unit has in one column.
+pub fn note_in(cells: &[u32], w: Layout, i: u32, column: usize) -> u32
+    requires cells_apart { CellsApart cells.now w }
+    requires i_lt_places { i < w.places }
+    requires one_of_eight { column < 8 }
+    ensures { result ≡ note_in cells.now w i column }
+{
+    cells[w.nodes_at + i as usize * 8 + column]
+}
+
 // What is noted of a node in one column, as a number.
 pub fn noted(cells: &[u32], w: Layout, i: u32, column: Column) -> u32
     requires cells_apart { CellsApart cells.now w }
     requires i_lt_places { i < w.places }
     ensures { result ≡ note_in cells.now w i (column_number column) }
 {
-    cells[w.nodes_at + i as usize * 8 + column as usize]
+    note_in(cells, w, i, column as usize)
 }
 
 // The span that is noted of a node in one column, if any is.

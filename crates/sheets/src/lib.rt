@@ -31,7 +31,7 @@ pub fn list_book(
     let sheet = est_times::make_est_times(book, floats, numbers, reals, cells, marks);
     match sheet {
         Ok(report) => listing::list_sheet(floats, numbers, report, out),
-        Err(refusal) => listing::list_refused(refusal, out),
+        Err(refusal) => listing::list_refused(refusal.into(), out),
     }
 }
 

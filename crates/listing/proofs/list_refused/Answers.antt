@@ -10,4 +10,4 @@ unfolding refused_text
 returns c =
     let text = then_put c.put_field.ensures c.put_byte.ensures in
     let same_slice = text.same_slice in
-    rw (← c.from.ensures) (listed_in (text_listed refl text c.finish.ensures) (search rules))
+    listed_in (text_listed refl text c.finish.ensures) (search rules)
