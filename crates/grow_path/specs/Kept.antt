@@ -39,14 +39,18 @@ point_added b reals depth link =
 abbrev pub link_added : List ℕ → ℕ → ℕ → List ℕ
 link_added cells depth link = set cells (depth * 8 + 3) link
 
--- what the walk of a leg looks at, whose path has `depth` links
-abbrev pub movement_on : List ℕ → TakenLeg → ℕ → Float → Movement
-movement_on b leg depth train = record {
-  at = samples_at_of b + leg.first * sample_width;
+-- what the walk of a leg looks at, whose path has `depth` links, where the first sample stands at `samples_at`
+abbrev pub movement_at : ℕ → TakenLeg → ℕ → Float → Movement
+movement_at samples_at leg depth train = record {
+  at = samples_at + leg.first * sample_width;
   samples = leg.end - leg.first;
   points = depth + 1;
   length = train;
 }
+
+-- the same in a book
+abbrev pub movement_on : List ℕ → TakenLeg → ℕ → Float → Movement
+movement_on b leg depth train = movement_at (samples_at_of b) leg depth train
 
 -- a point that is passed, as an event of the link that the cells name there
 abbrev pub event_in : List ℕ → PassedPoint → TimedEvent

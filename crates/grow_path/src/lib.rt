@@ -6,7 +6,7 @@ ghost use Rattle.std.specs.Float.{binary64, nan};
 ghost use Rattle.std.specs.Float.Ieee.{of_bits};
 ghost use Rattle.book_format.specs.Format.{links, samples_at_of};
 ghost use Rattle.event_walk.specs.Walk.{some_bad};
-ghost use Rattle.grow_path.specs.Kept.{point_added, link_added, movement_on, event_in};
+ghost use Rattle.grow_path.specs.Kept.{point_added, link_added, movement_on, movement_at, event_in};
 
 use book_format::{Book, ReadableBook};
 use book_legs::TakenLeg;
@@ -42,7 +42,23 @@ pub fn extend_path(
     cells[depth * 8 + 3] = link_idx;
 }
 
-// What the walk of a leg looks at, whose path has `depth` links, its own among them.
+// What the walk of a leg looks at, whose path has `depth` links, its own among them, where the samples begin there.
+pub fn movement_at(samples_at: usize, leg: TakenLeg, depth: usize, length: f64) -> Movement
+    requires first_le_end { leg.first ≤ leg.end }
+    requires end_le_1000000 { leg.end ≤ 1000000 }
+    requires samples_at_le_4000000 { samples_at ≤ 4000000 }
+    requires depth_le_65535 { depth ≤ 65535 }
+    ensures { result ≡ movement_at «samples_at» leg depth «length» }
+{
+    Movement {
+        at: samples_at + leg.first * book_format::SAMPLE_WIDTH,
+        samples: leg.end - leg.first,
+        points: depth + 1,
+        length,
+    }
+}
+
+// The same in a book.
 pub fn movement_of(book: &Book, leg: TakenLeg, depth: usize, length: f64) -> Movement
     requires first_le_end { leg.first ≤ leg.end }
     requires end_le_1000000 { leg.end ≤ 1000000 }
@@ -50,12 +66,7 @@ pub fn movement_of(book: &Book, leg: TakenLeg, depth: usize, length: f64) -> Mov
     requires depth_le_65535 { depth ≤ 65535 }
     ensures { result ≡ movement_on book.now leg depth «length» }
 {
-    Movement {
-        at: book.samples_at() + leg.first * book_format::SAMPLE_WIDTH,
-        samples: leg.end - leg.first,
-        points: depth + 1,
-        length,
-    }
+    movement_at(book.samples_at(), leg, depth, length)
 }
 
 // Whether an event is bad among those that are still to come in a leg.

@@ -376,6 +376,14 @@ module _ {w : Layout} {entry cells : List ℕ} {count k : ℕ} (apart : CellsApa
                 absurd (omega (arith, h, a, b));
           })
 
+pub touched_none : {cells : List ℕ} {w : Layout} → 0 < w.places → Ungiven cells w → Touched w cells cells
+touched_none {cells} {w} h u =
+    let z : get_or cells (w.nodes_at + 0 * 8 + 1) 0 ≡ 0 = u.name 0 h in
+    record {
+      log = record { fits = omega (arith, z); names = λ k a b. absurd (omega (arith, z)) };
+      elsewhere = λ q f g. refl;
+    }
+
 -- ---- what a cell says that is not 0
 
 -- what a cell says holds of the span that it has

@@ -17,7 +17,7 @@ use Rattle.net_node.specs.declared.LinkEvent.{LinkEvent}
 use Rattle.net_node.specs.declared.EstTime.{EstTime}
 use Rattle.net_event_map.specs.declared.Layout.{Layout}
 use Rattle.net_notes.specs.Log.{matched_column, strands_column, nexts_column, note_in, span_number, span_in, Says}
-use Rattle.net_notes.specs.Log.{Touched, log_full, NotedAs, Notes}
+use Rattle.net_notes.specs.Log.{Touched, Ungiven, log_full, NotedAs, Notes}
 use Rattle.net_notes.specs.declared.Span.{Span}
 use Rattle.net_notes.proofs.Log.{says_span, span_said}
 use Rattle.net_join_paths.specs.declared.EstJoinPath.{EstJoinPath}
@@ -59,6 +59,14 @@ module _ {list list' : List EstJoinPath} (s : SameNodes list list') where
     matched = λ i h z. span_kept (λ m es. alternatives nodes node e m i es) _ _ (v.matched i h z);
     strands = λ i h z. walk_kept (v.strands i h z);
   }
+
+-- where nothing is noted nothing is given
+pub given_none : {cells : List ℕ} {w : Layout} (node : ℕ → EstTime) (n : ℕ) (e : LinkEvent) (list : List EstJoinPath)
+    → n ≤ w.places → Ungiven cells w → Given cells w node n e list
+given_none {cells} {w} node n e list h u = record {
+  matched = λ i l z. absurd (z (u.cell i 5 (omega arith) (omega arith, omega arith)));
+  strands = λ i l z. absurd (z (u.cell i 6 (omega arith) (omega arith, omega arith)));
+}
 
 -- ---- what is noted of a node
 
