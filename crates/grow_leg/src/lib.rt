@@ -2,7 +2,7 @@
 // grow_state's specs/Held.antt, specs/OneLeg.antt.
 #![tactic(auto)]
 
-ghost use Rattle.std.specs.Prelude.{◌≡◌, ℕ, ◌%◌, ◌≤◌, ◌<◌, ◌+◌, eqb, length, get_or};
+ghost use Rattle.std.specs.Prelude.{◌≡◌, ◌%◌, ◌<◌, eqb, length, get_or};
 ghost use Rattle.book_format.specs.Format.{links};
 ghost use Rattle.grow_path.specs.Path.{link_of};
 ghost use Rattle.grow_rules.specs.Growth.{is_destination};
