@@ -68,6 +68,7 @@ pub fn run_passes(
     if nodes.checks_fail() {
         return Err(Refusal::BadLinks);
     }
+    // What is asked after each pass stays written twice: one function for it, with its contract, is longer.
     let (timed, passed) = cells[..n * 2].split_at_mut(n);
     pass_forward::update_times_forward(floats, numbers, n, departure, timed, reals, marks).ok_or(
         Refusal::NotTimed,
