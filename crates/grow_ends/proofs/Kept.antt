@@ -94,6 +94,10 @@ module _ (cells : List ℕ) (base : ℕ) where
       )
       go r (inr d) = r (sym (ap (λ (x : Bool). x || member_of js i) d) ∙ t)
 
+  pub ends_flagged : (last : ℕ) (is : List ℕ) → EndsIn cells base last is → (i : ℕ) → member_of is i ≡ true
+      → flagged cells base i ≡ true
+  ends_flagged last is e i t = flagged_set cells base i (ends_real last is e i t).1
+
   -- cells that say the same of each end
   pub ends_members : (cells' : List ℕ) (last : ℕ) (is : List ℕ)
       → ((i : ℕ) → member_of is i ≡ true → get_or cells' (base + i * 8) 0 ≡ get_or cells (base + i * 8) 0)

@@ -12,7 +12,7 @@ use Rattle.net_event_map.specs.declared.Layout.{Layout}
 use Rattle.net_join_paths.specs.declared.EstJoinPath.{EstJoinPath}
 use Rattle.net_join_paths.specs.Entries.{Valid}
 use Rattle.grow_path.specs.Kept.{PathIn}
-use Rattle.grow_rules.specs.Run.{Net, After, EndedRun, goes_on, Arc, member_of}
+use Rattle.grow_rules.specs.Run.{Net, Run, After, EndedRun, goes_on, Arc, member_of}
 use Rattle.grow_rules.specs.Run.{Outcome as Became, Ended as Left, On as Goes}
 use mathlib.Core.Logic.{◌≢◌}
 use Rattle.net_node.specs.Table.{node_at}
@@ -22,7 +22,8 @@ use Rattle.net_event_map.proofs.Kept.{apart_same}
 use Rattle.grow_ends.specs.Ends.{EndsIn, Below}
 use Rattle.grow_ends.proofs.Kept.{ends_same, flags_same}
 use Rattle.grow_events.specs.declared.Counts.{Counts}
-use Rattle.grow_events.specs.Held.{NetIn, Along, ends_at}
+use Rattle.grow_events.specs.declared.Mover.{Mover}
+use Rattle.grow_events.specs.Held.{NetIn, RunIn, Along, ends_at}
 
 -- ---- cells that stay
 
@@ -136,6 +137,18 @@ module _ {w : Layout} {start : List ℕ} {fs fs' : List Float} {us us' cells cel
 -- entries that name nodes
 pub valid_more : {es : List EstJoinPath} {n n' : ℕ} → n ≤ n' → Valid es n → Valid es n'
 valid_more l v = record { node = λ k h. omega (arith, v.node k h) }
+
+pub run_more : {n n' j : ℕ} {list : List EstJoinPath} {m : Mover} {run : Run} → n ≤ n' → RunIn n j list m run
+    → RunIn n' j list m run
+run_more l u = record {
+  place = u.place;
+  leg = u.leg;
+  has_split = u.has_split;
+  joins = u.joins;
+  few = u.few;
+  valid = valid_more l u.valid;
+  stands = omega (arith, u.stands);
+}
 
 -- ---- going on
 
