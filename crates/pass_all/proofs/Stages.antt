@@ -37,12 +37,12 @@ refused_as t k left h e = subst (λ (x : Answer Table). TimedAs x k left) (sym e
 
 -- ---- a pass, and what is told of it
 
-module _ {answer : Answer Pass} {n : ℕ} {t : Table} {flags : List ℕ} {o : Option Unit} where
-  pub ended : (u : Unit) → EndsAs answer n t flags o → o ≡ Some u → Ends answer n t flags
-  ended u a e = subst (EndsAs answer n t flags) e a
+module _ {begun : List ℕ} {answer : Answer Pass} {n : ℕ} {t : Table} {flags : List ℕ} {o : Option Unit} where
+  pub ended : (u : Unit) → EndsAs begun answer n t flags o → o ≡ Some u → Ends begun answer n t flags
+  ended u a e = subst (EndsAs begun answer n t flags) e a
 
-pub failed : (answer : Answer Pass) (n : ℕ) (t : Table) (flags : List ℕ) (o : Option Unit) → EndsAs answer n t flags o → o ≡ None → answer ≡ refused 15
-failed answer n t flags o a e = subst (EndsAs answer n t flags) e a
+pub failed : (begun : List ℕ) (answer : Answer Pass) (n : ℕ) (t : Table) (flags : List ℕ) (o : Option Unit) → EndsAs begun answer n t flags o → o ≡ None → answer ≡ refused 15
+failed begun answer n t flags o a e = subst (EndsAs begun answer n t flags) e a
 
 -- what `?` hands on where a pass fails is 15
 pub fifteen : (r : Result Unit Refusal) (x : Refusal) (o : Option Unit) → IsErrAnd r (λ y. y ≡ x) → Err x ≡ ok_or o NotTimed → o ≡ None → (t : Answer Table) (left : Table) → TimedAs t 15 left → TimedAs t (number_of (told r)) left
@@ -76,7 +76,7 @@ module _ (t : Table) (n : ℕ) where
   told_backward left h = refused_as back 15 left (nonzero 14) (ap (λ (x : Answer Pass). and_then x (after_backward n)) h)
 
   -- the pass came to its end
-  module _ {flags : List ℕ} (left : Table) (q : Ends (backward t n) n left flags) (m : ℕ) (l : m ≡ n) where
+  module _ {begun flags : List ℕ} (left : Table) (q : Ends begun (backward t n) n left flags) (m : ℕ) (l : m ≡ n) where
     abbrev behind : Table → Answer Table
     behind x = checked_as (all_zero x n) 16 (given x)
 
@@ -115,7 +115,7 @@ module _ (t : Table) (n : ℕ) (departure : Float) where
     told_forward left h = refused_as whole 15 left (nonzero 14) (checks_is b false e d ∙ ap (λ (x : Answer Pass). and_then x (after_forward n)) h)
 
     -- the pass came to its end
-    module _ {flags : List ℕ} (left : Table) (q : Ends (forward t n departure) n left flags) (m : ℕ) (l : m ≡ n) where
+    module _ {begun flags : List ℕ} (left : Table) (q : Ends begun (forward t n departure) n left flags) (m : ℕ) (l : m ≡ n) where
       timed_is : (s f : Bool) → s ≡ some_left (done_in flags) m → s ≡ f → whole ≡ checked_as f 15 (back left n)
       timed_is s f g h =
           checks_is b false e d

@@ -53,7 +53,7 @@ module _ (fs : List Float) (us flags : List ℕ) (n : ℕ) where
 
     pub start_in : {ts' : List Float} {ns' : List ℕ} {count : ℕ} → EnqueuedAs true ts ns ts' ns' 0 (last_of n) (Some count)
         → length ts ≡ length ts' → length ns ≡ length ns'
-        → PassIn true n (slices fs us (set (set flags (n - 2) 1) (n - 1) 1) ts' ns') count (n - 1) started
+        → PassIn flags true n (slices fs us (set (set flags (n - 2) 1) (n - 1) 1) ts' ns') count (n - 1) started
     start_in {ts'} {ns'} {count} q lt ln =
         let three : 3 ≤ n = u.three in
         let v0 = in_start true n (slices fs us flags ts ns) u in

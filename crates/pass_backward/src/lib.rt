@@ -9,8 +9,8 @@ ghost use Rattle.pass_state.specs.Promises.{PassEnds};
 use pass_queue::{Backward, Entry};
 
 // Takes what is to be subtracted off the times of a network of n, the first nodes that the slices hold, if no assertion
-// fails. Nodes that are passed are flagged in `flags`, where no flag is set before; the queue lies in `times` and
-// `nodes`.
+// fails. Nodes that are passed are flagged in `flags`, where no flag is set before, and flags behind the n stay; the
+// queue lies in `times` and `nodes`.
 pub fn update_times_backward(
     floats: &mut [f64],
     numbers: &mut [u32],

@@ -53,7 +53,7 @@ module _ (fs : List Float) (us flags : List ℕ) (n : ℕ) (departure : Float) w
     pub start_in : length ts ≡ length ts' → length ns ≡ length ns'
         → {f1 : List Float} {u1 c1 : List ℕ} → (f1 ≡ (set_time (table_of fs us) 0 departure).floats) × ((u1 ≡ (set_time (table_of fs us) 0 departure).numbers) × (c1 ≡ set flags 0 1))
         → {f2 : List Float} {u2 c2 : List ℕ} → (f2 ≡ (set_time (table_of f1 u1) 1 departure).floats) × ((u2 ≡ (set_time (table_of f1 u1) 1 departure).numbers) × (c2 ≡ set c1 1 1))
-        → PassIn false n (slices f2 u2 c2 ts' ns') count (n - 1) started
+        → PassIn flags false n (slices f2 u2 c2 ts' ns') count (n - 1) started
     start_in lt ln {f1} {u1} {c1} a {f2} {u2} {c2} b =
         let three : 3 ≤ n = u.three in
         let v0 = in_start false n (slices fs us flags ts ns) u in

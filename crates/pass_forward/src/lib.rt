@@ -10,7 +10,7 @@ use pass_queue::{Entry, Forward};
 
 // Times the nodes of a network of n, the first that the slices hold, if no assertion fails. Document 01 names this pass
 // and the other by the source's names; what they share is pass_state's. Nodes that are timed are
-// flagged in `flags`, where no flag is set before; the queue lies in `times` and `nodes`.
+// flagged in `flags`, where no flag is set before, and flags behind the n stay; the queue lies in `times` and `nodes`.
 pub fn update_times_forward(
     floats: &mut [f64],
     numbers: &mut [u32],

@@ -135,7 +135,7 @@ abbrev pub walker : Bool → Float → Walker
 walker b less = record { A = At b; form = standing b less; step = step b; stops = stops_of b; stop_if = stop_by b; stopped = λ a f. refl; on = λ a f. refl; strand = strand b; none = strand_none b; more = strand_more b }
 
 -- whether the walk stops
-pub stops_as : (b : Bool) {n : ℕ} {held : PassSlices} {count most : ℕ} {p : Pass} → PassIn b n held count most p → (less : Float) (i k : ℕ) (t : Bool)
+pub stops_as : (b : Bool) {n : ℕ} {held : PassSlices} {count most : ℕ} {begun : List ℕ} {p : Pass} → PassIn begun b n held count most p → (less : Float) (i k : ℕ) (t : Bool)
     → t ≡ stops_by (behind_alt b) (node_at held.floats held.numbers k) → t ≡ stops_of b (standing b less i k p)
 unfolding Forward.stops_at Backward.stops_at
 stops_as true v less i k t e = stops_in (behind_alt true) v k t e
@@ -182,17 +182,17 @@ alternative_named : (b : Bool) (x y : EstTime) (i : ℕ) → (alternative_entry 
 alternative_named true x y i = refl
 alternative_named false x y i = refl
 
-module _ (b : Bool) {n : ℕ} {held : PassSlices} {count : ℕ} {p : Pass} (v : PassIn b n held count (n - 2) p) (curr : ℕ) (x : EstTime) (l : x ≡ node_at held.floats held.numbers curr) where
+module _ (b : Bool) {n : ℕ} {held : PassSlices} {count : ℕ} {begun : List ℕ} {p : Pass} (v : PassIn begun b n held count (n - 2) p) (curr : ℕ) (x : EstTime) (l : x ≡ node_at held.floats held.numbers curr) where
   alternating_is : (k : ℕ) → ahead_alt b x ≡ k → alternating b curr p ≡ alternated_by b k p curr
   alternating_is k e = ap (λ (y : EstTime). alternated_by b (ahead_alt b y) p curr) (sym (node_in v curr x l)) ∙ ap (λ (i : ℕ). alternated_by b i p curr) e
 
-  pub alternative_none : (k : ℕ) → k ≡ ahead_alt b x → k ≡ 0 → PassAs (alternating b curr p) b n held (n - 1) (left p.done n + 1) (Some count)
+  pub alternative_none : (k : ℕ) → k ≡ ahead_alt b x → k ≡ 0 → PassAs begun (alternating b curr p) b n held (n - 1) (left p.done n + 1) (Some count)
   alternative_none k e z = alternate_none v (alternating b curr p) (alternating_is 0 (sym e ∙ z) ∙ alternated_none b p curr)
 
   pub alternative_some : (k : ℕ) → k ≡ ahead_alt b x → k ≢ 0 → k < n → (y : EstTime) → y ≡ node_at held.floats held.numbers k → {gs : List Float} {vs flags : List ℕ}
       → (gs ≡ (set_time (table_in held) k x.time_sched).floats) × ((vs ≡ (set_time (table_in held) k x.time_sched).numbers) × (flags ≡ set held.flags k 1))
       → (e : Entry) → e ≡ alternative_entry b x y k → {ts' : List Float} {ns' : List ℕ} {r : Option ℕ} → EnqueuedAs b held.times held.nodes ts' ns' count e r → length held.times ≡ length ts' → length held.nodes ≡ length ns'
-      → PassAs (alternating b curr p) b n (slices gs vs flags ts' ns') (n - 1) (left p.done n + 1) r
+      → PassAs begun (alternating b curr p) b n (slices gs vs flags ts' ns') (n - 1) (left p.done n + 1) r
   alternative_some k w z h y m {gs} {vs} {flags} d e s q =
       let t = x.time_sched in
       let i = alternating_is k (sym w) ∙ alternated_at b n k p curr (linked_in v) h z
@@ -259,24 +259,24 @@ ended_fewer false p i n x = left_kept p.done i n
 
 -- the end of the network gets the time of the node that the strand ends on
 module _ {n : ℕ} {held : PassSlices} {count most : ℕ} where
-  ended_by : (b : Bool) {p : Pass} → PassIn b n held count most p → (next : ℕ) → next < n → (x : Float) → {gs : List Float} {vs flags : List ℕ}
+  ended_by : (b : Bool) {begun : List ℕ} {p : Pass} → PassIn begun b n held count most p → (next : ℕ) → next < n → (x : Float) → {gs : List Float} {vs flags : List ℕ}
       → (gs ≡ (finished b (table_in held) next x).floats) × ((vs ≡ (finished b (table_in held) next x).numbers) × (flags ≡ finished_flags b held.flags next))
-      → PassIn b n (slices gs vs flags held.times held.nodes) count most (ended_at b p next x)
+      → PassIn begun b n (slices gs vs flags held.times held.nodes) count most (ended_at b p next x)
   ended_by true v next h x {gs} {vs} {flags} d =
       let t = set_time (table_in held) next x in
       in_done (in_done v next h x t.floats t.numbers (set held.flags next 1) (refl, (refl, refl))) 0 (omega arith) x gs vs flags d
   ended_by false v next h x {gs} {vs} {flags} d = in_done v next h x gs vs flags d
 
-  pub ended_in : (b : Bool) {p : Pass} (v : PassIn b n held count most p) (curr next : ℕ) → next < n → (x : EstTime) → x ≡ node_at held.floats held.numbers curr → {gs : List Float} {vs flags : List ℕ}
+  pub ended_in : (b : Bool) {begun : List ℕ} {p : Pass} (v : PassIn begun b n held count most p) (curr next : ℕ) → next < n → (x : EstTime) → x ≡ node_at held.floats held.numbers curr → {gs : List Float} {vs flags : List ℕ}
       → (gs ≡ (finished b (table_in held) next x.time_sched).floats) × ((vs ≡ (finished b (table_in held) next x.time_sched).numbers) × (flags ≡ finished_flags b held.flags next))
-      → PassIn b n (slices gs vs flags held.times held.nodes) count most (ended_at b p next (at p.table curr).time_sched)
-  ended_in b {p} v curr next h x l {gs} {vs} {flags} d =
-      subst (λ (y : EstTime). PassIn b n (slices gs vs flags held.times held.nodes) count most (ended_at b p next y.time_sched)) (node_in v curr x l) (ended_by b v next h x.time_sched d)
+      → PassIn begun b n (slices gs vs flags held.times held.nodes) count most (ended_at b p next (at p.table curr).time_sched)
+  ended_in b {begun} {p} v curr next h x l {gs} {vs} {flags} d =
+      subst (λ (y : EstTime). PassIn begun b n (slices gs vs flags held.times held.nodes) count most (ended_at b p next y.time_sched)) (node_in v curr x l) (ended_by b v next h x.time_sched d)
 
 -- the entry by the nodes that were loaded
-pub leaves_in : (b : Bool) (less : Float) {n : ℕ} {held : PassSlices} {count most : ℕ} {p : Pass} (v : PassIn b n held count most p) (curr next : ℕ) (x y : EstTime) → x ≡ node_at held.floats held.numbers curr → y ≡ node_at held.floats held.numbers next
+pub leaves_in : (b : Bool) (less : Float) {n : ℕ} {held : PassSlices} {count most : ℕ} {begun : List ℕ} {p : Pass} (v : PassIn begun b n held count most p) (curr next : ℕ) (x y : EstTime) → x ≡ node_at held.floats held.numbers curr → y ≡ node_at held.floats held.numbers next
     → (e : Entry) → e ≡ end_entry b x y curr less → {ts' : List Float} {ns' : List ℕ} {r : Option ℕ} → EnqueuedAs b held.times held.nodes ts' ns' count e r → EnqueuedAs b held.times held.nodes ts' ns' count (leaves b less p curr next) r
-leaves_in b less {n} {held} {count} {most} {p} v curr next x y l m e s {ts'} {ns'} {r} q =
+leaves_in b less {n} {held} {count} {most} {begun} {p} v curr next x y l m e s {ts'} {ns'} {r} q =
     subst (λ (c : Entry). EnqueuedAs b held.times held.nodes ts' ns' count c r)
     (s ∙ ap (λ (c : EstTime). end_entry b c y curr less) (node_in v curr x l) ∙ ap (λ (c : EstTime). end_entry b (at p.table curr) c curr less) (node_in v next y m)) q
 

@@ -5,7 +5,8 @@ use mathlib.Core.List.{List, [], ◌∷◌}
 use Prim.Native.Nat.{ℕ, ◌+◌, ◌-◌, ◌≤◌, ◌<◌}
 use native.Mathlib.Nat.{not-suc-le-zero, suc-ne-zero}
 use native.Mathlib.Omega.{arith}
-use lib.ListN.{length, set, length-set}
+use lib.ListN.{length, get_or, set, length-set}
+use lib.Seq.{get_or-set_other}
 use lib.Ieee.{Float, is_nan}
 use Rattle.std.specs.Prelude.{Option, Some, None}
 use Rattle.net_node.specs.declared.EstTime.{EstTime}
@@ -34,17 +35,18 @@ done_at_of p i x = record { table = set_time p.table i x; done = also_done p.don
 abbrev pub queueing : Pass → List Entry → Pass
 queueing p es = record { table = p.table; done = p.done; queue = es }
 
-module _ {backward : Bool} {n : ℕ} {held : PassSlices} {count most : ℕ} {p : Pass}
-    (v : PassIn backward n held count most p) where
+module _ {backward : Bool} {n : ℕ} {held : PassSlices} {count most : ℕ} {begun : List ℕ} {p : Pass}
+    (v : PassIn begun backward n held count most p) where
   pub works : Working backward n held count most
-  works = record { pass = p; holds = v }
+  works = record { pass = p; begun = begun; holds = v }
 
-  pub in_more : (more : ℕ) → most ≤ more → PassIn backward n held count more p
+  pub in_more : (more : ℕ) → most ≤ more → PassIn begun backward n held count more p
   in_more more h = record {
     table = v.table;
     linked = v.linked;
     flags = v.flags;
     done = v.done;
+    behind = v.behind;
     queue = v.queue;
     named = v.named;
     room = v.room;
@@ -65,7 +67,7 @@ module _ {backward : Bool} {n : ℕ} {held : PassSlices} {count most : ℕ} {p :
 
   -- ---- the table
 
-  pub in_table : (t : Table) (gs : List Float) (vs : List ℕ) → gs ≡ t.floats → vs ≡ t.numbers → Linked t n → PassIn backward n (slices gs vs held.flags held.times held.nodes) count most (tabled p t)
+  pub in_table : (t : Table) (gs : List Float) (vs : List ℕ) → gs ≡ t.floats → vs ≡ t.numbers → Linked t n → PassIn begun backward n (slices gs vs held.flags held.times held.nodes) count most (tabled p t)
   unfolding at
   in_table t gs vs f u l =
       let e : t ≡ table_of gs vs = λ j. record { floats = sym f j; numbers = sym u j } in
@@ -75,6 +77,7 @@ module _ {backward : Bool} {n : ℕ} {held : PassSlices} {count most : ℕ} {p :
         linked = l';
         flags = v.flags;
         done = v.done;
+        behind = v.behind;
         queue = v.queue;
         named = v.named;
         room = v.room;
@@ -84,7 +87,7 @@ module _ {backward : Bool} {n : ℕ} {held : PassSlices} {count most : ℕ} {p :
   -- ---- a node done
 
   flagged_with : (i : ℕ) → i < n → (flags' : List ℕ) → flags' ≡ set held.flags i 1 → (less : ℕ) → count + left (also_done p.done i) n ≤ less
-      → PassIn backward n (slices held.floats held.numbers flags' held.times held.nodes) count less (flagged_at p i)
+      → PassIn begun backward n (slices held.floats held.numbers flags' held.times held.nodes) count less (flagged_at p i)
   flagged_with i h flags' e less few =
       let within : i < length held.flags = omega (arith, v.flags) in
       record {
@@ -92,23 +95,24 @@ module _ {backward : Bool} {n : ℕ} {held : PassSlices} {count most : ℕ} {p :
         linked = v.linked;
         flags = let l = ap length e ∙ length-set held.flags i 1 in omega (arith, v.flags);
         done = ap (λ (f : ℕ → Bool). also_done f i) v.done ∙ sym (flags_set held.flags i within) ∙ ap (λ (l : List ℕ). done_in l) (sym e);
+        behind = λ k m. ap (λ (l : List ℕ). get_or l k 0) e ∙ get_or-set_other held.flags i k 1 0 (λ (o : k ≡ i). omega arith) ∙ v.behind k m;
         queue = v.queue;
         named = v.named;
         room = v.room;
         few = few;
       }
 
-  in_flag : (i : ℕ) → i < n → (flags' : List ℕ) → flags' ≡ set held.flags i 1 → PassIn backward n (slices held.floats held.numbers flags' held.times held.nodes) count most (flagged_at p i)
+  in_flag : (i : ℕ) → i < n → (flags' : List ℕ) → flags' ≡ set held.flags i 1 → PassIn begun backward n (slices held.floats held.numbers flags' held.times held.nodes) count most (flagged_at p i)
   in_flag i h flags' e = flagged_with i h flags' e most (omega (arith, v.few, left_kept p.done i n))
 
   -- that was not done: one fewer is left
   pub in_flag_new : (i : ℕ) → i < n → (flags' : List ℕ) → flags' ≡ set held.flags i 1 → p.done i ≡ false → (less : ℕ) → most ≤ less + 1
-      → PassIn backward n (slices held.floats held.numbers flags' held.times held.nodes) count less (flagged_at p i)
+      → PassIn begun backward n (slices held.floats held.numbers flags' held.times held.nodes) count less (flagged_at p i)
   in_flag_new i h flags' e d less l = flagged_with i h flags' e less (omega (arith, v.few, left_falls p.done i n h d))
 
   -- at a time
   module _ (i : ℕ) (h : i < n) (x : Float) (gs : List Float) (vs flags' : List ℕ) (e : (gs ≡ (set_time (table_in held) i x).floats) × ((vs ≡ (set_time (table_in held) i x).numbers) × (flags' ≡ set held.flags i 1))) where
-    timed : PassIn backward n (slices gs vs held.flags held.times held.nodes) count most (tabled p (set_time p.table i x))
+    timed : PassIn begun backward n (slices gs vs held.flags held.times held.nodes) count most (tabled p (set_time p.table i x))
     timed =
         let f = e.0 ∙ ap (λ (t : Table). (set_time t i x).floats) (sym v.table) in
         let u = e.1.0 ∙ ap (λ (t : Table). (set_time t i x).numbers) (sym v.table) in
@@ -117,12 +121,13 @@ module _ {backward : Bool} {n : ℕ} {held : PassSlices} {count most : ℕ} {p :
   -- ---- the queue
 
   in_queue : (e : Entry) → e.node < n → (ts' : List Float) (ns' : List ℕ) → Holds backward ts' ns' (count + 1) (e ∷ p.queue) → length held.times ≡ length ts' → length held.nodes ≡ length ns' → (more : ℕ) → most + 1 ≤ more
-      → PassIn backward n (slices held.floats held.numbers held.flags ts' ns') (count + 1) more (queueing p (e ∷ p.queue))
+      → PassIn begun backward n (slices held.floats held.numbers held.flags ts' ns') (count + 1) more (queueing p (e ∷ p.queue))
   in_queue e h ts' ns' q lt ln more m = record {
     table = v.table;
     linked = v.linked;
     flags = v.flags;
     done = v.done;
+    behind = v.behind;
     queue = q;
     named = (h, v.named);
     room = record { times = omega (arith, v.room.times); nodes = omega (arith, v.room.nodes) };
@@ -136,7 +141,7 @@ module _ {backward : Bool} {n : ℕ} {held : PassSlices} {count most : ℕ} {p :
     pub list : p.queue ≡ first ∷ rest
     pub taken : r ≡ best backward first rest
     pub within : r.node < n
-    pub holds : PassIn backward n (slices held.floats held.numbers held.flags ts' ns') (count - 1) less (queueing p (others backward first rest))
+    pub holds : PassIn begun backward n (slices held.floats held.numbers held.flags ts' ns') (count - 1) less (queueing p (others backward first rest))
 
   pub in_pop : 0 < count → (r : Entry) (ts' : List Float) (ns' : List ℕ)
       → ((x : Entry) (es : List Entry) → Holds backward held.times held.nodes count (x ∷ es) → (r ≡ best backward x es) × Holds backward ts' ns' (count - 1) (others backward x es))
@@ -159,6 +164,7 @@ module _ {backward : Bool} {n : ℕ} {held : PassSlices} {count most : ℕ} {p :
               linked = v.linked;
               flags = v.flags;
               done = v.done;
+              behind = v.behind;
               queue = t.1;
               named = k.1;
               room = record { times = omega (arith, v.room.times); nodes = omega (arith, v.room.nodes) };
@@ -174,23 +180,24 @@ module _ {backward : Bool} {n : ℕ} {held : PassSlices} {count most : ℕ} {p :
       go (x ∷ xs) e = absurd (suc-ne-zero (length xs) e)
 
 -- a node done at a time
-module _ {backward : Bool} {n : ℕ} {held : PassSlices} {count most : ℕ} {p : Pass}
-    (v : PassIn backward n held count most p) (i : ℕ) (h : i < n) (x : Float) (gs : List Float) (vs flags' : List ℕ)
+module _ {backward : Bool} {n : ℕ} {held : PassSlices} {count most : ℕ} {begun : List ℕ} {p : Pass}
+    (v : PassIn begun backward n held count most p) (i : ℕ) (h : i < n) (x : Float) (gs : List Float) (vs flags' : List ℕ)
     (e : (gs ≡ (set_time (table_in held) i x).floats) × ((vs ≡ (set_time (table_in held) i x).numbers) × (flags' ≡ set held.flags i 1))) where
-  pub in_done : PassIn backward n (slices gs vs flags' held.times held.nodes) count most (done_at_of p i x)
+  pub in_done : PassIn begun backward n (slices gs vs flags' held.times held.nodes) count most (done_at_of p i x)
   in_done = in_flag (timed v i h x gs vs flags' e) i h flags' e.1.1
 
-  pub in_done_new : p.done i ≡ false → (less : ℕ) → most ≤ less + 1 → PassIn backward n (slices gs vs flags' held.times held.nodes) count less (done_at_of p i x)
+  pub in_done_new : p.done i ≡ false → (less : ℕ) → most ≤ less + 1 → PassIn begun backward n (slices gs vs flags' held.times held.nodes) count less (done_at_of p i x)
   in_done_new = in_flag_new (timed v i h x gs vs flags' e) i h flags' e.1.1
 
 -- ---- the start: nothing is queued yet
 
-pub in_start : (backward : Bool) (n : ℕ) (held : PassSlices) → Unbegun held n → PassIn backward n held 0 n (record { table = table_in held; done = done_in held.flags; queue = [] })
+pub in_start : (backward : Bool) (n : ℕ) (held : PassSlices) → Unbegun held n → PassIn held.flags backward n held 0 n (record { table = table_in held; done = done_in held.flags; queue = [] })
 in_start backward n held u = record {
   table = refl;
   linked = u.linked;
   flags = u.flags;
   done = refl;
+  behind = λ i h. refl;
   queue = holds_none backward held.times held.nodes;
   named = tt;
   room = u.room;
@@ -199,33 +206,33 @@ in_start backward n held u = record {
 
 -- ---- answers
 
-module _ {backward : Bool} {n : ℕ} {held : PassSlices} {count most : ℕ} {p : Pass}
-    (v : PassIn backward n held count most p) where
+module _ {backward : Bool} {n : ℕ} {held : PassSlices} {count most : ℕ} {begun : List ℕ} {p : Pass}
+    (v : PassIn begun backward n held count most p) where
   -- an entry queued
   pub queued_in : (e : Entry) → e.node < n → {ts' : List Float} {ns' : List ℕ} {k : ℕ} → EnqueuedAs backward held.times held.nodes ts' ns' count e (Some k) → length held.times ≡ length ts' → length held.nodes ≡ length ns'
-      → (more : ℕ) → most + 1 ≤ more → PassIn backward n (slices held.floats held.numbers held.flags ts' ns') k more (queueing p (e ∷ p.queue))
+      → (more : ℕ) → most + 1 ≤ more → PassIn begun backward n (slices held.floats held.numbers held.flags ts' ns') k more (queueing p (e ∷ p.queue))
   queued_in e h {ts'} {ns'} {k} q lt ln more m =
       let z : count + 1 ≡ k = sym q.told.1.0 in
       let w : Holds backward ts' ns' (count + 1) (e ∷ p.queue) = subst (λ (j : ℕ). Holds backward ts' ns' j (e ∷ p.queue)) (sym z) (q.told.1.1 p.queue v.queue) in
-      subst (λ (j : ℕ). PassIn backward n (slices held.floats held.numbers held.flags ts' ns') j more (queueing p (e ∷ p.queue))) z (in_queue v e h ts' ns' w lt ln more m)
+      subst (λ (j : ℕ). PassIn begun backward n (slices held.floats held.numbers held.flags ts' ns') j more (queueing p (e ∷ p.queue))) z (in_queue v e h ts' ns' w lt ln more m)
 
   pub enqueued_in : (e : Entry) → e.node < n → {ts' : List Float} {ns' : List ℕ} {r : Option ℕ} → EnqueuedAs backward held.times held.nodes ts' ns' count e r → length held.times ≡ length ts' → length held.nodes ≡ length ns'
-      → (more : ℕ) → most + 1 ≤ more → (bound : ℕ) → left p.done n < bound → PassAs (queued (is_nan e.time || is_nan e.sub) p e) backward n (slices held.floats held.numbers held.flags ts' ns') more bound r
+      → (more : ℕ) → most + 1 ≤ more → (bound : ℕ) → left p.done n < bound → PassAs begun (queued (is_nan e.time || is_nan e.sub) p e) backward n (slices held.floats held.numbers held.flags ts' ns') more bound r
   enqueued_in e h {ts'} {ns'} {r} q lt ln more m bound b = record { told = go r q }
     where
-      go : (r : Option ℕ) → EnqueuedAs backward held.times held.nodes ts' ns' count e r → PassBy (queued (is_nan e.time || is_nan e.sub) p e) backward n (slices held.floats held.numbers held.flags ts' ns') more bound r
+      go : (r : Option ℕ) → EnqueuedAs backward held.times held.nodes ts' ns' count e r → PassBy begun (queued (is_nan e.time || is_nan e.sub) p e) backward n (slices held.floats held.numbers held.flags ts' ns') more bound r
       go (Some k) q = record { pass = queueing p (e ∷ p.queue); is = ap (λ (t : Bool). queued t p e) q.told.0; holds = queued_in e h q lt ln more m; fewer = b }
       go None q = ap (λ (t : Bool). queued t p e) q.told
 
   -- the pass as it is
-  pub stays : (more : ℕ) → most ≤ more → (bound : ℕ) → left p.done n < bound → PassAs (given p) backward n held more bound (Some count)
+  pub stays : (more : ℕ) → most ≤ more → (bound : ℕ) → left p.done n < bound → PassAs begun (given p) backward n held more bound (Some count)
   stays more m bound b = record { told = record { pass = p; is = refl; holds = in_more v more m; fewer = b } }
 
-module _ {backward : Bool} {n : ℕ} {held : PassSlices} {most bound : ℕ} where
+module _ {begun : List ℕ} {backward : Bool} {n : ℕ} {held : PassSlices} {most bound : ℕ} where
   -- an answer that is another
-  pub pass_after : {a b : Answer Pass} {r : Option ℕ} (more : ℕ) → a ≡ b → bound ≤ more → PassAs b backward n held most bound r → PassAs a backward n held most more r
+  pub pass_after : {a b : Answer Pass} {r : Option ℕ} (more : ℕ) → a ≡ b → bound ≤ more → PassAs begun b backward n held most bound r → PassAs begun a backward n held most more r
   pass_after {a} {b} {r} more e l g = record { told = go r g.told }
     where
-      go : (r : Option ℕ) → PassBy b backward n held most bound r → PassBy a backward n held most more r
+      go : (r : Option ℕ) → PassBy begun b backward n held most bound r → PassBy begun a backward n held most more r
       go (Some k) g = record { pass = g.pass; is = e ∙ g.is; holds = g.holds; fewer = omega (arith, g.fewer) }
       go None g = e ∙ g

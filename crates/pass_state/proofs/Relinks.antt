@@ -40,8 +40,8 @@ module _ {n : ℕ} (w : Relinker n) (p : Pass) (curr : ℕ) where
   abbrev pub relink_by : Answer w.A
   relink_by = let next = w.link (at p.table curr) in sought_by next (p.done curr) (p.done next) (w.walk p next)
 
-module _ {n : ℕ} (w : Relinker n) {backward : Bool} {held : PassSlices} {count most : ℕ} {p : Pass}
-    (v : PassIn backward n held count most p) (curr : ℕ) (x : EstTime) (l : x ≡ node_at held.floats held.numbers curr) (next : ℕ) (m : next ≡ w.link x) (d : Bool) (e : d ≡ done_in held.flags curr) where
+module _ {n : ℕ} (w : Relinker n) {backward : Bool} {held : PassSlices} {count most : ℕ} {begun : List ℕ} {p : Pass}
+    (v : PassIn begun backward n held count most p) (curr : ℕ) (x : EstTime) (l : x ≡ node_at held.floats held.numbers curr) (next : ℕ) (m : next ≡ w.link x) (d : Bool) (e : d ≡ done_in held.flags curr) where
   relink_by_lem : relink_by w p curr ≡ sought_by w p curr next d (p.done next) (w.walk p next)
   relink_by_lem =
       ap (λ (k : ℕ). sought_by w p curr k (p.done curr) (p.done k) (w.walk p k)) (ap w.link (sym (node_in v curr x l)) ∙ sym m)
@@ -73,12 +73,12 @@ module _ {n : ℕ} (w : Relinker n) {backward : Bool} {held : PassSlices} {count
 
       module _ (found : ℕ) (q : (w.walk (pass_of (table_in held) (done_in held.flags)) next ≡ given found) × (found < n)) where
         -- the neighbour itself is found
-        pub relink-same : next ≡ found → FindsBy (relink_by w p curr) (w.form curr) backward n held count most (left p.done n + 1) (Some found)
+        pub relink-same : next ≡ found → FindsBy begun (relink_by w p curr) (w.form curr) backward n held count most (left p.done n + 1) (Some found)
         relink-same s = (record { pass = p; is = relink_walk_lem (given found) q.0 ∙ ap given (w.kept p curr next found (eq-eqb next found s)); holds = v; fewer = omega arith }, q.1)
 
         -- another is, and both are linked
         pub relink-swapped : next ≢ found → curr < n → {gs : List Float} {vs : List ℕ} → (gs ≡ (w.swap (table_in held) curr next found).floats) × (vs ≡ (w.swap (table_in held) curr next found).numbers)
-            → FindsBy (relink_by w p curr) (w.form curr) backward n (slices gs vs held.flags held.times held.nodes) count most (left p.done n + 1) (Some found)
+            → FindsBy begun (relink_by w p curr) (w.form curr) backward n (slices gs vs held.flags held.times held.nodes) count most (left p.done n + 1) (Some found)
         relink-swapped s h {gs} {vs} c =
             let t = w.swap p.table curr next found in
             let fg = c.0 ∙ ap (λ (y : Table). (w.swap y curr next found).floats) (sym v.table) in

@@ -41,7 +41,7 @@ both_asserted : {A : Type 0} (a b : Bool) (x : Answer A) → asserting a (assert
 both_asserted true b x = refl
 both_asserted false b x = refl
 
-module _ {n : ℕ} (w : Settler n) {backward : Bool} {held : PassSlices} {count : ℕ} {p : Pass} (v : PassIn backward n held count (n - 2) p)
+module _ {n : ℕ} (w : Settler n) {backward : Bool} {held : PassSlices} {count : ℕ} {begun : List ℕ} {p : Pass} (v : PassIn begun backward n held count (n - 2) p)
     (curr next : ℕ) (x y : EstTime) (l : x ≡ node_at held.floats held.numbers curr) (m : y ≡ node_at held.floats held.numbers next) (fake : Bool) (f : fake ≡ is_fake x) (d : Bool) (e : d ≡ done_in held.flags next) where
   fake_is : is_fake (at p.table curr) ≡ fake
   fake_is = ap is_fake (sym (node_in v curr x l)) ∙ sym f
@@ -55,10 +55,10 @@ module _ {n : ℕ} (w : Settler n) {backward : Bool} {held : PassSlices} {count 
       ∙ both_asserted fake (eqb curr (w.alt y)) (given p)
       ∙ ap (λ (i : ℕ). asserting (fake && eqb curr i) (given p)) (sym a)
 
-  pub settle_joined : (k : ℕ) → k ≡ w.alt y → d ≡ true → (fake && eqb curr k) ≡ true → PassAs (w.settle (w.form curr next p)) backward n held (n - 1) (left p.done n + 1) (Some count)
+  pub settle_joined : (k : ℕ) → k ≡ w.alt y → d ≡ true → (fake && eqb curr k) ≡ true → PassAs begun (w.settle (w.form curr next p)) backward n held (n - 1) (left p.done n + 1) (Some count)
   settle_joined k a t b = pass_after (left p.done n + 1) (joined_is k a t ∙ ap (λ (z : Bool). asserting z (given p)) b) (omega arith) (stays v (n - 1) (omega arith) (left p.done n + 1) (omega arith))
 
-  pub settle_fails : (k : ℕ) → k ≡ w.alt y → d ≡ true → (fake && eqb curr k) ≡ false → PassAs (w.settle (w.form curr next p)) backward n held (n - 1) (left p.done n + 1) None
+  pub settle_fails : (k : ℕ) → k ≡ w.alt y → d ≡ true → (fake && eqb curr k) ≡ false → PassAs begun (w.settle (w.form curr next p)) backward n held (n - 1) (left p.done n + 1) None
   settle_fails k a t b = record { told = joined_is k a t ∙ ap (λ (z : Bool). asserting z (given p)) b }
 
   -- it is not
@@ -67,8 +67,8 @@ module _ {n : ℕ} (w : Settler n) {backward : Bool} {held : PassSlices} {count 
     link_is b z = ap (λ (c : EstTime). eqb (w.link c) 0) (sym (node_in v next y m)) ∙ ap (λ (i : ℕ). eqb i 0) (sym s) ∙ z
 
     -- and is the end
-    pub settle_end : j ≡ 0 → {gs : List Float} {vs flags : List ℕ} → PassIn backward n (slices gs vs flags held.times held.nodes) count (n - 2) (w.ended p curr next) → left (w.ended p curr next).done n ≤ left p.done n
-        → PassAs (w.settle (w.form curr next p)) backward n (slices gs vs flags held.times held.nodes) (n - 1) (left p.done n + 1) (Some count)
+    pub settle_end : j ≡ 0 → {gs : List Float} {vs flags : List ℕ} → PassIn begun backward n (slices gs vs flags held.times held.nodes) count (n - 2) (w.ended p curr next) → left (w.ended p curr next).done n ≤ left p.done n
+        → PassAs begun (w.settle (w.form curr next p)) backward n (slices gs vs flags held.times held.nodes) (n - 1) (left p.done n + 1) (Some count)
     settle_end z u k = record {
       told = record { pass = w.ended p curr next; is = w.ends p curr next (done_in_lem v next d e ∙ t) (link_is true (eq-eqb j 0 z)); holds = in_more u (n - 1) (omega arith); fewer = omega arith };
     }
@@ -81,11 +81,11 @@ module _ {n : ℕ} (w : Settler n) {backward : Bool} {held : PassSlices} {count 
       added_is : (b : Bool) → fake ≡ b → w.settle (w.form curr next p) ≡ asserting (not b) added
       added_is b c = w.adds p curr next (done_in_lem v next d e ∙ t) (link_is false (ne_eqb j 0 z)) ∙ ap (λ (a : Bool). asserting (not a) added) (fake_is ∙ c)
 
-      pub settle_fake : fake ≡ true → PassAs (w.settle (w.form curr next p)) backward n held (n - 1) (left p.done n + 1) None
+      pub settle_fake : fake ≡ true → PassAs begun (w.settle (w.form curr next p)) backward n held (n - 1) (left p.done n + 1) None
       settle_fake b = record { told = added_is true b }
 
       pub settle_queued : fake ≡ false → curr < n → next < n → {ts' : List Float} {ns' : List ℕ} {r : Option ℕ} → EnqueuedAs backward held.times held.nodes ts' ns' count (w.entry p curr next) r → length held.times ≡ length ts' → length held.nodes ≡ length ns'
-          → PassAs (w.settle (w.form curr next p)) backward n (slices held.floats held.numbers held.flags ts' ns') (n - 1) (left p.done n + 1) r
+          → PassAs begun (w.settle (w.form curr next p)) backward n (slices held.floats held.numbers held.flags ts' ns') (n - 1) (left p.done n + 1) r
       settle_queued b h k q lt ln =
           let some : w.link y < n = w.inside (names_in held.floats held.numbers v.linked.inside next k y m) in
           let two : 1 < n = omega (arith, z, s) in

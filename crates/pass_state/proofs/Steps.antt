@@ -46,13 +46,13 @@ module _ {n : ℕ} (w : Stepper n) (curr next : ℕ) where
 step_after : {n : ℕ} (w : Stepper n) (p : Pass) (curr next : ℕ) (a : Answer Pass) → w.alternated p curr ≡ a → w.step (w.form curr next p) ≡ and_then a (stepped_by w curr next)
 step_after w p curr next a e = w.is p curr next ∙ ap (λ (z : Answer Pass). and_then z (stepped_by w curr next)) e
 
-module _ {n : ℕ} (w : Stepper n) {backward : Bool} (p : Pass) (curr next : ℕ) {after : PassSlices} where
+module _ {n : ℕ} (w : Stepper n) {begun : List ℕ} {backward : Bool} (p : Pass) (curr next : ℕ) {after : PassSlices} where
   -- the alternative can't be queued
-  pub step_unqueued : PassAs (w.alternated p curr) backward n after (n - 1) (left p.done n + 1) None → StandsAs (w.step (w.form curr next p)) w.form backward n after (n - 2) (left p.done n) None
+  pub step_unqueued : PassAs begun (w.alternated p curr) backward n after (n - 1) (left p.done n + 1) None → StandsAs begun (w.step (w.form curr next p)) w.form backward n after (n - 2) (left p.done n) None
   step_unqueued g = record { told = step_after w p curr next (refused 15) g.told }
 
-  module _ {count : ℕ} (g : PassAs (w.alternated p curr) backward n after (n - 1) (left p.done n + 1) (Some count)) (d : Bool) (f : d ≡ done_in after.flags next) where
-    abbrev queued_as : Gives (w.alternated p curr) (λ q. q) backward n after count (n - 1) (left p.done n + 1)
+  module _ {count : ℕ} (g : PassAs begun (w.alternated p curr) backward n after (n - 1) (left p.done n + 1) (Some count)) (d : Bool) (f : d ≡ done_in after.flags next) where
+    abbrev queued_as : Gives begun (w.alternated p curr) (λ q. q) backward n after count (n - 1) (left p.done n + 1)
     queued_as = g.told
 
     step_by : (c : Bool) → d ≡ c → w.step (w.form curr next p) ≡ asserting (not c) (reached_by w curr next queued_as.pass (w.time queued_as.pass.table curr next))
@@ -61,18 +61,18 @@ module _ {n : ℕ} (w : Stepper n) {backward : Bool} (p : Pass) (curr next : ℕ
         step_after w p curr next (given q) queued_as.is ∙ ap (λ (z : Bool). asserting (not z) (reached_by w curr next q (w.time q.table curr next))) (done_in_lem queued_as.holds next d f ∙ t)
 
     -- the node is done
-    pub step_over : d ≡ true → StandsAs (w.step (w.form curr next p)) w.form backward n after (n - 2) (left p.done n) None
+    pub step_over : d ≡ true → StandsAs begun (w.step (w.form curr next p)) w.form backward n after (n - 2) (left p.done n) None
     step_over t = record { told = step_by true t }
 
     -- it gets done
     pub step_on_lem : d ≡ false → next < n → (t : Float) → t ≡ w.time (table_in after) curr next → {fs : List Float} {us flags : List ℕ}
         → (fs ≡ (set_time (table_in after) next t).floats) × ((us ≡ (set_time (table_in after) next t).numbers) × (flags ≡ set after.flags next 1)) → (y : EstTime) → y ≡ node_at after.floats after.numbers next → (j : ℕ) → j ≡ w.link y
-        → StandsAs (w.step (w.form curr next p)) w.form backward n (slices fs us flags after.times after.nodes) (n - 2) (left p.done n) (Some (record { curr = next; ahead = j; count = count }))
+        → StandsAs begun (w.step (w.form curr next p)) w.form backward n (slices fs us flags after.times after.nodes) (n - 2) (left p.done n) (Some (record { curr = next; ahead = j; count = count }))
     step_on_lem c k t s {fs} {us} {flags} o y m j i =
         let v = queued_as.holds in
         let q = queued_as.pass in
         let un : q.done next ≡ false = done_in_lem v next d f ∙ c in
-        let x : PassIn backward n (slices fs us flags after.times after.nodes) count (n - 2) (done_at_of q next t) = in_done_new v next k t fs us flags o un (n - 2) (omega arith) in
+        let x : PassIn begun backward n (slices fs us flags after.times after.nodes) count (n - 2) (done_at_of q next t) = in_done_new v next k t fs us flags o un (n - 2) (omega arith) in
         let e : w.time q.table curr next ≡ t = ap (λ (z : Table). w.time z curr next) v.table ∙ sym s in
         let l : w.link (at (set_time q.table next t) next) ≡ j = ap w.link (time_set q.table n (linked_in v).room next k t).here ∙ w.timed (at q.table next) t ∙ ap w.link (sym (node_in v next y m)) ∙ sym i in
         let a : reached_by w curr next q t ≡ given (w.form next j (done_at_of q next t)) = ap (λ (k : ℕ). given (w.form next k (done_at_of q next t))) l in
@@ -85,14 +85,14 @@ module _ {n : ℕ} (w : Stepper n) {backward : Bool} (p : Pass) (curr next : ℕ
 
 -- ---- a node's alternative
 
-module _ {backward : Bool} {n : ℕ} {held : PassSlices} {count : ℕ} {p : Pass} (v : PassIn backward n held count (n - 2) p) (a : Answer Pass) where
+module _ {backward : Bool} {n : ℕ} {held : PassSlices} {count : ℕ} {begun : List ℕ} {p : Pass} (v : PassIn begun backward n held count (n - 2) p) (a : Answer Pass) where
   -- there is none
-  pub alternate_none : a ≡ given p → PassAs a backward n held (n - 1) (left p.done n + 1) (Some count)
+  pub alternate_none : a ≡ given p → PassAs begun a backward n held (n - 1) (left p.done n + 1) (Some count)
   alternate_none e = pass_after (left p.done n + 1) e (omega arith) (stays v (n - 1) (omega arith) (left p.done n + 1) (omega arith))
 
   -- it gets done and is queued
   pub alternate_some : (k : ℕ) → 0 < k → k < n → (t : Float) (e : Entry) → e.node ≡ k → a ≡ queued (is_nan e.time || is_nan e.sub) (done_at_of p k t) e → {gs : List Float} {vs flags : List ℕ}
       → (gs ≡ (set_time (table_in held) k t).floats) × ((vs ≡ (set_time (table_in held) k t).numbers) × (flags ≡ set held.flags k 1)) → {ts' : List Float} {ns' : List ℕ} {r : Option ℕ}
-      → EnqueuedAs backward held.times held.nodes ts' ns' count e r → length held.times ≡ length ts' → length held.nodes ≡ length ns' → PassAs a backward n (slices gs vs flags ts' ns') (n - 1) (left p.done n + 1) r
+      → EnqueuedAs backward held.times held.nodes ts' ns' count e r → length held.times ≡ length ts' → length held.nodes ≡ length ns' → PassAs begun a backward n (slices gs vs flags ts' ns') (n - 1) (left p.done n + 1) r
   alternate_some k z h t e j i {gs} {vs} {flags} d q lt ln =
       pass_after (left p.done n + 1) i (omega arith) (enqueued_in (in_done v k h t gs vs flags d) e (omega arith) q lt ln (n - 1) (omega arith) (left p.done n + 1) (omega (arith, left_kept p.done k n)))

@@ -1,7 +1,7 @@
 -- A time pass at work in the lent slices: the table's nodes, a flag for each node that is done (timed or passed), and
 -- the queue.
 use Rattle.std.specs.Prelude.{◌≡◌, Bool, true, false, not, ◌||◌, List, ◌∷◌, ℕ, zero, suc, ◌+◌, ◌*◌, ◌-◌, ◌≤◌, ◌<◌}
-use Rattle.std.specs.Prelude.{length, Float, Option, Some, None}
+use Rattle.std.specs.Prelude.{length, get_or, Float, Option, Some, None}
 use Rattle.std.specs.Float.Ieee.{is_nan}
 use Rattle.laws.specs.Answer.{Answer, given}
 use Rattle.net_node.specs.Table.{Table, float_width, number_width}
@@ -39,12 +39,15 @@ pub record NodeIn (fs : List Float) (us flags : List ℕ) (i : ℕ) : Type 0 whe
   pub flag : i < length flags
 
 -- A pass over n nodes is what the slices hold. The queue has `count` entries, and entries and nodes left are at most
--- `most` together: below n, so the queue has room.
-pub record PassIn (backward : Bool) (n : ℕ) (held : PassSlices) (count most : ℕ) (p : Pass) : Type 0 where
+-- `most` together: below n, so the queue has room. Flags behind the n nodes' are as `begun` has them, from
+-- before the pass.
+pub record PassIn (begun : List ℕ) (backward : Bool) (n : ℕ) (held : PassSlices) (count most : ℕ) (p : Pass) :
+    Type 0 where
   pub table : p.table ≡ table_in held
   pub linked : Linked (table_in held) n
   pub flags : n ≤ length held.flags
   pub done : p.done ≡ done_in held.flags
+  pub behind : (i : ℕ) → n ≤ i → get_or held.flags i 0 ≡ get_or begun i 0
   pub queue : Holds backward held.times held.nodes count p.queue
   pub named : Each (λ e. e.node < n) p.queue
   pub room : HeapRoom held.times held.nodes n
@@ -53,7 +56,8 @@ pub record PassIn (backward : Bool) (n : ℕ) (held : PassSlices) (count most : 
 -- some pass is
 pub record Working (backward : Bool) (n : ℕ) (held : PassSlices) (count most : ℕ) : Type 0 where
   pub pass : Pass
-  pub holds : PassIn backward n held count most pass
+  pub begun : List ℕ
+  pub holds : PassIn begun backward n held count most pass
 
 -- some pass is, and a strand stands on one of its nodes and looks at another
 pub record Standing (backward : Bool) (n : ℕ) (held : PassSlices) (s : Stand) : Type 0 where
@@ -63,38 +67,40 @@ pub record Standing (backward : Bool) (n : ℕ) (held : PassSlices) (s : Stand) 
 
 -- An answer's pass is what the slices hold then, and fewer nodes than `bound` are left. Where the answer is more than a
 -- pass, `at` puts it together.
-pub record Gives {A : Type 0} (answer : Answer A) (at : Pass → A) (backward : Bool) (n : ℕ) (held : PassSlices)
-    (count most bound : ℕ) : Type 0 where
+pub record Gives {A : Type 0} (begun : List ℕ) (answer : Answer A) (at : Pass → A) (backward : Bool) (n : ℕ)
+    (held : PassSlices) (count most bound : ℕ) : Type 0 where
   pub pass : Pass
   pub is : answer ≡ given (at pass)
-  pub holds : PassIn backward n held count most pass
+  pub holds : PassIn begun backward n held count most pass
   pub fewer : left pass.done n < bound
 
 -- a pass with so many entries, or that an assertion fails
-abbrev pub PassBy : Answer Pass → Bool → ℕ → PassSlices → ℕ → ℕ → Option ℕ → Type 0
-PassBy answer backward n held most bound (Some count) = Gives answer (λ p. p) backward n held count most bound
-PassBy answer backward n held most bound None = answer ≡ failed
+abbrev pub PassBy : List ℕ → Answer Pass → Bool → ℕ → PassSlices → ℕ → ℕ → Option ℕ → Type 0
+PassBy begun answer backward n held most bound (Some count) =
+    Gives begun answer (λ p. p) backward n held count most bound
+PassBy begun answer backward n held most bound None = answer ≡ failed
 
-pub record PassAs (answer : Answer Pass) (backward : Bool) (n : ℕ) (held : PassSlices) (most bound : ℕ)
-    (r : Option ℕ) : Type 0 where
-  pub told : PassBy answer backward n held most bound r
+pub record PassAs (begun : List ℕ) (answer : Answer Pass) (backward : Bool) (n : ℕ) (held : PassSlices)
+    (most bound : ℕ) (r : Option ℕ) : Type 0 where
+  pub told : PassBy begun answer backward n held most bound r
 
 -- a strand stands on one node and looks at another
-abbrev pub StandsBy : {A : Type 0} → Answer A → (ℕ → ℕ → Pass → A) → Bool → ℕ → PassSlices → ℕ → ℕ → Option Stand
-    → Type 0
-StandsBy answer at backward n held most bound (Some s) =
-    Gives answer (at s.curr s.ahead) backward n held s.count most bound × ((s.curr < n) × (s.ahead < n))
-StandsBy answer at backward n held most bound None = answer ≡ failed
+abbrev pub StandsBy : {A : Type 0} → List ℕ → Answer A → (ℕ → ℕ → Pass → A) → Bool → ℕ → PassSlices → ℕ → ℕ
+    → Option Stand → Type 0
+StandsBy begun answer at backward n held most bound (Some s) =
+    Gives begun answer (at s.curr s.ahead) backward n held s.count most bound × ((s.curr < n) × (s.ahead < n))
+StandsBy begun answer at backward n held most bound None = answer ≡ failed
 
-pub record StandsAs {A : Type 0} (answer : Answer A) (at : ℕ → ℕ → Pass → A) (backward : Bool) (n : ℕ)
-    (held : PassSlices) (most bound : ℕ) (r : Option Stand) : Type 0 where
-  pub told : StandsBy answer at backward n held most bound r
+pub record StandsAs {A : Type 0} (begun : List ℕ) (answer : Answer A) (at : ℕ → ℕ → Pass → A) (backward : Bool)
+    (n : ℕ) (held : PassSlices) (most bound : ℕ) (r : Option Stand) : Type 0 where
+  pub told : StandsBy begun answer at backward n held most bound r
 
 -- a strand looks at the node that a relink walk found
-abbrev pub FindsBy : {A : Type 0} → Answer A → (ℕ → Pass → A) → Bool → ℕ → PassSlices → ℕ → ℕ → ℕ → Option ℕ → Type 0
-FindsBy answer at backward n held count most bound (Some i) =
-    Gives answer (at i) backward n held count most bound × (i < n)
-FindsBy answer at backward n held count most bound None = answer ≡ failed
+abbrev pub FindsBy : {A : Type 0} → List ℕ → Answer A → (ℕ → Pass → A) → Bool → ℕ → PassSlices → ℕ → ℕ → ℕ → Option ℕ
+    → Type 0
+FindsBy begun answer at backward n held count most bound (Some i) =
+    Gives begun answer (at i) backward n held count most bound × (i < n)
+FindsBy begun answer at backward n held count most bound None = answer ≡ failed
 
 -- an entry is queued, if its time and its sub are numbers
 abbrev pub unordered : Entry → Bool
@@ -121,15 +127,17 @@ pub record Unbegun (held : PassSlices) (n : ℕ) : Type 0 where
   pub unset : (i : ℕ) → done_in held.flags i ≡ false
   pub room : HeapRoom held.times held.nodes n
 
--- It came to its end: the table, and a flag for each node that is done.
-pub record Ends (answer : Answer Pass) (n : ℕ) (t : Table) (flags : List ℕ) : Type 0 where
+-- It came to its end: the table, a flag for each node that is done, and behind the n nodes' flags those that were there
+-- before the pass, `begun`.
+pub record Ends (begun : List ℕ) (answer : Answer Pass) (n : ℕ) (t : Table) (flags : List ℕ) : Type 0 where
   pub pass : Pass
   pub is : answer ≡ given pass
   pub table : pass.table ≡ t
   pub done : pass.done ≡ done_in flags
+  pub behind : (i : ℕ) → n ≤ i → get_or flags i 0 ≡ get_or begun i 0
   pub linked : Linked t n
 
 -- it did, or an assertion failed
-abbrev pub EndsAs : Answer Pass → ℕ → Table → List ℕ → Option Unit → Type 0
-EndsAs answer n t flags (Some u) = Ends answer n t flags
-EndsAs answer n t flags None = answer ≡ failed
+abbrev pub EndsAs : List ℕ → Answer Pass → ℕ → Table → List ℕ → Option Unit → Type 0
+EndsAs begun answer n t flags (Some u) = Ends begun answer n t flags
+EndsAs begun answer n t flags None = answer ≡ failed

@@ -45,23 +45,23 @@ fewer k = k
 -- an entry more at most.
 abbrev pub PassTo : PassLent → Bool → ℕ → ℕ → (Pass → Answer Pass) → (ℕ → ℕ) → Option ℕ → Type 0
 PassTo s backward n count does bound r =
-    (p : Pass) → PassIn backward n s.at_entry count (n - 2) p
-    → PassAs (does p) backward n s.at_exit (n - 1) (bound (left p.done n)) r
+    (p : Pass) (begun : List ℕ) → PassIn begun backward n s.at_entry count (n - 2) p
+    → PassAs begun (does p) backward n s.at_exit (n - 1) (bound (left p.done n)) r
 
 -- .. and the strand then stands on a node
 abbrev pub StandsTo : {A : Type 0} → PassLent → Bool → ℕ → ℕ → (Pass → Answer A) → (ℕ → ℕ → Pass → A) → Option Stand
     → Type 0
 StandsTo s backward n count does at r =
-    (p : Pass) → PassIn backward n s.at_entry count (n - 2) p
-    → StandsAs (does p) at backward n s.at_exit (n - 2) (left p.done n) r
+    (p : Pass) (begun : List ℕ) → PassIn begun backward n s.at_entry count (n - 2) p
+    → StandsAs begun (does p) at backward n s.at_exit (n - 2) (left p.done n) r
 
 -- .. and the table alone is changed, whatever the queue is
 abbrev pub FindsIn : {A : Type 0} → Table → Table → List ℕ → Bool → ℕ → (Pass → Answer A) → (ℕ → Pass → A) → Option ℕ
     → Type 0
 FindsIn t t' flags backward n does at r =
-    (p : Pass) (ts : List Float) (ns : List ℕ) (count most : ℕ)
-    → PassIn backward n (slices t.floats t.numbers flags ts ns) count most p
-    → FindsBy (does p) at backward n (slices t'.floats t'.numbers flags ts ns) count most (left p.done n + 1) r
+    (p : Pass) (begun : List ℕ) (ts : List Float) (ns : List ℕ) (count most : ℕ)
+    → PassIn begun backward n (slices t.floats t.numbers flags ts ns) count most p
+    → FindsBy begun (does p) at backward n (slices t'.floats t'.numbers flags ts ns) count most (left p.done n + 1) r
 
 -- .. the join or split that is reached first is relinked, whatever is taken off
 abbrev pub Relinked : Table → Table → List ℕ → Bool → ℕ → ℕ → Option ℕ → Type 0
@@ -71,11 +71,11 @@ Relinked t t' flags backward n curr r =
 -- .. and the pass comes to its end, from as many entries as the queue may have
 abbrev pub EndsTo : PassLent → Bool → ℕ → ℕ → (Pass → Answer Pass) → Option Unit → Type 0
 EndsTo s backward n count does r =
-    (p : Pass) → PassIn backward n s.at_entry count (n - 1) p
-    → EndsAs (does p) n (table_in s.at_exit) s.at_exit.flags r
+    (p : Pass) (begun : List ℕ) → PassIn begun backward n s.at_entry count (n - 1) p
+    → EndsAs begun (does p) n (table_in s.at_exit) s.at_exit.flags r
 
 -- a whole pass over a table that is lent
 abbrev pub PassEnds : Lent (List Float) → Lent (List ℕ) → Lent (List ℕ) → ℕ → (Table → Answer Pass) → Option Unit
     → Type 0
 PassEnds floats numbers flags n does r =
-    EndsAs (does (table_at_entry floats numbers)) n (table_at_exit floats numbers) flags.exit.now r
+    EndsAs flags.entry.now (does (table_at_entry floats numbers)) n (table_at_exit floats numbers) flags.exit.now r

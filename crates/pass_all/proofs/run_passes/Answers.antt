@@ -20,7 +20,7 @@ update_times_forward-requires c = record {
 pub returns-in_err-ok_or : goal.returns-in_err-ok_or
 returns-in_err-ok_or c =
     let q = c.in_err-ok_or.ensures in
-    fifteen _ _ _ c.from_residual.ensures.1 q.value q.ok_part _ _ (told_forward _ _ _ _ c.checks_fail.ensures c.if-checks_fail.false _ (failed _ _ _ _ _ c.update_times_forward.ensures q.ok_part))
+    fifteen _ _ _ c.from_residual.ensures.1 q.value q.ok_part _ _ (told_forward _ _ _ _ c.checks_fail.ensures c.if-checks_fail.false _ (failed _ _ _ _ _ _ c.update_times_forward.ensures q.ok_part))
 
 pub returns-then-some_left : goal.returns-then-some_left
 returns-then-some_left c =
@@ -42,7 +42,7 @@ pub returns-in_err-ok_or-2 : goal.returns-in_err-ok_or-2
 returns-in_err-ok_or-2 c =
     let q = c.in_err-ok_or-2.ensures in
     fifteen _ _ _ c.from_residual-in_err-ok_or-2.ensures.1 q.value q.ok_part _ _
-    (told_whole _ _ _ _ c.checks_fail.ensures c.if-checks_fail.false _ (ended _ c.update_times_forward.ensures c.in_ok-ok_or.ensures.ok_part) _ (omega (arith, c.split_at_mut-timed.ensures.front_len, c.update_times_forward.auto)) _ c.some_left.ensures c.if-some_left.false _ _ (told_backward _ _ _ (failed _ _ _ _ _ c.update_times_backward.ensures q.ok_part)))
+    (told_whole _ _ _ _ c.checks_fail.ensures c.if-checks_fail.false _ (ended _ c.update_times_forward.ensures c.in_ok-ok_or.ensures.ok_part) _ (omega (arith, c.split_at_mut-timed.ensures.front_len, c.update_times_forward.auto)) _ c.some_left.ensures c.if-some_left.false _ _ (told_backward _ _ _ (failed _ _ _ _ _ _ c.update_times_backward.ensures q.ok_part)))
 
 pub returns-then-some_left-2 : goal.returns-then-some_left-2
 returns-then-some_left-2 c =

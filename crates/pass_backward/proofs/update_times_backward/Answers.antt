@@ -14,4 +14,4 @@ turns-requires-clause-working c =
 pub returns : goal.returns
 returns c =
     rw (start_is c.args.floats.now c.args.numbers.now c.args.flags.now c.args.n c.requires)
-    (c.turns.ensures _ (start_in c.args.floats.now c.args.numbers.now c.args.flags.now c.args.n c.requires c.in_ok-count.ensures (omega (arith, c.enqueue.auto)) (omega (arith, c.enqueue.auto))))
+    (c.turns.ensures _ _ (start_in c.args.floats.now c.args.numbers.now c.args.flags.now c.args.n c.requires c.in_ok-count.ensures (omega (arith, c.enqueue.auto)) (omega (arith, c.enqueue.auto))))

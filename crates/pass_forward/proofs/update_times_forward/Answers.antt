@@ -14,4 +14,4 @@ turns-requires-clause-working c =
 pub returns : goal.returns
 returns c =
     rw (start_is c.args.floats.now c.args.numbers.now c.args.flags.now c.args.n c.args.departure c.in_ok-count.ensures c.requires)
-    (c.turns.ensures _ (start_in c.args.floats.now c.args.numbers.now c.args.flags.now c.args.n c.args.departure c.in_ok-count.ensures c.requires (omega (arith, c.enqueue.auto)) (omega (arith, c.enqueue.auto)) (c.set_done.ensures.floats, (c.set_done.ensures.numbers, c.set_done.ensures.flags)) (c.set_done-2.ensures.floats, (c.set_done-2.ensures.numbers, c.set_done-2.ensures.flags))))
+    (c.turns.ensures _ _ (start_in c.args.floats.now c.args.numbers.now c.args.flags.now c.args.n c.args.departure c.in_ok-count.ensures c.requires (omega (arith, c.enqueue.auto)) (omega (arith, c.enqueue.auto)) (c.set_done.ensures.floats, (c.set_done.ensures.numbers, c.set_done.ensures.flags)) (c.set_done-2.ensures.floats, (c.set_done-2.ensures.numbers, c.set_done-2.ensures.flags))))
