@@ -39,7 +39,8 @@ pub record NodeIn (fs : List Float) (us flags : List ℕ) (i : ℕ) : Type 0 whe
   pub flag : i < length flags
 
 -- A pass over n nodes is what the slices hold. The queue has `count` entries, and entries and nodes left are at most
--- `most` together: below n, so the queue has room. Flags behind the n nodes' are those of `begun`, from before the pass.
+-- `most` together: below n, so the queue has room. Flags behind the n nodes' are as `begun` has them, from before the
+-- pass.
 pub record PassIn (begun : List ℕ) (backward : Bool) (n : ℕ) (held : PassSlices) (count most : ℕ) (p : Pass) :
     Type 0 where
   pub table : p.table ≡ table_in held
