@@ -130,7 +130,7 @@ fn run_all(
         (table_at_exit floats numbers) result }
 {
     let g = grow_origins::first_state();
-    let rest = grow_origins::origins(p, floats, numbers, reals, cells, joins, g)?;
+    let rest = grow_origins::origins(p, floats, numbers, reals, cells, g)?;
     let counts = drive(
         &p.planned, floats, numbers, reals, cells, joins, scratch, rest,
     )?;

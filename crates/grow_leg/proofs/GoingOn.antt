@@ -232,10 +232,17 @@ module _ {b : List ℕ} {p : Plan} {fs : List Float} {us : List ℕ} {reals : Li
 
       module _ (room : g.used + length joins ≤ p.r.places) (reals' : List Float) (cells' : List ℕ)
           (long : length cells' ≡ length cells) (else : SavedElsewhere cells cells' reals reals' p.r)
-          (saved : (ws : List Waiting) → SavedIn cells reals p.r g.top g.used ws → Untaken x.number ws
-          → SavedIn cells' reals' p.r x.number (g.used + length joins)
-          (waiting_of front.mover.place x.number (front.depth + 1) joins ∷ ws))
+          (handed : List EstJoinPath) (entries : handed ≡ joins)
+          (saves : (ws : List Waiting) → SavedIn cells reals p.r g.top g.used ws → Untaken x.number ws
+          → SavedIn cells' reals' p.r x.number (g.used + length handed)
+          (waiting_of front.mover.place x.number (front.depth + 1) handed ∷ ws))
           (free : Free b run rest link) where
+        saved : (ws : List Waiting) → SavedIn cells reals p.r g.top g.used ws → Untaken x.number ws
+            → SavedIn cells' reals' p.r x.number (g.used + length joins)
+            (waiting_of front.mover.place x.number (front.depth + 1) joins ∷ ws)
+        saved ws k u = subst (λ (js : List EstJoinPath). SavedIn cells' reals' p.r x.number (g.used + length js)
+            (waiting_of front.mover.place x.number (front.depth + 1) js ∷ ws)) entries (saves ws k u)
+
         ends-left : (k : ℕ) → k < p.w.places → get_or cells' (ends_at p.w + k * 8) 0 ≡ get_or cells
             (ends_at p.w + k * 8) 0
         ends-left k h =

@@ -225,6 +225,24 @@ pub some_joins : {b : List ℕ} {p : Plan} {fs : List Float} {us : List ℕ} {re
     → SomeOrigins b p (lists fs us reals cells joins) idxs g → SomeOrigins b p (lists fs us reals cells joins') idxs g
 some_joins s = record { net = s.net; runs = s.runs; origins = any_joins s.origins }
 
+answer_joins : (answer : Answer Growth) (b : List ℕ) (p : Plan) (fs : List Float) (us : List ℕ) (reals : List Float)
+    (cells : List ℕ) (joins joins' : List EstJoinPath) (idxs : List ℕ) (r : Result Rest Refusal)
+    → OriginsAs answer b p (lists fs us reals cells joins) idxs r
+    → OriginsAs answer b p (lists fs us reals cells joins') idxs r
+answer_joins answer b p fs us reals cells joins joins' idxs (Ok g) x =
+    record { growth = x.growth; is = x.is; origins = any_joins x.origins }
+answer_joins answer b p fs us reals cells joins joins' idxs (Err k) x = x
+
+pub grows_joins : (b : List ℕ) (p : Plan) (g : Rest) (fs : List Float) (us : List ℕ) (reals : List Float)
+    (cells : List ℕ) (joins : List EstJoinPath) (fs' : List Float) (us' : List ℕ) (reals' : List Float)
+    (cells' : List ℕ) (r : Result Rest Refusal)
+    → GrowsOrigins b p g (lists fs us reals cells joins) (lists fs' us' reals' cells' joins) r
+    → (joins' : List EstJoinPath)
+    → GrowsOrigins b p g (lists fs us reals cells joins') (lists fs' us' reals' cells' joins') r
+grows_joins b p g fs us reals cells joins fs' us' reals' cells' r h joins' net runs o = answer_joins
+    (grow_origins b p.w.places (kept_origins b) (record { net = net; saved = runs })) b p fs' us' reals' cells' joins
+    joins' [] r (h net runs (any_joins o))
+
 pub loop_start : (b : List ℕ) (p : Plan) (joins : List EstJoinPath) (fs : List Float) (us : List ℕ) (reals : List Float)
     (cells : List ℕ) (g : Rest) → OnlyStart (node_at fs us) g.counts.nodes
     → OriginLoop b p joins fs us reals cells g fs us reals cells g 1 0

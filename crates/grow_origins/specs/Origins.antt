@@ -20,14 +20,12 @@ use Rattle.grow_state.specs.declared.Rest.{Rest}
 use Rattle.refusals.specs.declared.Refusal.{Refusal}
 use Rattle.refusals.specs.Refusals.{refusal_number}
 use Rattle.grow_state.specs.Held.{DriveIn, PlanIn, Lists, lists, idle}
-use Rattle.space.specs.Lent.{Lent, Seen}
 use Rattle.book_options.specs.Options.{kept_origins}
 use Rattle.net_node.specs.declared.EstType.{EstType}
 use Rattle.grow_waiting.specs.Steps.{Stacks}
 use Rattle.grow_events.specs.declared.Mover.{Mover}
 use Rattle.grow_events.specs.Held.{NetIn, InsertedAs}
 use Rattle.net_join_paths.specs.declared.EstJoinPath.{EstJoinPath}
-use Rattle.arrayvec.specs.ArrayVec.{ArrayVec}
 
 -- nodes 0 and 1, and no run
 unfoldable pub start_state : Rest
@@ -188,9 +186,3 @@ GrowsOrigins b p g s s' r =
     → OriginsIn b p s (kept_origins b) g net runs
     → OriginsAs (grow_origins b p.w.places (kept_origins b) (record { net = net; saved = runs }))
     b p s' [] r
-
--- what the slices hold at exit, where the join entries are only read
-abbrev pub lists_left : Lent (List Float) → Lent (List ℕ) → Lent (List Float) → Lent (List ℕ)
-    → Seen (ArrayVec EstJoinPath) → Lists
-lists_left floats numbers reals cells joins =
-    lists floats.exit.now numbers.exit.now reals.exit.now cells.exit.now joins.entry.now.items

@@ -2,19 +2,20 @@
 // Contracts: grow_rules' specs/Growth.antt, specs/Origins.antt.
 #![tactic(auto)]
 
-ghost use Rattle.std.specs.Prelude.{◌≡◌, false, ◌≢◌, [], ℕ, ◌+◌, ◌*◌, ◌≤◌, ◌<◌, length, IfOk};
+ghost use Rattle.std.specs.Prelude.{◌≡◌, false, ◌≢◌, List, [], ℕ, ◌+◌, ◌*◌, ◌≤◌, ◌<◌, length, IfOk};
 ghost use Rattle.net_node.specs.Table.{node_at};
 ghost use Rattle.book_format.specs.Format.{links, origins, legs, origin_link};
 ghost use Rattle.book_format.specs.Rows.{row7};
 ghost use Rattle.book_options.specs.Options.{kept_origins};
 ghost use Rattle.grow_events.specs.Held.{Growing};
-ghost use Rattle.grow_state.specs.Held.{PlanIn, RealsRoom, lists, lists_at_entry, lists_at_exit};
+ghost use Rattle.net_join_paths.specs.declared.EstJoinPath.{EstJoinPath};
+ghost use Rattle.grow_state.specs.Held.{PlanIn, RealsRoom, lists};
 ghost use Rattle.net_node.specs.Lent.{table_at_entry, table_at_exit};
 ghost use Rattle.grow_waiting.specs.Steps.{stacks_at_entry, stacks_at_exit};
 ghost use Rattle.grow_origins.specs.Origins.{start_state, LeadsFrom, OnlyStart, SomeOrigin, SomeOrigins};
 ghost use Rattle.grow_origins.specs.Origins.{SomeOriginInserted, event_at_rest, mover_at, InsertsOrigin};
 ghost use Rattle.net_insertion.specs.Insertion.{table_of};
-ghost use Rattle.grow_origins.specs.Origins.{SavesOrigin, GrowsOrigin, GrowsOrigins, lists_left};
+ghost use Rattle.grow_origins.specs.Origins.{SavesOrigin, GrowsOrigin, GrowsOrigins};
 
 use book_format::ReadableBook;
 use grow_events::{Counts, Mover};
@@ -22,7 +23,6 @@ use grow_state::{Plan, Rest};
 use grow_waiting::Rooms;
 use net_event_map::Layout;
 use net_insertion::Place;
-use net_join_paths::JoinPaths;
 use net_node::{EstType, LinkEvent, TimedEvent};
 use refusals::Refusal;
 
@@ -145,22 +145,20 @@ fn save_origin(
     p: &StartingBook,
     reals: &mut [f64],
     cells: &mut [u32],
-    joins: &JoinPaths,
     g: Rest,
     place: Place,
     link_idx: u32,
 ) -> Result<Rest, Refusal>
     requires reals_room { RealsRoom p.now.planned.book.now reals.old }
     requires some_origin_inserted { SomeOriginInserted p.now.planned.book.now p.now.planned.plan reals.old cells.old
-        joins.now.items g place link_idx }
-    requires no_joins { joins.now.items ≡ [] }
+        [] g place link_idx }
     requires link_idx_lt_links { link_idx < links p.now.planned.book.now }
     ensures { SavesOrigin p.now.planned.book.now p.now.planned.plan g place link_idx (stacks_at_entry cells reals)
-        (stacks_at_exit cells reals) joins.now.items result }
+        (stacks_at_exit cells reals) [] result }
 {
     let leg = book_legs::take_start(p.planned.book.book(), cells, p.planned.marks, link_idx)?;
     let r = p.planned.plan.r;
-    grow_waiting::save(cells, reals, r, g.top, g.used, place, leg.number, 0, joins);
+    grow_waiting::save(cells, reals, r, g.top, g.used, place, leg.number, 0, &[]);
     Ok(Rest {
         top: leg.number,
         ..g
@@ -174,7 +172,6 @@ fn origin(
     numbers: &mut [u32],
     reals: &mut [f64],
     cells: &mut [u32],
-    joins: &JoinPaths,
     g: Rest,
     idx: usize,
     last: u32,
@@ -182,19 +179,18 @@ fn origin(
     requires reals_room { RealsRoom p.now.planned.book.now reals.old }
     requires idx_lt_origins { idx < origins p.now.planned.book.now }
     requires some_origin { SomeOrigin p.now.planned.book.now p.now.planned.plan
-        (lists floats.old numbers.old reals.old cells.old joins.now.items) idx g }
-    requires no_joins { joins.now.items ≡ [] }
+        (lists floats.old numbers.old reals.old cells.old []) idx g }
     requires leads_from { LeadsFrom (table_of floats.old numbers.old) g.counts.nodes last
         (origin_link p.now.planned.book.now idx) }
     ensures { GrowsOrigin p.now.planned.book.now p.now.planned.plan g idx
-        (lists floats.old numbers.old reals.old cells.old joins.now.items)
-        (lists_left floats numbers reals cells joins) result }
+        (lists floats.old numbers.old reals.old cells.old [])
+        (lists floats.new numbers.new reals.new cells.new []) result }
 {
     let plan = p.planned.plan;
     let at = p.planned.book.valid().origin_at(idx);
     let (counts, mover) = origin_events(floats, numbers, cells, plan, g.counts, at.link_idx, last)?;
     let inserted = Rest { counts, ..g };
-    save_origin(p, reals, cells, joins, inserted, mover.place, at.link_idx)
+    save_origin(p, reals, cells, inserted, mover.place, at.link_idx)
 }
 
 // The start's last alternative after an origin, by how many nodes there were before it: the first one's Arrive is
@@ -210,25 +206,24 @@ fn last_after(before: usize) -> u32
     before as u32
 }
 
-// All kept origins, in the order in which they stand in the marks. Their runs have no join entries: the list is
-// cleared.
+// All kept origins, in the order in which they stand in the marks. Their runs have no join entries, and no run is at
+// the front: whatever join entries a caller has, it has them afterwards.
 pub fn origins(
     p: &StartingBook,
     floats: &mut [f64],
     numbers: &mut [u32],
     reals: &mut [f64],
     cells: &mut [u32],
-    joins: &mut JoinPaths,
     g: Rest,
 ) -> Result<Rest, Refusal>
     requires reals_room { RealsRoom p.now.planned.book.now reals.old }
     requires some_origins { SomeOrigins p.now.planned.book.now p.now.planned.plan
-        (lists floats.old numbers.old reals.old cells.old joins.old.items) (kept_origins p.now.planned.book.now) g }
+        (lists floats.old numbers.old reals.old cells.old []) (kept_origins p.now.planned.book.now) g }
     requires only_start { OnlyStart (node_at floats.old numbers.old) g.counts.nodes }
-    ensures { GrowsOrigins p.now.planned.book.now p.now.planned.plan g
-        (lists_at_entry floats numbers reals cells joins) (lists_at_exit floats numbers reals cells joins) result }
+    ensures { (joins : List EstJoinPath) → GrowsOrigins p.now.planned.book.now p.now.planned.plan g
+        (lists floats.old numbers.old reals.old cells.old joins)
+        (lists floats.new numbers.new reals.new cells.new joins) result }
 {
-    joins.clear();
     let marks = p.planned.marks;
     let rows = p.planned.book.book();
     let rows_at = 2 * rows.links() + rows.destinations();
@@ -237,7 +232,7 @@ pub fn origins(
     for k in 0..p.kept {
         let idx = marks[rows_at + k] as usize;
         let before = rest.counts.nodes;
-        rest = origin(p, floats, numbers, reals, cells, joins, rest, idx, last)?;
+        rest = origin(p, floats, numbers, reals, cells, rest, idx, last)?;
         last = last_after(before);
     }
     Ok(rest)

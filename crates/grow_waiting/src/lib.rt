@@ -2,7 +2,6 @@
 #![tactic(auto)]
 
 ghost use Rattle.std.specs.Prelude.{◌+◌, ◌*◌, ◌≤◌, ◌<◌, length};
-ghost use Rattle.arrayvec.specs.ArrayVec.{array_vec_len};
 ghost use Rattle.grow_waiting.specs.Held.{waiting_of, SavedElsewhere, SomeWaits};
 ghost use Rattle.grow_waiting.specs.Steps.{EntriesPushed, EntriesCopied, SavesOnTop, TakesUp};
 ghost use Rattle.grow_waiting.specs.Steps.{stacks_at_entry, stacks_at_exit, stacks_seen};
@@ -25,10 +24,10 @@ pub struct Popped {
 }
 
 // Puts the entries of a list on the stack in the nodes' units, from `used` on.
-fn push_entries(cells: &mut [u32], w: Rooms, used: usize, joins: &JoinPaths)
+fn push_entries(cells: &mut [u32], w: Rooms, used: usize, joins: &[EstJoinPath])
     requires places_in_bounds { w.nodes_at + w.places * 8 ≤ length cells.old }
-    requires entries_fit { used + array_vec_len joins.now ≤ w.places }
-    ensures { EntriesPushed cells.old cells.new w used joins.now.items }
+    requires entries_fit { used + length joins.now ≤ w.places }
+    ensures { EntriesPushed cells.old cells.new w used joins.now }
 {
     for (k, x) in joins.iter().enumerate() {
         let at = w.nodes_at + (used + k) * 8;
@@ -66,7 +65,7 @@ pub fn save(
     place: Place,
     leg: u32,
     depth: usize,
-    joins: &JoinPaths,
+    joins: &[EstJoinPath],
 )
     requires places_in_bounds { w.nodes_at + w.places * 8 ≤ length cells.old }
     requires pairs_in_bounds { w.pairs_at + w.legs * 2 + 2 ≤ length reals.old }
@@ -74,11 +73,11 @@ pub fn save(
     requires leg_nonzero { 0 < leg }
     requires legs_le_65535 { w.legs ≤ 65535 }
     requires depth_le_65535 { depth ≤ 65535 }
-    requires entries_fit { used + array_vec_len joins.now ≤ w.places }
+    requires entries_fit { used + length joins.now ≤ w.places }
     requires places_le_65535 { w.places ≤ 65535 }
     ensures elsewhere { SavedElsewhere cells.old cells.new reals.old
         reals.new w }
-    ensures saved { SavesOnTop w top used (waiting_of place leg depth joins.now.items)
+    ensures saved { SavesOnTop w top used (waiting_of place leg depth joins.now)
         (stacks_at_entry cells reals) (stacks_at_exit cells reals) }
 {
     let at = leg as usize * 8;

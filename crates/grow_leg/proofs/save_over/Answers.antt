@@ -3,6 +3,7 @@ use mathlib.Core.Path.{sym, ap, subst}
 use mathlib.Core.List.{List}
 use Prim.Native.Nat.{ℕ}
 use native.Mathlib.Omega.{arith}
+use lib.ListN.{length}
 use Rattle.book_format.specs.Format.{legs}
 use Rattle.book_format.specs.Chains.{Chained}
 use Rattle.grow_state.proofs.Keeping.{plan_legs, planned_in}
@@ -57,7 +58,7 @@ save-requires c =
       leg_nonzero = l.0;
       legs_le_65535 = omega (arith, plan.all_legs, plan_legs plan);
       depth_le_65535 = front_depth plan a;
-      entries_fit = omega (arith, c.if-r-used.false, c.len.ensures.value);
+      entries_fit = omega (arith, c.if-r-used.false, c.len.ensures.value, ap length c.deref.ensures.0);
       places_le_65535 = omega (arith, plan.same_places, a.grown.room.most);
     }
 
@@ -68,4 +69,4 @@ returns c =
     let m = c.len.ensures.value in
     λ fs us net run rest a f. save-gives plan a _ c.book.ensures.is c.take_leg.result c.take_leg.ensures _
     c.in_ok-leg.was (omega (arith, c.if-r-used.false, m)) _ _
-    (omega (arith, v.auto)) v.ensures.elsewhere v.ensures.saved f _ (omega (arith, m))
+    (omega (arith, v.auto)) v.ensures.elsewhere _ c.deref.ensures.0 v.ensures.saved f _ (omega (arith, m))
