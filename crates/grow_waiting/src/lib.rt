@@ -56,6 +56,7 @@ fn copy_entries(cells: &[u32], w: Rooms, from: usize, count: usize, joins: &mut 
 
 // Saves a run on top of those that wait, whose top is `top` and which have `used` entries. No struct holds them: their
 // list is the cells, as nothing is allocated, and both numbers stand in the caller's state.
+// `depth ≤ 65535` stands here and where a movement is made: how many legs a run has taken is its own number.
 pub fn save(
     cells: &mut [u32],
     reals: &mut [f64],
