@@ -6,4 +6,4 @@ pub returns-in-Ok : goal.returns-in-Ok
 returns-in-Ok c = made_listed c.make_est_times-sheet.ensures c.in-Ok.is c.list_sheet.ensures
 
 pub returns-in-Err : goal.returns-in-Err
-returns-in-Err c = refused_listed c.make_est_times-sheet.ensures c.in-Err.is (rw c.into.ensures c.list_refused.ensures)
+returns-in-Err c = refused_listed c.make_est_times-sheet.ensures c.in-Err.is (rw (← c.into.ensures) c.list_refused.ensures)
