@@ -38,7 +38,7 @@ struct Sections {
 }
 
 // A book that rows 1 and 2 let through: its bytes, of just the length that its counts say.
-#[derive(Drop)]
+#[derive(Clone, Drop)]
 pub struct Book<'a> {
     bytes: &'a [u8],
     sections: Sections,
@@ -56,7 +56,7 @@ impl<'a> Model for Book<'a> {
 }
 
 // A book that rows 4 and 5 let through as well: its floats are a book's, and its indices name something.
-#[derive(Drop)]
+#[derive(Clone, Drop)]
 pub struct ValidBook<'a> {
     book: Book<'a>,
 }
@@ -73,7 +73,7 @@ impl<'a> Model for ValidBook<'a> {
 }
 
 // A book whose legs can be followed: row 3 lets its counts and legs through, and row 7 each single leg.
-#[derive(Drop)]
+#[derive(Clone, Drop)]
 pub struct ReadableBook<'a> {
     book: ValidBook<'a>,
 }

@@ -16,7 +16,7 @@ use refusals::Refusal;
 use space::Zero;
 
 // A book that was read, and how many of its origins are kept.
-#[derive(Drop)]
+#[derive(Clone, Drop)]
 pub struct Accepted<'a> {
     pub book: ReadableBook<'a>,
     pub kept: usize,

@@ -222,13 +222,15 @@ fn row_refusal(book: &Book, k: usize) -> Result<(), Refusal>
 }
 
 // The lowest of what the rows of all sections are refused for.
-#[tactic(auto, using(crate::proofs::Lowest::lowest_more), unfolding(crate::specs::Elements::lowest_below))]
+#[tactic(auto, using(crate::proofs::Lowest::lowest_more, crate::proofs::Lowest::lower_none), unfolding(crate::specs::Elements::lowest_below),)]
 fn lowest_refusal(book: &Book) -> Result<(), Refusal>
     ensures { number_of (told result) ≡ lowest_below (rows book.now) (row_number book.now) }
 {
     let mut lowest = Ok(());
     for k in 0..book.rows() {
-        lowest = lower_of(lowest, row_refusal(book, k));
+        if let Err(found) = row_refusal(book, k) {
+            lowest = lower_of(lowest, Err(found));
+        }
     }
     lowest
 }

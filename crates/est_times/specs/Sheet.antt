@@ -3,6 +3,7 @@
 use Rattle.std.specs.Prelude.{◌≡◌, List, ℕ, length, Result, Ok, Err}
 use Rattle.laws.specs.Answer.{Answer, refused, given, and_then, number_of}
 use Rattle.report.specs.declared.Report.{Report}
+use Rattle.report.specs.Numbers.{no_report}
 use Rattle.space.specs.Lent.{Cleared}
 use Rattle.net_node.specs.Table.{Table}
 use Rattle.net_node.specs.Left.{Network, floats_left, numbers_left}
@@ -55,7 +56,7 @@ sheet_number r = number_of (told r)
 
 abbrev pub reported : Result Report Refusal → Report
 reported (Ok r) = r
-reported (Err k) = record { nodes = 0; added = 0; splits = 0; joined = 0; finished = 0 }
+reported (Err k) = no_report
 
 -- ---- the promise of `make_est_times`
 

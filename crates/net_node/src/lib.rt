@@ -5,7 +5,7 @@ ghost use Rattle.std.specs.Prelude.{◌≡◌, ◌+◌, ◌*◌, ◌≤◌, ◌<
 ghost use Rattle.std.proofs.Props.{props};
 ghost use Rattle.net_node.specs.Lent.{table_at_entry};
 ghost use Rattle.net_node.specs.Left.{filled, places_of, kind_at, floats_kept, numbers_kept};
-ghost use Rattle.net_node.specs.Table.{float_width, number_width, kind_of, kind_number, same_kind, is_fake};
+ghost use Rattle.net_node.specs.Table.{float_width, number_width, kind_of, kind_number, same_kind, fake_kind, is_fake};
 ghost use Rattle.net_node.specs.Table.{same_event};
 ghost use Rattle.net_node.specs.Table.{node_at, put_floats, put_numbers, Table, set_time, set_arc, set_next, set_prev};
 ghost use Rattle.net_node.specs.Table.{no_link_event, blank, Room, Indexed};
@@ -44,6 +44,15 @@ impl From<u32> for EstType {
             1 => EstType::Clear,
             _ => EstType::Fake,
         }
+    }
+}
+
+impl EstType {
+    // Whether a kind is Fake.
+    pub fn is_fake(self) -> bool
+        ensures { result ≡ fake_kind self }
+    {
+        self == EstType::Fake
     }
 }
 
@@ -100,12 +109,28 @@ impl EstTime {
         link_event: LinkEvent::NO_LINK,
     };
 
-    // Whether a node is a Fake: a name for one `==`, as contracts above cite the rule.
+    // Whether a node is a Fake: a name for its kind's, as contracts above cite the rule.
     pub fn is_fake(&self) -> bool
         ensures { result ≡ is_fake self.now }
     {
-        self.link_event.est_type == EstType::Fake
+        self.link_event.est_type.is_fake()
     }
+}
+
+// The event of a Fake. This contract, and the next one's, say what the constants are: callers take the constants.
+#[tactic(auto, unfolding(crate::specs::Table::no_link_event))]
+pub fn no_link_event() -> LinkEvent
+    ensures { result ≡ no_link_event }
+{
+    LinkEvent::NO_LINK
+}
+
+// A node with nothing in it.
+#[tactic(auto, unfolding(crate::specs::Table::blank, crate::specs::Table::no_link_event))]
+pub fn blank_node() -> EstTime
+    ensures { result ≡ blank }
+{
+    EstTime::BLANK
 }
 
 // The node of index i.
