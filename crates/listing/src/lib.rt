@@ -53,6 +53,17 @@ fn glyph(d: u64) -> u8
     }
 }
 
+// Fills a place with the last hexadecimal digits of a number, the last one first.
+fn fill_hex(place: &mut [u8], n: u64)
+    ensures { place.new ≡ digits 16 (length place.old) n }
+{
+    let Some((last, before)) = place.split_last_mut() else {
+        return;
+    };
+    *last = glyph(n % 16);
+    fill_hex(before, n / 16);
+}
+
 // The letter of a kind. `From` can't stand here: the kind is net_node's and the byte is std's.
 fn letter(kind: EstType) -> u8
     ensures { result ≡ letter kind }
@@ -76,24 +87,23 @@ impl Text<'_> {
     fn put_byte(&mut self, byte: u8)
         ensures { Puts self.old (byte ∷ []) self.new }
     {
-        let Some(at) = self.at else {
-            return;
-        };
-        if at < self.out.len() {
-            self.out[at] = byte;
-            self.at = Some(at + 1);
-            return;
-        }
-        self.at = None;
+        self.put_bytes(&[byte]);
     }
 
-    // Puts bytes behind the text.
+    // Puts bytes behind the text: where there is no room for them all, none.
     fn put_bytes(&mut self, bytes: &[u8])
         ensures { Puts self.old bytes.now self.new }
     {
-        for byte in bytes {
-            self.put_byte(*byte);
+        let Some(at) = self.at else {
+            return;
+        };
+        let end = at.saturating_add(bytes.len());
+        if end <= self.out.len() {
+            self.out[at..end].copy_from_slice(bytes);
+            self.at = Some(end);
+            return;
         }
+        self.at = None;
     }
 
     // Puts a number in decimal behind the text.
@@ -118,13 +128,13 @@ impl Text<'_> {
 
     // Puts the last `count` hexadecimal digits of a number behind the text, as many as the number has places.
     fn put_hex(&mut self, n: u64, count: usize)
+        requires { count ≤ 16 }
         ensures { Puts self.old (digits 16 count n) self.new }
     {
-        if count == 0 {
-            return;
-        }
-        self.put_hex(n / 16, count - 1);
-        self.put_byte(glyph(n % 16));
+        let mut hex = [0u8; 16];
+        let place = &mut hex[..count];
+        fill_hex(place, n);
+        self.put_bytes(place);
     }
 
     // Puts a blank and the hexadecimal digits of a float's bits behind the text, without closing zeros.
