@@ -1,7 +1,7 @@
 // The listing of a sheet, as bytes. Contracts: specs/Listing.antt, specs/Written.antt.
 #![tactic(auto)]
 
-ghost use Rattle.std.specs.Prelude.{◌≡◌, [], ◌∷◌, ◌++◌, ◌-◌, ◌≤◌, ◌<◌, length, take};
+ghost use Rattle.std.specs.Prelude.{◌≡◌, [], ◌∷◌, ◌++◌, ◌-◌, ◌^◌, ◌≤◌, ◌<◌, length, take, drop};
 ghost use Rattle.std.proofs.Math.Option.{some};
 ghost use Rattle.space.specs.Space.{zeros};
 ghost use Rattle.net_node.specs.Table.{node_at};
@@ -64,6 +64,23 @@ fn fill_hex(place: &mut [u8], n: u64)
     fill_hex(before, n / 16);
 }
 
+// Fills the end of a place with a number in decimal, the last digit first: where its first digit stands.
+fn fill_decimal(place: &mut [u8], n: u64) -> usize
+    requires room { 0 < length place.old }
+    requires fits { n < 10 ^ length place.old }
+    ensures within { result ≤ length place.old }
+    ensures digits { drop result place.new ≡ decimal n }
+{
+    let Some((last, before)) = place.split_last_mut() else {
+        return 0;
+    };
+    *last = b'0' + (n % 10) as u8;
+    if n < 10 {
+        return before.len();
+    }
+    fill_decimal(before, n / 10)
+}
+
 // The letter of a kind. `From` can't stand here: the kind is net_node's and the byte is std's.
 fn letter(kind: EstType) -> u8
     ensures { result ≡ letter kind }
@@ -110,12 +127,9 @@ impl Text<'_> {
     fn put_decimal(&mut self, n: u64)
         ensures { Puts self.old (decimal n) self.new }
     {
-        if n < 10 {
-            self.put_byte(b'0' + n as u8);
-            return;
-        }
-        self.put_decimal(n / 10);
-        self.put_byte(b'0' + (n % 10) as u8);
+        let mut text = [0u8; 20];
+        let at = fill_decimal(&mut text, n);
+        self.put_bytes(&text[at..]);
     }
 
     // Puts a word and a number in decimal behind the text.
