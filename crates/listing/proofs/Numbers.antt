@@ -4,13 +4,15 @@ use mathlib.Core.Bool.{Bool, true, false, cond}
 use mathlib.Core.List.{List, [], ◌∷◌, ◌++◌}
 use mathlib.Core.Logic.{◌⊎◌, inl, inr, ◌≢◌}
 use Prim.Native.Nat.{ℕ, zero, suc, ◌+◌, ◌-◌, ◌*◌, ◌/◌, ◌%◌, ◌^◌, ◌≤◌, ◌<◌, min}
-use native.Mathlib.Nat.{mod-eq_of_lt, div-lt_iff_lt-mul, mul_comm, pow-succ', pos_of_ne-zero}
-use native.Mathlib.Numerals.{sub-one}
+use native.Mathlib.Nat.{mod-eq_of_lt, div-lt_iff_lt-mul, mul_comm, pow-succ'}
+use native.Mathlib.Numerals.{add-one, sub-one}
 use native.Mathlib.Omega.{arith}
 use borrow.Author.Tests.{lt-ltb, le-ltb, ltb-true, ltb-false, ne_eqb}
 use lib.Count.{count_trailing_zeros, under}
 use lib.Pow.{shr-shr}
 use lib.Dec.{ltb, eqb, lit<}
+use lib.ListN.{length, drop}
+use lib.Seq.{drop_at, drop-append-le}
 use lib.Ieee.{Float, binary64, to_bits}
 use Rattle.listing.specs.Listing.{glyph, digits, places, decimal, unless_zero, trimmed, one_kept, float}
 
@@ -30,12 +32,18 @@ unfolding digits
 digits_more base zero n h = absurd (omega arith)
 digits_more base (suc k) n h = ap (λ (j : ℕ). digits base j (n / base) ++ (glyph (n % base) ∷ [])) (sub-one (suc k))
 
-pub digits_none : (base k n : ℕ) → k ≡ 0 → [] ≡ digits base k n
+-- a place filled with the last digits of n: an empty one, and one whose last digit stands behind those of n / 16
+pub none_filled : (n : ℕ) (place : List ℕ) → length place ≡ 0 → place ≡ digits 16 (length place) n
 unfolding digits
-digits_none base k n e = ap (λ (j : ℕ). digits base j n) (sym e)
+none_filled n [] e = refl
+none_filled n (x ∷ place) e = absurd (omega arith)
 
-pub digits_last : (k n : ℕ) {d : ℕ} → k ≢ 0 → d ≡ glyph (n % 16) → digits 16 (k - 1) (n / 16) ++ (d ∷ []) ≡ digits 16 k n
-digits_last k n h e = ap (λ (g : ℕ). digits 16 (k - 1) (n / 16) ++ (g ∷ [])) e ∙ digits_more 16 k n (pos_of_ne-zero h)
+pub one_filled : (n j k : ℕ) {d : ℕ} {before : List ℕ} → j + 1 ≡ k → before ≡ digits 16 j (n / 16) → d ≡ glyph (n % 16) → before ++ (d ∷ []) ≡ digits 16 k n
+unfolding digits
+one_filled n j k {d} e b g =
+    ap (λ (t : List ℕ). t ++ (d ∷ [])) b
+    ∙ ap (λ (x : ℕ). digits 16 j (n / 16) ++ (x ∷ [])) g
+    ∙ ap (λ (i : ℕ). digits 16 i n) (sym (add-one j) ∙ e)
 
 -- ---- in decimal
 
@@ -59,6 +67,27 @@ decimal_more n h l =
     ap (λ (k : ℕ). digits 10 k (n / 10) ++ ((48 + n % 10) ∷ [])) fewer
     ∙ ap (λ (d : ℕ). digits 10 (places 19 (n / 10)) (n / 10) ++ (d ∷ [])) last
     ∙ sym (ap (λ (k : ℕ). digits 10 k n) more)
+
+-- a place that ends with the digits of n: its last digit alone, and behind those of n / 10
+pub last_filled : (n : ℕ) (before : List ℕ) → n < 10 → drop (length before) (before ++ ((48 + n % 10) ∷ [])) ≡ decimal n
+last_filled n before h =
+    drop_at before ((48 + n % 10) ∷ []) (length before) refl
+    ∙ ap (λ (d : ℕ). (48 + d) ∷ []) (mod-eq_of_lt h)
+    ∙ decimal_one n h
+
+pub more_filled : (n at : ℕ) (before : List ℕ) → 10 ≤ n → n < 2 ^ 64 → at ≤ length before → drop at before ≡ decimal (n / 10) → drop at (before ++ ((48 + n % 10) ∷ [])) ≡ decimal n
+more_filled n at before h l w e =
+    drop-append-le at before ((48 + n % 10) ∷ []) w
+    ∙ ap (λ (t : List ℕ). t ++ ((48 + n % 10) ∷ [])) e
+    ∙ decimal_more n h l
+
+-- and it has room for those
+pub more_fit : (n j k : ℕ) → j + 1 ≡ k → n < 10 ^ k → 10 ≤ n → (0 < j) × (n / 10 < 10 ^ j)
+more_fit n zero k e f h = absurd (let g : n < 10 ^ 1 = subst (λ (i : ℕ). n < 10 ^ i) (sym e) f in omega arith)
+more_fit n (suc j) k e f h =
+    let g : n < 10 ^ suc (suc j) = subst (λ (i : ℕ). n < 10 ^ i) (sym e ∙ add-one (suc j)) f in
+    let m : n < 10 ^ suc j * 10 = subst (λ (i : ℕ). n < i) (pow-succ' 10 (suc j) ∙ mul_comm 10 (10 ^ suc j)) g in
+    (omega arith, (div-lt_iff_lt-mul (lit< tt)).1 m)
 
 -- ---- closing zeros
 

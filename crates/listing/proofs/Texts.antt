@@ -1,67 +1,25 @@
--- Texts in a slice: a byte more, one text behind another, and the slice when all has been written.
+-- Texts in a slice: one text behind another, and the slice when all has been written.
 use mathlib.Core.Path.{◌≡◌, refl, sym, ap, subst, ◌∙◌}
 use mathlib.Core.Bool.{Bool}
 use mathlib.Core.Option.{Option, some}
-use mathlib.Core.List.{List, [], ◌∷◌, ◌++◌, append-nil, append_assoc}
+use mathlib.Core.List.{List, [], ◌++◌, append-nil, append_assoc}
 use Prim.Native.Nat.{ℕ, ◌+◌, ◌≤◌, ◌<◌}
 use native.Mathlib.Numerals.{add-one}
 use native.Mathlib.Omega.{arith}
 use borrow.Author.Tests.{le-leb, lt-leb}
 use lib.Dec.{leb}
-use lib.ListN.{length, set, take, get_or, length-append, length-set}
-use lib.Seq.{take-suc, take-suc-set, length-take-le}
+use lib.ListN.{length}
 use Rattle.net_node.specs.declared.EstTime.{EstTime}
 use Rattle.net_node.specs.Table.{Table, at}
 use Rattle.net_node.specs.Left.{filled, nodes_in}
 use Rattle.report.specs.declared.Report.{Report}
 use Rattle.space.specs.Space.{zeros}
-use Rattle.std.specs.Prelude.{Option as Place, Some, None, Result, Err}
+use Rattle.std.specs.Prelude.{Option as Place, Some, Result, Err}
 use Rattle.listing.specs.declared.ListingError.{ListingError}
 use Rattle.listing.specs.declared.ListingError.TheVariants.{Unfilled}
 use Rattle.listing.specs.Listing.{line, lines, sheet_text, text_if, sheet_in, listed_as, bytes_left, TextListed}
 use Rattle.listing.specs.declared.Text.{Text}
 use Rattle.listing.specs.Written.{WrittenTo, Written, Puts, Finishes}
-
--- ---- bytes
-
--- there is room for a byte
-pub byte_put : {t u : Text} {at b : ℕ} → t.at ≡ Some at → at < length t.out.now → u.out.ghost_name ≡ t.out.ghost_name → u.out.now ≡ set t.out.now at b → u.at ≡ Some (at + 1) → Puts t (b ∷ []) u
-byte_put {t} {u} {at} {b} s l name now next = record {
-  same_slice = name;
-  sized = ap length now ∙ length-set t.out.now at b;
-  behind = λ text w.
-      let v : WrittenTo t.out.now (Some at) text = subst (λ (p : Place ℕ). WrittenTo t.out.now p text) s w.to in record {
-        to = subst (λ (p : Place ℕ). WrittenTo u.out.now p (text ++ b ∷ [])) (sym next)
-            (subst (λ (o : List ℕ). WrittenTo o (Some (at + 1)) (text ++ b ∷ [])) (sym now) (
-              omega (arith, length-set t.out.now at b),
-              ap (λ (k : ℕ). take k (set t.out.now at b)) (add-one at) ∙ take-suc-set t.out.now at b l ∙ ap (λ (x : List ℕ). x ++ b ∷ []) v.1,
-            ));
-      };
-}
-
--- there is none
-pub byte_lost : {t u : Text} {at b : ℕ} → t.at ≡ Some at → length t.out.now ≤ at → u.out.ghost_name ≡ t.out.ghost_name → u.out.now ≡ t.out.now → u.at ≡ None → Puts t (b ∷ []) u
-byte_lost {t} {u} {at} {b} s l name now next = record {
-  same_slice = name;
-  sized = ap length now;
-  behind = λ text w.
-      let v : WrittenTo t.out.now (Some at) text = subst (λ (p : Place ℕ). WrittenTo t.out.now p text) s w.to in record {
-        to = subst (λ (p : Place ℕ). WrittenTo u.out.now p (text ++ b ∷ [])) (sym next)
-            (subst (λ (o : List ℕ). WrittenTo o None (text ++ b ∷ [])) (sym now)
-            (omega (arith, sym (ap length v.1) ∙ length-take-le at t.out.now v.0, v.0, length-append text (b ∷ []))));
-      };
-}
-
--- the text before had not fitted
-pub still_lost : (t : Text) (more : List ℕ) → t.at ≡ None → Puts t more t
-still_lost t more s = record {
-  same_slice = refl;
-  sized = refl;
-  behind = λ text w.
-      let v : WrittenTo t.out.now None text = subst (λ (p : Place ℕ). WrittenTo t.out.now p text) s w.to in record {
-        to = subst (λ (p : Place ℕ). WrittenTo t.out.now p (text ++ more)) (sym s) (omega (arith, v, length-append text more));
-      };
-}
 
 -- ---- one text behind another
 
@@ -94,9 +52,6 @@ pub turned_all : {a b : Text} {s : ℕ → List ℕ} {n i : ℕ} → Turned a s 
 turned_all {s = s} {n = n} {i = i} u l =
     let e : i ≡ n = omega (arith, u.most) in
     put_as u.puts (ap s e)
-
-pub take_one : (bytes : List ℕ) (i : ℕ) → i < length bytes → take i bytes ++ (get_or bytes i 0 ∷ []) ≡ take (i + 1) bytes
-take_one bytes i l = sym (ap (λ (k : ℕ). take k bytes) (add-one i) ∙ take-suc bytes i 0 l)
 
 pub no_lines : (node : ℕ → EstTime) → lines node 0 ≡ []
 unfolding lines

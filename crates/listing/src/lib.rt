@@ -1,7 +1,7 @@
 // The listing of a sheet, as bytes. Contracts: specs/Listing.antt, specs/Written.antt.
 #![tactic(auto)]
 
-ghost use Rattle.std.specs.Prelude.{◌≡◌, [], ◌∷◌, ◌++◌, ◌-◌, ◌≤◌, ◌<◌, length, take};
+ghost use Rattle.std.specs.Prelude.{◌≡◌, [], ◌∷◌, ◌++◌, ◌-◌, ◌^◌, ◌≤◌, ◌<◌, length, take, drop};
 ghost use Rattle.std.proofs.Math.Option.{some};
 ghost use Rattle.space.specs.Space.{zeros};
 ghost use Rattle.net_node.specs.Table.{node_at};
@@ -53,6 +53,34 @@ fn glyph(d: u64) -> u8
     }
 }
 
+// Fills a place with the last hexadecimal digits of a number, the last one first.
+fn fill_hex(place: &mut [u8], n: u64)
+    ensures { place.new ≡ digits 16 (length place.old) n }
+{
+    let Some((last, before)) = place.split_last_mut() else {
+        return;
+    };
+    *last = glyph(n % 16);
+    fill_hex(before, n / 16);
+}
+
+// Fills the end of a place with a number in decimal, the last digit first: where its first digit stands.
+fn fill_decimal(place: &mut [u8], n: u64) -> usize
+    requires room { 0 < length place.old }
+    requires fits { n < 10 ^ length place.old }
+    ensures within { result ≤ length place.old }
+    ensures digits { drop result place.new ≡ decimal n }
+{
+    let Some((last, before)) = place.split_last_mut() else {
+        return 0;
+    };
+    *last = b'0' + (n % 10) as u8;
+    if n < 10 {
+        return before.len();
+    }
+    fill_decimal(before, n / 10)
+}
+
 // The letter of a kind. `From` can't stand here: the kind is net_node's and the byte is std's.
 fn letter(kind: EstType) -> u8
     ensures { result ≡ letter kind }
@@ -76,36 +104,32 @@ impl Text<'_> {
     fn put_byte(&mut self, byte: u8)
         ensures { Puts self.old (byte ∷ []) self.new }
     {
-        let Some(at) = self.at else {
-            return;
-        };
-        if at < self.out.len() {
-            self.out[at] = byte;
-            self.at = Some(at + 1);
-            return;
-        }
-        self.at = None;
+        self.put_bytes(&[byte]);
     }
 
-    // Puts bytes behind the text.
+    // Puts bytes behind the text: where there is no room for them all, none.
     fn put_bytes(&mut self, bytes: &[u8])
         ensures { Puts self.old bytes.now self.new }
     {
-        for byte in bytes {
-            self.put_byte(*byte);
+        let Some(at) = self.at else {
+            return;
+        };
+        let end = at.saturating_add(bytes.len());
+        if end <= self.out.len() {
+            self.out[at..end].copy_from_slice(bytes);
+            self.at = Some(end);
+            return;
         }
+        self.at = None;
     }
 
     // Puts a number in decimal behind the text.
     fn put_decimal(&mut self, n: u64)
         ensures { Puts self.old (decimal n) self.new }
     {
-        if n < 10 {
-            self.put_byte(b'0' + n as u8);
-            return;
-        }
-        self.put_decimal(n / 10);
-        self.put_byte(b'0' + (n % 10) as u8);
+        let mut text = [0u8; 20];
+        let at = fill_decimal(&mut text, n);
+        self.put_bytes(&text[at..]);
     }
 
     // Puts a word and a number in decimal behind the text.
@@ -118,13 +142,13 @@ impl Text<'_> {
 
     // Puts the last `count` hexadecimal digits of a number behind the text, as many as the number has places.
     fn put_hex(&mut self, n: u64, count: usize)
+        requires { count ≤ 16 }
         ensures { Puts self.old (digits 16 count n) self.new }
     {
-        if count == 0 {
-            return;
-        }
-        self.put_hex(n / 16, count - 1);
-        self.put_byte(glyph(n % 16));
+        let mut hex = [0u8; 16];
+        let place = &mut hex[..count];
+        fill_hex(place, n);
+        self.put_bytes(place);
     }
 
     // Puts a blank and the hexadecimal digits of a float's bits behind the text, without closing zeros.
