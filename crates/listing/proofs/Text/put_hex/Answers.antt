@@ -8,4 +8,6 @@ use Rattle.listing.proofs.Text.put_hex.Goals as goal
 
 pub returns : goal.returns
 returns c =
-    put_as c.put_bytes.ensures (c.fill_hex.ensures ∙ ap (λ (k : ℕ). digits 16 k c.args.n) (length-take-le c.args.count _ c.requires))
+    put_as
+    c.put_bytes.ensures
+    (c.fill_hex.ensures ∙ ap (λ (k : ℕ). digits 16 k c.args.n) (length-take-le c.args.count _ c.requires))
