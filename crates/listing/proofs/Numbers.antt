@@ -38,7 +38,8 @@ unfolding digits
 none_filled n [] e = refl
 none_filled n (x ∷ place) e = absurd (omega arith)
 
-pub one_filled : (n j k : ℕ) {d : ℕ} {before : List ℕ} → j + 1 ≡ k → before ≡ digits 16 j (n / 16) → d ≡ glyph (n % 16) → before ++ (d ∷ []) ≡ digits 16 k n
+pub one_filled : (n j k : ℕ) {d : ℕ} {before : List ℕ} → j + 1 ≡ k → before ≡ digits 16 j (n / 16) → d ≡ glyph (n % 16)
+    → before ++ (d ∷ []) ≡ digits 16 k n
 unfolding digits
 one_filled n j k {d} e b g =
     ap (λ (t : List ℕ). t ++ (d ∷ [])) b
@@ -75,7 +76,8 @@ last_filled n before h =
     ∙ ap (λ (d : ℕ). (48 + d) ∷ []) (mod-eq_of_lt h)
     ∙ decimal_one n h
 
-pub more_filled : (n at : ℕ) (before : List ℕ) → 10 ≤ n → n < 2 ^ 64 → at ≤ length before → drop at before ≡ decimal (n / 10) → drop at (before ++ ((48 + n % 10) ∷ [])) ≡ decimal n
+pub more_filled : (n at : ℕ) (before : List ℕ) → 10 ≤ n → n < 2 ^ 64 → at ≤ length before
+    → drop at before ≡ decimal (n / 10) → drop at (before ++ ((48 + n % 10) ∷ [])) ≡ decimal n
 more_filled n at before h l w e =
     drop-append-le at before ((48 + n % 10) ∷ []) w
     ∙ ap (λ (t : List ℕ). t ++ ((48 + n % 10) ∷ [])) e
